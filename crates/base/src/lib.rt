@@ -1,0 +1,2 @@
+// Lemmas that every proof uses; no code.
+pub fn nothing() {}

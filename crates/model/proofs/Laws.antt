@@ -1,0 +1,91 @@
+-- The laws of the model, each in the words of the papers.
+use Prim.Native.Nat.{ℕ, _*_, _≤_}
+use native.Mathlib.Omega.{arith}
+use mathlib.Core.Path.{_≡_, sym, subst}
+use mathlib.Core.Bool.{true, false}
+use mathlib.Core.Option.{some}
+use mathlib.Core.List.{List, [], _++_}
+use lib.ListN.{length}
+use mathlib.Core.Logic.{_↔_}
+use lib.Dec.{leb}
+use borrow.Author.Tests.{ne-eqb, leb-true}
+use Rattle.base.specs.Choice.{both}
+use Rattle.base.proofs.Cases.{by-eq, both-true, not-false, among-true}
+use Rattle.model.specs.Answers.{noForm, fits}
+use Rattle.model.specs.Decode.{decode}
+use Rattle.model.specs.Grammar.{CSexp, Language}
+use Rattle.model.specs.Limits.{maxSource, maxDepth, maxNodes, maxCanonical}
+use Rattle.model.specs.Tree.{Tree, canon, nodes, depth, Bytes, TreeBytes}
+use Rattle.model.specs.Write.{advanced, encode}
+use Rattle.model.proofs.Bytes.{canon-bytes, language-tree, language-bytes}
+use Rattle.model.proofs.Exact.{canon-complete, sound, complete, unique, language-tripled}
+use Rattle.model.proofs.OutputSizes.{doubled, basic-length, nodes-half}
+use Rattle.model.proofs.Rules.{c-sexp-strip, strip-c-sexp}
+use Rattle.model.proofs.Unique.{canon-inj, prefix-free}
+use Rattle.model.proofs.Written.{round-trip₃}
+use Rattle.model.proofs.WrittenBasic.{round-trip₂}
+
+-- Demand 2: different trees never share a canonical form.
+pub canonical-unique : (t u : Tree) → canon t ≡ canon u → t ≡ u
+canonical-unique t u e = canon-inj t u e
+
+-- Demand 2: no canonical form is the beginning of another.
+pub canonical-prefix-free : (t u : Tree) (k : List ℕ) → canon t ++ k ≡ canon u → (t ≡ u) × (k ≡ [])
+canonical-prefix-free t u k e = prefix-free t u k e
+
+-- 01, "A tree and its canonical octets": the RFC's rule c-sexp is the function `canon`.
+pub canonical-rule : (s : List ℕ) (t : Tree) (k : List ℕ) → CSexp s t k ↔ (s ≡ canon t ++ k)
+canonical-rule s t k = (λ x. c-sexp-strip x, λ e. subst (λ (x : List ℕ). CSexp x t k) (sym e) (strip-c-sexp t k))
+
+-- 01, "The three forms that come in": the decoder reads each form's language and nothing else.
+pub decode-exact : (form : ℕ) (s : List ℕ) (t : Tree) → (decode form s ≡ some t) ↔ Language form s t
+decode-exact form s t = (sound form s t, λ x. complete x)
+
+-- a text has at most one tree in a form
+pub one-tree : (form : ℕ) (s : List ℕ) (t u : Tree) → Language form s t → Language form s u → t ≡ u
+one-tree form s t u x y = unique x y
+
+-- Demand 2: what goes out in any form is read back, for a tree of octets.
+pub round-trip : (form : ℕ) (t : Tree) → noForm form ≡ false → TreeBytes t → decode form (encode form t) ≡ some t
+unfolding decode encode noForm
+round-trip form t f x =
+    by-eq form 1
+    (λ e. rw e (canon-complete t))
+    (λ n. by-eq form 2
+    (λ e. rw e (round-trip₂ t (canon-bytes x)))
+    (λ m. by-eq form 3
+    (λ e. rw e (round-trip₃ t x))
+    (λ l. let r : (1 ≤ form) × (form ≤ 3) = among-true 1 3 form (not-false f) in absurd (omega arith))))
+
+-- octets in, octets out
+pub octets-in-octets-out : (form : ℕ) (s : List ℕ) (t : Tree) → Language form s t → Bytes s → TreeBytes t × Bytes (canon t)
+octets-in-octets-out form s t x b = (language-tree b x, language-bytes b x)
+
+-- ---- 01, "Three sizes are to be proved"
+
+-- a source of n octets has a canonical form of at most 3n
+pub canonical-within-3n : (form : ℕ) (s : List ℕ) (t : Tree) → Language form s t → length (canon t) ≤ 3 * length s
+canonical-within-3n form s t x = language-tripled x
+
+-- a canonical form of n octets has at most n/2 nodes
+pub nodes-within-half : (t : Tree) → 2 * nodes t ≤ length (canon t)
+nodes-within-half t = nodes-half t
+
+-- advanced output from n octets is at most 2n
+pub advanced-within-2n : (t : Tree) → length (advanced t) ≤ 2 * length (canon t)
+advanced-within-2n t = doubled t
+
+-- "So whatever we write of a fitting sheet is short enough to be read"
+pub written-within-source : (form : ℕ) (t : Tree) → fits t ≡ true → length (encode form t) ≤ maxSource
+unfolding fits encode
+written-within-source form t f =
+    let w : (leb (depth t) maxDepth ≡ true) × (both (leb (nodes t) maxNodes) (leb (length (canon t)) maxCanonical) ≡ true) = both-true f in
+    let v : (leb (nodes t) maxNodes ≡ true) × (leb (length (canon t)) maxCanonical ≡ true) = both-true (w .1) in
+    let n : length (canon t) ≤ maxCanonical = leb-true _ _ (v .1) in
+    by-eq form 1
+    (λ e. rw e (omega arith))
+    (λ y. by-eq form 2
+    (λ e. rw e (omega (arith, basic-length t)))
+    (λ z. by-eq form 3
+    (λ e. rw e (omega (arith, doubled t)))
+    (λ l. rw (ne-eqb form 1 y, ne-eqb form 2 z, ne-eqb form 3 l) (omega arith))))

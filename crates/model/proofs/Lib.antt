@@ -1,0 +1,20 @@
+pub mod ReadCases
+pub mod Digits
+pub mod Classes
+pub mod Stripped
+pub mod Marks
+pub mod Quoted
+pub mod Simples
+pub mod Rules
+pub mod Sizes
+pub mod Nesting
+pub mod Lexemes
+pub mod Strict
+pub mod Unique
+pub mod Exact
+pub mod Bytes
+pub mod Written
+pub mod WrittenBasic
+pub mod OutputSizes
+pub mod Laws
+mod Starred

@@ -1,0 +1,217 @@
+-- What every entry answers, and what every lent buffer holds afterwards: for all inputs, refused ones too.
+-- 01 calls the canonical octets of a tree, in lent space, a sheet; a node is an entry of it; replacing is correcting.
+use Prim.Native.Nat.{ℕ, zero, suc, _*_, _-_, max}
+use mathlib.Core.Bool.{Bool, true, false}
+use mathlib.Core.Option.{Option, none, some}
+use mathlib.Core.List.{List, [], _∷_, _++_}
+use lib.ListN.{length, take, drop, replicate}
+use lib.Dec.{leb, ltb, eqb}
+use Rattle.base.specs.Choice.{pick, both, either, not, among, equal, chain, isNone}
+use Rattle.model.specs.Tree.{Tree, list, nil, canon, nodes, depth}
+use Rattle.model.specs.Table.{Row, width, tableOf, rowOf, records}
+use Rattle.model.specs.Decode.{decode, decode₁}
+use Rattle.model.specs.Write.{encode}
+use Rattle.model.specs.Compare.{same}
+use Rattle.model.specs.Edit.{replace}
+use Rattle.model.specs.Limits.{maxSource, maxDepth, maxNodes, maxCanonical, Accepted, Form, SourceSize, Syntax, Depth, Nodes, Size, NotOwn, NoNode}
+
+-- ---- the order of checks
+
+-- a row of 01's table, and whether it applies
+pub record Check : Type 0 where
+  pub row : ℕ
+  pub applies : Bool
+
+abbrev pub when : ℕ → Bool → Check
+when n t = record { row = n; applies = t }
+
+-- 01, "The first that applies in this order"; 0 where none does
+unfoldable pub verdict : List Check → ℕ
+verdict [] = Accepted
+verdict (c ∷ cs) = pick (c .applies) (c .row) (verdict cs)
+
+-- the answer by a list of checks: accepted, or refused with a number
+unfoldable pub judged : {A : Type 0} → List Check → A → (ℕ → A) → A
+judged cs accepted refused = elim (verdict cs) [ zero ↦ accepted | suc n ↦ refused (suc n) ]
+
+-- row 1: form not 1, 2 or 3
+unfoldable pub noForm : ℕ → Bool
+noForm form = not (among 1 3 form)
+
+-- the tree, where there is one; without one an earlier row applies, and this one is never looked at
+unfoldable pub the : Option Tree → Tree
+the none = list nil
+the (some t) = t
+
+-- rows 4 to 6 of a tree that is to go into lent space; "over the lent records", "result over the lent room"
+unfoldable pub roomChecks : Tree → List ℕ → List ℕ → List Check
+roomChecks t canonical table =
+    when Depth (ltb maxDepth (depth t))
+    ∷ when Nodes (either (ltb maxNodes (nodes t)) (ltb (records table) (nodes t)))
+    ∷ when Size (either (ltb maxCanonical (length (canon t))) (ltb (length canonical) (length (canon t))))
+    ∷ []
+
+-- rows 1 to 3 of a text
+unfoldable pub textChecks : ℕ → List ℕ → List Check → List Check
+textChecks form text more =
+    when Form (noForm form)
+    ∷ when SourceSize (ltb maxSource (length text))
+    ∷ when Syntax (isNone (decode form text))
+    ∷ more
+
+-- ---- lent space
+
+-- new contents from the front, zeros up to a larger old length, and past both what was there.
+-- 01, "it sets octets between the new and a larger old length to 0, and records likewise; past both, nothing changes"
+unfoldable pub settled : List ℕ → ℕ → List ℕ → List ℕ
+settled lent old new = new ++ (replicate (old - length new) 0 ++ drop (max old (length new)) lent)
+
+-- 01, "A tree fits if its lists nest at most 32 deep .., it has at most 4,096 nodes, and its canonical form has at most 16,384 octets"
+unfoldable pub fits : Tree → Bool
+fits t = both (leb (depth t) maxDepth) (both (leb (nodes t) maxNodes) (leb (length (canon t)) maxCanonical))
+
+unfoldable pub fitting : Tree → Option Tree
+fitting t = pick (fits t) (some t) none
+
+-- the tree of the sheet with the length given: none where row 7 applies to the sheet.
+-- 01, "7 also covers one beyond what is lent"
+unfoldable pub sheetTree : List ℕ → ℕ → Option Tree
+sheetTree canonical len = pick (ltb (length canonical) len) none (chain (decode₁ (take len canonical)) fitting)
+
+-- 01, "A table is a sheet's own when the count given is the sheet's node count and the records up to it are exactly these"
+unfoldable pub owns : List ℕ → ℕ → Tree → Option Tree
+owns table count t = pick (both (eqb count (nodes t)) (equal (take (width * count) table) (tableOf t))) (some t) none
+
+-- the tree of the sheet with its table: none where row 7 applies
+unfoldable pub ownTree : List ℕ → ℕ → List ℕ → ℕ → Option Tree
+ownTree canonical len table count = chain (sheetTree canonical len) (owns table count)
+
+-- ---- reading, and replacing: 01's number, length and node count, and the lent sheet and table afterwards
+pub record Outcome : Type 0 where
+  pub number : ℕ
+  pub octets : ℕ
+  pub count : ℕ
+  pub canonical : List ℕ
+  pub table : List ℕ
+
+-- 01, "Counts are 0 in a refusal, and all lent space is unchanged"
+abbrev pub unchanged : ℕ → List ℕ → List ℕ → Outcome
+unchanged n canonical table = record { number = n; octets = 0; count = 0; canonical = canonical; table = table }
+
+-- the tree put where a sheet of oldOctets octets and oldCount nodes stood
+unfoldable pub filled : Tree → ℕ → ℕ → List ℕ → List ℕ → Outcome
+filled t oldOctets oldCount canonical table =
+    record {
+      number = Accepted;
+      octets = length (canon t);
+      count = nodes t;
+      canonical = settled canonical oldOctets (canon t);
+      table = settled table (width * oldCount) (tableOf t);
+    }
+
+-- 01, "reading 1 to 6"
+unfoldable pub readingChecks : ℕ → List ℕ → List ℕ → List ℕ → List Check
+readingChecks form source canonical table = textChecks form source (roomChecks (the (decode form source)) canonical table)
+
+-- 01, "An accepted reading gives length and node count; octets and records past them stay"
+unfoldable pub reading : ℕ → List ℕ → List ℕ → List ℕ → Outcome
+reading form source canonical table =
+    judged (readingChecks form source canonical table)
+    (filled (the (decode form source)) 0 0 canonical table)
+    (λ n. unchanged n canonical table)
+
+-- the corrected tree
+unfoldable pub replaced : ℕ → List ℕ → List ℕ → List ℕ → ℕ → ℕ → ℕ → Tree
+replaced form text canonical table len count node = replace (the (ownTree canonical len table count)) node (the (decode form text))
+
+-- 01, "correcting 1, 2, 3, 7, 8, 4, 5, 6, where 4 to 6 speak of the corrected tree"
+unfoldable pub replacingChecks : ℕ → List ℕ → List ℕ → List ℕ → ℕ → ℕ → ℕ → List Check
+replacingChecks form text canonical table len count node =
+    textChecks form text
+    (when NotOwn (isNone (ownTree canonical len table count))
+    ∷ when NoNode (leb count node)
+    ∷ roomChecks (replaced form text canonical table len count node) canonical table)
+
+-- 01, "An accepted correction gives the new length and node count"
+unfoldable pub replacing : ℕ → List ℕ → List ℕ → List ℕ → ℕ → ℕ → ℕ → Outcome
+replacing form text canonical table len count node =
+    judged (replacingChecks form text canonical table len count node)
+    (filled (replaced form text canonical table len count node) len count canonical table)
+    (λ n. unchanged n canonical table)
+
+-- ---- writing: 01's number, the length, and the lent output afterwards
+pub record Output : Type 0 where
+  pub number : ℕ
+  pub octets : ℕ
+  pub out : List ℕ
+
+-- what goes out of the sheet
+unfoldable pub written : ℕ → List ℕ → ℕ → List ℕ
+written form canonical len = encode form (the (sheetTree canonical len))
+
+-- 01, "writing 1, 7, 6"
+unfoldable pub writingChecks : ℕ → List ℕ → ℕ → List ℕ → List Check
+writingChecks form canonical len out =
+    when Form (noForm form)
+    ∷ when NotOwn (isNone (sheetTree canonical len))
+    ∷ when Size (ltb (length out) (length (written form canonical len)))
+    ∷ []
+
+-- 01, "An accepted writing gives its length; output past it stays"
+unfoldable pub writing : ℕ → List ℕ → ℕ → List ℕ → Output
+writing form canonical len out =
+    judged (writingChecks form canonical len out)
+    (record { number = Accepted; octets = length (written form canonical len); out = settled out 0 (written form canonical len) })
+    (λ n. record { number = n; octets = 0; out = out })
+
+-- ---- comparing: 01's number, and yes or no
+pub record Comparison : Type 0 where
+  pub number : ℕ
+  pub yes : Bool
+
+-- 01, "comparing 7"
+unfoldable pub comparingChecks : List ℕ → ℕ → List ℕ → ℕ → List Check
+comparingChecks a aLength b bLength = when NotOwn (either (isNone (sheetTree a aLength)) (isNone (sheetTree b bLength))) ∷ []
+
+-- 01, "A comparison answers yes or no besides, and no in a refusal"
+unfoldable pub comparing : List ℕ → ℕ → List ℕ → ℕ → List ℕ → Comparison
+comparing a aLength b bLength defaultHint =
+    judged (comparingChecks a aLength b bLength)
+    (record { number = Accepted; yes = same (the (sheetTree a aLength)) (the (sheetTree b bLength)) defaultHint })
+    (λ n. record { number = n; yes = false })
+
+-- ---- showing: the part of the sheet that is shown, if one is
+pub record Part : Type 0 where
+  pub start : ℕ
+  pub end : ℕ
+
+abbrev pub part : ℕ → ℕ → Part
+part s e = record { start = s; end = e }
+
+-- the octets of a part
+unfoldable pub octetsOf : List ℕ → Part → List ℕ
+octetsOf canonical p = take (p .end - p .start) (drop (p .start) canonical)
+
+-- the row of a node of a sheet with its own table: none where row 7 or 8 applies
+unfoldable pub shownRow : List ℕ → ℕ → List ℕ → ℕ → ℕ → Option Row
+shownRow canonical len table count node = chain (ownTree canonical len table count) (λ t. pick (ltb node (nodes t)) (some (rowOf t node)) none)
+
+-- 01, "if the node is a string with a hint"
+unfoldable pub hintPart : List ℕ → ℕ → List ℕ → ℕ → ℕ → Option Part
+hintPart canonical len table count node = chain (shownRow canonical len table count node) (λ r. pick (eqb (r .kind) 1) (some (part (r .hintStart) (r .hintEnd))) none)
+
+-- 01, "if sheet and table are good and the node exists"
+unfoldable pub dataPart : List ℕ → ℕ → List ℕ → ℕ → ℕ → Option Part
+dataPart canonical len table count node = chain (shownRow canonical len table count node) (λ r. some (part (r .dataStart) (r .dataEnd)))
+
+unfoldable pub shownOr : Option Part → List ℕ → List ℕ → List ℕ
+shownOr none canonical other = other
+shownOr (some p) canonical other = octetsOf canonical p
+
+-- 01, "in every other case, bad sheets and tables included, the default as lent"
+unfoldable pub hintShown : List ℕ → ℕ → List ℕ → ℕ → ℕ → List ℕ → List ℕ
+hintShown canonical len table count node defaultHint = shownOr (hintPart canonical len table count node) canonical defaultHint
+
+-- 01, "else an empty part"
+unfoldable pub dataShown : List ℕ → ℕ → List ℕ → ℕ → ℕ → List ℕ
+dataShown canonical len table count node = shownOr (dataPart canonical len table count node) canonical []

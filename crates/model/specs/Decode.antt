@@ -1,0 +1,69 @@
+-- The three forms decoded: lexemes below, their nesting above. No limit of depth, nodes or octets plays a part.
+use Prim.Native.Nat.{ℕ}
+use mathlib.Core.Bool.{Bool, true, false}
+use mathlib.Core.Option.{Option, none, some}
+use mathlib.Core.List.{List, [], _∷_}
+use lib.Dec.{eqb}
+use Rattle.base.specs.Choice.{pick, chain}
+use Rattle.model.specs.Tree.{Tree, plain, hinted, list, Forest, nil, cons}
+use Rattle.model.specs.Strings.{Read, got, refused, upto, unbase, lastly}
+use Rattle.model.specs.Lexemes.{Lexeme, opening, closing, atom, hinting, lexemes, strictLexemes}
+
+-- ---- nesting, from the last lexeme to the first: the trees up to each closing parenthesis that has not met its opening one
+
+unfoldable pub onto : Tree → List Forest → Option (List Forest)
+onto t [] = none
+onto t (f ∷ fs) = some (cons t f ∷ fs)
+
+unfoldable pub enclose : List Forest → Option (List Forest)
+enclose [] = none
+enclose (f ∷ fs) = onto (list f) fs
+
+unfoldable pub place : Lexeme → List Forest → Option (List Forest)
+place opening st = enclose st
+place closing st = some (nil ∷ st)
+place (atom d) st = onto (plain d) st
+place (hinting h d) st = onto (hinted h d) st
+
+unfoldable pub placeIn : Lexeme → Option (List Forest) → Option (List Forest)
+placeIn l none = none
+placeIn l (some st) = place l st
+
+unfoldable pub nestings : List Lexeme → Option (List Forest)
+nestings [] = some (nil ∷ [])
+nestings (l ∷ ls) = placeIn l (nestings ls)
+
+-- exactly one tree, and no closing parenthesis left
+unfoldable pub onlyTree : Forest → Option Tree
+onlyTree nil = none
+onlyTree (cons t nil) = some t
+onlyTree (cons t (cons u f)) = none
+
+unfoldable pub onlyIn : List Forest → Option Tree
+onlyIn [] = none
+onlyIn (f ∷ []) = onlyTree f
+onlyIn (f ∷ g ∷ fs) = none
+
+unfoldable pub nest : List Lexeme → Option Tree
+nest ls = chain (nestings ls) onlyIn
+
+-- ---- the three forms
+
+unfoldable pub decode₁ : List ℕ → Option Tree
+decode₁ s = chain (strictLexemes s) nest
+
+-- nothing may stand after the closing brace
+unfoldable pub unbrace : Read (List ℕ) → Option (List ℕ)
+unbrace refused = none
+unbrace (got l k) = lastly (unbase l) k
+
+unfoldable pub decode₂ : List ℕ → Option Tree
+decode₂ [] = none
+decode₂ (b ∷ s) = elim (eqb b 123) [ true ↦ chain (unbrace (upto 125 s)) decode₁ | false ↦ decode₁ (b ∷ s) ]
+
+unfoldable pub decode₃ : List ℕ → Option Tree
+decode₃ s = chain (lexemes s) nest
+
+-- the tree that a text means in a form, if it is in that form's language
+unfoldable pub decode : ℕ → List ℕ → Option Tree
+decode form s = pick (eqb form 1) (decode₁ s) (pick (eqb form 2) (decode₂ s) (pick (eqb form 3) (decode₃ s) none))

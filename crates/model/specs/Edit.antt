@@ -1,0 +1,31 @@
+-- A node of a tree, by its number, gives way to a forest (01, "The corrected tree is the sheet's tree with the node of that
+-- number replaced by the text's tree").
+use Prim.Native.Nat.{ℕ, zero, suc, _-_}
+use mathlib.Core.Bool.{Bool, true, false}
+use lib.Dec.{ltb}
+use Rattle.base.specs.Choice.{pick}
+use Rattle.model.specs.Tree.{Tree, plain, hinted, list, Forest, nil, cons, nodes}
+
+-- two forests, one after the other
+unfoldable pub join : Forest → Forest → Forest
+join nil g = g
+join (cons t f) g = cons t (join f g)
+
+abbrev pub one : Tree → Forest
+one t = cons t nil
+
+-- node k of a forest gives way to the forest that e makes of it; `within` counts from the first node inside the tree
+unfoldable mutual
+  pub within : (Tree → Forest) → Tree → ℕ → Tree
+  within e (plain d) k = plain d
+  within e (hinted h d) k = hinted h d
+  within e (list f) k = list (across e f k)
+
+  pub across : (Tree → Forest) → Forest → ℕ → Forest
+  across e nil k = nil
+  across e (cons t f) k = pick (ltb k (nodes t)) (elim k [ zero ↦ join (e t) f | suc n ↦ cons (within e t n) f ]) (cons t (across e f (k - nodes t)))
+
+-- 01, "For node 0 that is the whole"
+unfoldable pub replace : Tree → ℕ → Tree → Tree
+replace t zero u = u
+replace t (suc k) u = within (λ (x : Tree). one u) t k

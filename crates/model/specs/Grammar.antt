@@ -1,0 +1,178 @@
+-- The language of the three forms: RFC 9804's ABNF rule by rule, with 01's narrowing.
+-- `R s x k` says: the octets s begin with what the rule R names, x is what that means, and k is the rest of s.
+-- A constructor is a rule, or one of its alternatives, and has the rule's name.
+use Prim.Native.Nat.{ℕ, suc, _+_, _*_, _-_, _/_, _%_, _≤_, _<_}
+use mathlib.Core.Path.{_≡_}
+use mathlib.Core.Bool.{Bool, true, false}
+use mathlib.Core.List.{List, [], _∷_, _++_}
+use lib.ListN.{length}
+use Rattle.base.specs.Choice.{among}
+use Rattle.model.specs.Tree.{Tree, plain, hinted, list, Forest, nil, cons}
+use Rattle.model.specs.Octets.{isWhitespace, isDigit, isTokenStart, isTokenOctet, isPrintable, hexval, octval, letter, leftover, escape}
+
+-- *whitespace
+pub data Whitespaces : List ℕ → List ℕ → Type 0 where
+  no-whitespace : {k : List ℕ} → Whitespaces k k
+  whitespace : {b : ℕ} {s k : List ℕ} → isWhitespace b ≡ true → Whitespaces s k → Whitespaces (b ∷ s) k
+
+-- ---- lengths and verbatim strings
+
+-- *DIGIT, after digits that say v
+pub data Digits : ℕ → List ℕ → ℕ → List ℕ → Type 0 where
+  no-digit : {v : ℕ} {k : List ℕ} → Digits v k v k
+  digit : {v b n : ℕ} {s k : List ℕ} → isDigit b ≡ true → Digits (v * 10 + (b - 48)) s n k → Digits v (b ∷ s) n k
+
+-- decimal = %x30 / (%x31-39 *DIGIT)
+pub data Decimal : List ℕ → ℕ → List ℕ → Type 0 where
+  zero-decimal : {k : List ℕ} → Decimal (48 ∷ k) 0 k
+  decimal : {b n : ℕ} {s k : List ℕ} → among 49 57 b ≡ true → Digits (b - 48) s n k → Decimal (b ∷ s) n k
+
+-- verbatim = decimal ":" *OCTET, "the exact number of OCTETs indicated by the length"
+pub data Verbatim : List ℕ → List ℕ → List ℕ → Type 0 where
+  verbatim : {s d k : List ℕ} → Decimal s (length d) (58 ∷ (d ++ k)) → Verbatim s d k
+
+-- [decimal] before the data d; 01, "it must equal the decoded length"
+pub data Length (d : List ℕ) : List ℕ → List ℕ → Type 0 where
+  no-length : {k : List ℕ} → Length d k k
+  a-length : {s k : List ℕ} → Decimal s (length d) k → Length d s k
+
+-- ---- quoted strings
+
+-- printable / escaped, and the octet for which it stands, if any
+pub data Quotable : List ℕ → List ℕ → List ℕ → Type 0 where
+  printable : {b : ℕ} {k : List ℕ} → isPrintable b ≡ true → Quotable (b ∷ k) (b ∷ []) k
+  -- backslash and one of 01's nine octets
+  escaped-octet : {e : ℕ} {k : List ℕ} → escape e < 256 → Quotable (92 ∷ e ∷ k) (escape e ∷ []) k
+  -- backslash 3(%x30-37); 01, "An octal value over 255 is refused"
+  escaped-octal : {a b c : ℕ} {k : List ℕ} → octval a < 8 → octval b < 8 → octval c < 8 → octval a * 64 + octval b * 8 + octval c ≤ 255
+      → Quotable (92 ∷ a ∷ b ∷ c ∷ k) ((octval a * 64 + octval b * 8 + octval c) ∷ []) k
+  -- backslash (%x78 2HEXDIG)
+  escaped-hex : {a b : ℕ} {k : List ℕ} → hexval a < 16 → hexval b < 16 → Quotable (92 ∷ 120 ∷ a ∷ b ∷ k) ((hexval a * 16 + hexval b) ∷ []) k
+  -- backslash (CR / LF / (CR LF) / (LF CR)); 01, "which stand for nothing"
+  escaped-cr : {k : List ℕ} → Quotable (92 ∷ 13 ∷ k) [] k
+  escaped-lf : {k : List ℕ} → Quotable (92 ∷ 10 ∷ k) [] k
+  escaped-cr-lf : {k : List ℕ} → Quotable (92 ∷ 13 ∷ 10 ∷ k) [] k
+  escaped-lf-cr : {k : List ℕ} → Quotable (92 ∷ 10 ∷ 13 ∷ k) [] k
+
+-- *(printable / escaped) DQUOTE
+pub data Quotables : List ℕ → List ℕ → List ℕ → Type 0 where
+  dquote : {k : List ℕ} → Quotables (34 ∷ k) [] k
+  quotable : {s p r d k : List ℕ} → Quotable s p r → Quotables r d k → Quotables s (p ++ d) k
+
+-- ---- tokens
+
+-- *(ALPHA / DIGIT / simple-punc); 01, "A token takes the longest run of such octets": the rest does not begin with one
+pub data Run : List ℕ → List ℕ → List ℕ → Type 0 where
+  run-more : {b : ℕ} {s d k : List ℕ} → isTokenOctet b ≡ true → Run s d k → Run (b ∷ s) (b ∷ d) k
+  run-end : Run [] [] []
+  run-stop : {b : ℕ} {k : List ℕ} → isTokenOctet b ≡ false → Run (b ∷ k) [] (b ∷ k)
+
+-- ---- hexadecimal
+
+-- *hexadecimals "#", where hexadecimals = 2(HEXDIG *whitespace)
+pub data Hexadecimals : List ℕ → List ℕ → List ℕ → Type 0 where
+  closing-hash : {k : List ℕ} → Hexadecimals (35 ∷ k) [] k
+  hexadecimals : {a b : ℕ} {s s₁ s₂ d k : List ℕ} → hexval a < 16 → Whitespaces s (b ∷ s₁) → hexval b < 16 → Whitespaces s₁ s₂ → Hexadecimals s₂ d k
+      → Hexadecimals (a ∷ s) ((hexval a * 16 + hexval b) ∷ d) k
+
+-- ---- base-64
+
+-- 01, "four letters taken together give three octets"
+abbrev pub octet₁ : ℕ → ℕ → ℕ
+octet₁ a b = letter a * 4 + letter b / 16
+
+abbrev pub octet₂ : ℕ → ℕ → ℕ
+octet₂ b c = letter b % 16 * 16 + letter c / 4
+
+abbrev pub octet₃ : ℕ → ℕ → ℕ
+octet₃ c e = letter c % 4 * 64 + letter e
+
+-- the low bits that the last letter has too many, after two letters and after three
+abbrev pub leftover₂ : ℕ → Bool
+leftover₂ b = leftover (letter b % 16)
+
+abbrev pub leftover₃ : ℕ → Bool
+leftover₃ c = leftover (letter c % 4)
+
+-- base-64-char *whitespace
+pub data Base64Char : List ℕ → ℕ → List ℕ → Type 0 where
+  base-64-char : {a : ℕ} {s k : List ℕ} → letter a < 64 → Whitespaces s k → Base64Char (a ∷ s) a k
+
+-- at most n of ("=" *whitespace)
+pub data Equals : ℕ → List ℕ → List ℕ → Type 0 where
+  no-equals : {n : ℕ} {k : List ℕ} → Equals n k k
+  equals : {n : ℕ} {s s₁ k : List ℕ} → Whitespaces s s₁ → Equals n s₁ k → Equals (suc n) (61 ∷ s) k
+
+-- *base-64-chars [base-64-end] and the closing mark; 01, "three letters (two octets) may be followed by at most one `=`, two letters (one octet) by at most two"
+pub data Base64Chars (mark : ℕ) : List ℕ → List ℕ → List ℕ → Type 0 where
+  closing-mark : {k : List ℕ} → Base64Chars mark (mark ∷ k) [] k
+  base-64-chars : {a b c e : ℕ} {s s₁ s₂ s₃ s₄ d k : List ℕ} → Base64Char s a s₁ → Base64Char s₁ b s₂ → Base64Char s₂ c s₃ → Base64Char s₃ e s₄ → Base64Chars mark s₄ d k
+      → Base64Chars mark s (octet₁ a b ∷ octet₂ b c ∷ octet₃ c e ∷ d) k
+  base-64-end-3 : {a b c : ℕ} {s s₁ s₂ s₃ k : List ℕ} → Base64Char s a s₁ → Base64Char s₁ b s₂ → Base64Char s₂ c s₃ → leftover₃ c ≡ true → Equals 1 s₃ (mark ∷ k)
+      → Base64Chars mark s (octet₁ a b ∷ octet₂ b c ∷ []) k
+  base-64-end-2 : {a b : ℕ} {s s₁ s₂ k : List ℕ} → Base64Char s a s₁ → Base64Char s₁ b s₂ → leftover₂ b ≡ true → Equals 2 s₂ (mark ∷ k)
+      → Base64Chars mark s (octet₁ a b ∷ []) k
+
+-- ---- strings and values
+
+-- simple-string = verbatim / quoted-string / token / hexadecimal / base-64
+pub data SimpleString : List ℕ → List ℕ → List ℕ → Type 0 where
+  verbatim-string : {s d k : List ℕ} → Verbatim s d k → SimpleString s d k
+  -- quoted-string = [decimal] DQUOTE *(printable / escaped) DQUOTE
+  quoted-string : {s s₁ d k : List ℕ} → Length d s (34 ∷ s₁) → Quotables s₁ d k → SimpleString s d k
+  -- token = (ALPHA / simple-punc) *(ALPHA / DIGIT / simple-punc)
+  token : {b : ℕ} {s d k : List ℕ} → isTokenStart b ≡ true → Run s d k → SimpleString (b ∷ s) (b ∷ d) k
+  -- hexadecimal = [decimal] "#" *whitespace *hexadecimals "#"
+  hexadecimal : {s s₁ s₂ d k : List ℕ} → Length d s (35 ∷ s₁) → Whitespaces s₁ s₂ → Hexadecimals s₂ d k → SimpleString s d k
+  -- base-64 = [decimal] "|" *whitespace *base-64-chars [base-64-end] "|"
+  base-64 : {s s₁ s₂ d k : List ℕ} → Length d s (124 ∷ s₁) → Whitespaces s₁ s₂ → Base64Chars 124 s₂ d k → SimpleString s d k
+
+-- display = "[" *whitespace simple-string *whitespace "]" *whitespace (01's hint)
+pub data Display : List ℕ → List ℕ → List ℕ → Type 0 where
+  display : {s s₁ s₂ s₃ h k : List ℕ} → Whitespaces s s₁ → SimpleString s₁ h s₂ → Whitespaces s₂ (93 ∷ s₃) → Whitespaces s₃ k → Display (91 ∷ s) h k
+
+mutual
+  -- value = string / ("(" *(value / whitespace) ")"), where string = [display] simple-string
+  pub data Value : List ℕ → Tree → List ℕ → Type 0 where
+    string : {s d k : List ℕ} → SimpleString s d k → Value s (plain d) k
+    display-string : {s s₁ h d k : List ℕ} → Display s h s₁ → SimpleString s₁ d k → Value s (hinted h d) k
+    list-value : {s k : List ℕ} {f : Forest} → Values s f k → Value (40 ∷ s) (list f) k
+
+  -- *(value / whitespace) ")"
+  pub data Values : List ℕ → Forest → List ℕ → Type 0 where
+    closing-parenthesis : {k : List ℕ} → Values (41 ∷ k) nil k
+    a-whitespace : {b : ℕ} {s k : List ℕ} {f : Forest} → isWhitespace b ≡ true → Values s f k → Values (b ∷ s) f k
+    value : {s r k : List ℕ} {t : Tree} {f : Forest} → Value s t r → Values r f k → Values s (cons t f) k
+
+mutual
+  -- c-sexp = c-string / ("(" *c-sexp ")"), where c-string = [ "[" verbatim "]" ] verbatim
+  pub data CSexp : List ℕ → Tree → List ℕ → Type 0 where
+    c-string : {s d k : List ℕ} → Verbatim s d k → CSexp s (plain d) k
+    c-display-string : {s s₁ h d k : List ℕ} → Verbatim s h (93 ∷ s₁) → Verbatim s₁ d k → CSexp (91 ∷ s) (hinted h d) k
+    c-list : {s k : List ℕ} {f : Forest} → CSexps s f k → CSexp (40 ∷ s) (list f) k
+
+  -- *c-sexp ")"
+  pub data CSexps : List ℕ → Forest → List ℕ → Type 0 where
+    c-closing-parenthesis : {k : List ℕ} → CSexps (41 ∷ k) nil k
+    c-sexp : {s r k : List ℕ} {t : Tree} {f : Forest} → CSexp s t r → CSexps r f k → CSexps s (cons t f) k
+
+-- ---- the three forms: nothing is left after them
+
+-- 01, "Form 1, canonical: exactly one tree as above, nothing after it"
+pub data Canonical : List ℕ → Tree → Type 0 where
+  canonical : {s : List ℕ} {t : Tree} → CSexp s t [] → Canonical s t
+
+-- b-sexp = c-sexp / b-base-64; b-base-64 = "{" *whitespace *base-64-chars base-64-end "}", "encodes a c-sexp".
+-- 01, "at least two letters stand inside": they give at least one octet. 01, "Braces follow the same rule" as bars.
+pub data Basic : List ℕ → Tree → Type 0 where
+  b-c-sexp : {s : List ℕ} {t : Tree} → CSexp s t [] → Basic s t
+  b-base-64 : {s s₁ d : List ℕ} {t : Tree} → Whitespaces s s₁ → Base64Chars 125 s₁ d [] → 0 < length d → CSexp d t [] → Basic (123 ∷ s) t
+
+-- sexp = *whitespace value *whitespace
+pub data Advanced : List ℕ → Tree → Type 0 where
+  sexp : {s s₁ s₂ : List ℕ} {t : Tree} → Whitespaces s s₁ → Value s₁ t s₂ → Whitespaces s₂ [] → Advanced s t
+
+pub data Language : ℕ → List ℕ → Tree → Type 0 where
+  form-1 : {s : List ℕ} {t : Tree} → Canonical s t → Language 1 s t
+  form-2 : {s : List ℕ} {t : Tree} → Basic s t → Language 2 s t
+  form-3 : {s : List ℕ} {t : Tree} → Advanced s t → Language 3 s t

@@ -1,0 +1,12 @@
+pub mod Tree
+pub mod Table
+pub mod Octets
+pub mod Grammar
+pub mod Strings
+pub mod Lexemes
+pub mod Decode
+pub mod Write
+pub mod Compare
+pub mod Edit
+pub mod Limits
+pub mod Answers

@@ -1,0 +1,184 @@
+-- Simple strings decoded. Each function reads what the grammar's rule of its kind names; the laws (proofs/Exact) say that
+-- the two agree.
+use Prim.Native.Nat.{ℕ, zero, suc, _+_, _*_, _-_}
+use mathlib.Core.Bool.{Bool, true, false}
+use mathlib.Core.Option.{Option, none, some}
+use mathlib.Core.List.{List, [], _∷_, _++_}
+use lib.ListN.{length, take, drop}
+use lib.Dec.{leb, ltb, eqb}
+use Rattle.base.specs.Choice.{pick}
+use Rattle.model.specs.Octets.{isWhitespace, isDigit, isTokenStart, isTokenOctet, isPrintable, hexval, octval, letter, escape}
+use Rattle.model.specs.Grammar.{octet₁, octet₂, octet₃, leftover₂, leftover₃}
+
+-- what was read, and the rest; or it is not in the language
+pub data Read (A : Type 0) : Type 0 where
+  got : A → List ℕ → Read A
+  refused : Read A
+
+unfoldable pub bind : {A B : Type 0} → Read A → (A → List ℕ → Read B) → Read B
+bind (got a k) f = f a k
+bind refused f = refused
+
+-- *whitespace
+unfoldable pub skip : List ℕ → List ℕ
+skip [] = []
+skip (b ∷ s) = elim (isWhitespace b) [ true ↦ skip s | false ↦ b ∷ s ]
+
+-- ---- lengths: numbers of any size
+
+-- *DIGIT, after digits that say v
+unfoldable pub number : ℕ → List ℕ → Read ℕ
+number v [] = got v []
+number v (b ∷ s) = elim (isDigit b) [ true ↦ number (v * 10 + (b - 48)) s | false ↦ got v (b ∷ s) ]
+
+-- decimal, whose first digit is b
+unfoldable pub decimal : ℕ → List ℕ → Read ℕ
+decimal b s = elim (eqb b 48) [ true ↦ got 0 s | false ↦ number (b - 48) s ]
+
+-- the first n octets, where there are as many
+unfoldable pub first : ℕ → List ℕ → Read (List ℕ)
+first n s = pick (leb n (length s)) (got (take n s) (drop n s)) refused
+
+-- ---- the rest of a token: the longest run
+unfoldable pub run : List ℕ → Read (List ℕ)
+run [] = got [] []
+run (b ∷ s) = elim (isTokenOctet b) [ true ↦ bind (run s) (λ d k. got (b ∷ d) k) | false ↦ got [] (b ∷ s) ]
+
+-- ---- quoted strings
+
+-- past an octet c, where the text begins with one
+unfoldable pub past : ℕ → List ℕ → List ℕ
+past c [] = []
+past c (b ∷ s) = pick (eqb b c) s (b ∷ s)
+
+unfoldable pub hexOf : List ℕ → Read (List ℕ)
+hexOf [] = refused
+hexOf (a ∷ []) = refused
+hexOf (a ∷ b ∷ s) = pick (ltb (hexval a) 16) (pick (ltb (hexval b) 16) (got ((hexval a * 16 + hexval b) ∷ []) s) refused) refused
+
+-- three octal digits, by their values
+unfoldable pub octalBy : ℕ → ℕ → ℕ → List ℕ → Read (List ℕ)
+octalBy a b c s =
+    pick (ltb a 8)
+    (pick (ltb b 8) (pick (ltb c 8) (pick (leb (a * 64 + b * 8 + c) 255) (got ((a * 64 + b * 8 + c) ∷ []) s) refused) refused) refused)
+    refused
+
+unfoldable pub octalOf : ℕ → List ℕ → Read (List ℕ)
+octalOf a [] = refused
+octalOf a (b ∷ []) = refused
+octalOf a (b ∷ c ∷ s) = octalBy (octval a) (octval b) (octval c) s
+
+-- what stands after a backslash
+unfoldable pub escaped : List ℕ → Read (List ℕ)
+escaped [] = refused
+escaped (e ∷ s) =
+    pick (ltb (escape e) 256) (got (escape e ∷ []) s)
+    (pick (eqb e 120) (hexOf s)
+    (pick (eqb e 13) (got [] (past 10 s))
+    (pick (eqb e 10) (got [] (past 13 s)) (octalOf e s))))
+
+-- printable / escaped
+unfoldable pub pieceOf : List ℕ → Read (List ℕ)
+pieceOf [] = refused
+pieceOf (b ∷ s) = pick (eqb b 92) (escaped s) (pick (isPrintable b) (got (b ∷ []) s) refused)
+
+-- up to the closing quotation mark; the first number bounds how many pieces are read
+unfoldable pub quotedBy : ℕ → List ℕ → Read (List ℕ)
+quotedBy zero s = refused
+quotedBy (suc f) [] = refused
+quotedBy (suc f) (b ∷ s) = elim (eqb b 34) [ true ↦ got [] s | false ↦ bind (pieceOf (b ∷ s)) (λ p r. bind (quotedBy f r) (λ d k. got (p ++ d) k)) ]
+
+-- ---- hexadecimal and base-64: first what stands before the closing mark, whitespace left out; then its meaning
+
+unfoldable pub upto : ℕ → List ℕ → Read (List ℕ)
+upto m [] = refused
+upto m (b ∷ s) = elim (eqb b m) [ true ↦ got [] s | false ↦ elim (isWhitespace b) [ true ↦ upto m s | false ↦ bind (upto m s) (λ l k. got (b ∷ l) k) ] ]
+
+unfoldable pub also : List ℕ → Option (List ℕ) → Option (List ℕ)
+also d none = none
+also d (some e) = some (d ++ e)
+
+unfoldable pub unhex : List ℕ → Option (List ℕ)
+unhex [] = some []
+unhex (a ∷ []) = none
+unhex (a ∷ b ∷ s) = elim (ltb (hexval a) 16) [ true ↦ elim (ltb (hexval b) 16) [ true ↦ also ((hexval a * 16 + hexval b) ∷ []) (unhex s) | false ↦ none ] | false ↦ none ]
+
+-- two letters at the end
+unfoldable pub twoOf : ℕ → ℕ → Option (List ℕ)
+twoOf a b = pick (ltb (letter a) 64) (pick (ltb (letter b) 64) (pick (leftover₂ b) (some (octet₁ a b ∷ [])) none) none) none
+
+-- at the end, two letters and a pad, or three letters
+unfoldable pub threeOf : ℕ → ℕ → ℕ → Option (List ℕ)
+threeOf a b c =
+    pick (eqb c 61) (twoOf a b)
+    (pick (ltb (letter a) 64) (pick (ltb (letter b) 64) (pick (ltb (letter c) 64) (pick (leftover₃ c) (some (octet₁ a b ∷ octet₂ b c ∷ [])) none) none) none) none)
+
+-- a meaning, where nothing is left
+unfoldable pub lastly : Option (List ℕ) → List ℕ → Option (List ℕ)
+lastly o [] = o
+lastly o (b ∷ s) = none
+
+unfoldable pub fourOf : ℕ → ℕ → ℕ → ℕ → Option (List ℕ)
+fourOf a b c e =
+    pick (ltb (letter a) 64)
+    (pick (ltb (letter b) 64) (pick (ltb (letter c) 64) (pick (ltb (letter e) 64) (some (octet₁ a b ∷ octet₂ b c ∷ octet₃ c e ∷ [])) none) none) none)
+    none
+
+unfoldable pub joined : Option (List ℕ) → Option (List ℕ) → Option (List ℕ)
+joined none o = none
+joined (some d) o = also d o
+
+unfoldable pub unbase : List ℕ → Option (List ℕ)
+unbase [] = some []
+unbase (a ∷ []) = none
+unbase (a ∷ b ∷ []) = twoOf a b
+unbase (a ∷ b ∷ c ∷ []) = threeOf a b c
+unbase (a ∷ b ∷ c ∷ e ∷ s) = elim (eqb e 61) [ true ↦ lastly (threeOf a b c) s | false ↦ joined (fourOf a b c e) (unbase s) ]
+
+unfoldable pub decoded : Option (List ℕ) → List ℕ → Read (List ℕ)
+decoded none k = refused
+decoded (some d) k = got d k
+
+-- ---- simple strings
+
+-- after the opening mark m: quoted, hexadecimal or base-64
+unfoldable pub marked : ℕ → List ℕ → Read (List ℕ)
+marked m s =
+    elim (eqb m 34) [
+      | true ↦ quotedBy (length s) s
+      | false ↦
+          elim (eqb m 35) [
+            | true ↦ bind (upto 35 s) (λ l k. decoded (unhex l) k)
+            | false ↦
+                elim (eqb m 124) [ true ↦ bind (upto 124 s) (λ l k. decoded (unbase l) k) | false ↦ refused ]
+          ]
+    ]
+
+-- data of the length that stood before the mark
+unfoldable pub sized : ℕ → List ℕ → List ℕ → Read (List ℕ)
+sized n d k = pick (eqb (length d) n) (got d k) refused
+
+-- after a decimal
+unfoldable pub afterNumber : ℕ → List ℕ → Read (List ℕ)
+afterNumber n [] = refused
+afterNumber n (b ∷ s) = elim (eqb b 58) [ true ↦ first n s | false ↦ bind (marked b s) (sized n) ]
+
+-- simple-string
+unfoldable pub simple : List ℕ → Read (List ℕ)
+simple [] = refused
+simple (b ∷ s) =
+    elim (isDigit b) [
+      | true ↦ bind (decimal b s) afterNumber
+      | false ↦
+          elim (isTokenStart b) [ true ↦ bind (run s) (λ d k. got (b ∷ d) k) | false ↦ marked b s ]
+    ]
+
+-- ---- the strings of form 1: verbatim only
+
+unfoldable pub afterLength : ℕ → List ℕ → Read (List ℕ)
+afterLength n [] = refused
+afterLength n (b ∷ s) = pick (eqb b 58) (first n s) refused
+
+unfoldable pub verbatimOf : List ℕ → Read (List ℕ)
+verbatimOf [] = refused
+verbatimOf (b ∷ s) = elim (isDigit b) [ true ↦ bind (decimal b s) afterLength | false ↦ refused ]

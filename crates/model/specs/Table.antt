@@ -1,0 +1,73 @@
+-- The node table (01, "What the table says").
+use Prim.Native.Nat.{ℕ, _+_, _*_, _-_, _/_}
+use mathlib.Core.List.{List, [], _∷_, _++_}
+use lib.ListN.{length, getD}
+use Rattle.model.specs.Tree.{Tree, plain, hinted, list, Forest, nil, cons, digits, verbatim, canon, nodes}
+
+-- 01, "Each record has eight numbers"
+pub record Row : Type 0 where
+  -- 0 string, 1 string with hint, 2 list
+  pub kind : ℕ
+  pub start : ℕ
+  -- one past
+  pub end : ℕ
+  -- nodes in it counting itself
+  pub count : ℕ
+  pub hintStart : ℕ
+  pub hintEnd : ℕ
+  pub dataStart : ℕ
+  pub dataEnd : ℕ
+
+-- how many numbers a record has in a table that is lent as plain numbers
+abbrev pub width : ℕ
+width = 8
+
+abbrev pub numbers : Row → List ℕ
+numbers r = r .kind ∷ r .start ∷ r .end ∷ r .count ∷ r .hintStart ∷ r .hintEnd ∷ r .dataStart ∷ r .dataEnd ∷ []
+
+-- 01, "Without a hint both hint numbers are 0"
+abbrev pub plainRow : ℕ → ℕ → ℕ → Row
+plainRow at a e = record { kind = 0; start = at; end = e; count = 1; hintStart = 0; hintEnd = 0; dataStart = a; dataEnd = e }
+
+abbrev pub hintedRow : ℕ → ℕ → ℕ → ℕ → ℕ → Row
+hintedRow at hs he a e = record { kind = 1; start = at; end = e; count = 1; hintStart = hs; hintEnd = he; dataStart = a; dataEnd = e }
+
+-- 01, "A list's data is what stands between its parentheses"
+abbrev pub listRow : ℕ → ℕ → ℕ → Row
+listRow at e n = record { kind = 2; start = at; end = e; count = n; hintStart = 0; hintEnd = 0; dataStart = at + 1; dataEnd = e - 1 }
+
+-- where the octets of a verbatim string begin, and where they end
+abbrev pub bodyStart : ℕ → List ℕ → ℕ
+bodyStart at d = at + length (digits (length d)) + 1
+
+abbrev pub bodyEnd : ℕ → List ℕ → ℕ
+bodyEnd at d = at + length (verbatim d)
+
+-- 01, "Nodes stand in the order in which they begin": the rows of a tree whose canonical octets begin at a place
+unfoldable mutual
+  pub rows : Tree → ℕ → List Row
+  rows (plain d) at = plainRow at (bodyStart at d) (bodyEnd at d) ∷ []
+  rows (hinted h d) at =
+      hintedRow at (bodyStart (at + 1) h) (bodyEnd (at + 1) h) (bodyStart (bodyEnd (at + 1) h + 1) d) (bodyEnd (bodyEnd (at + 1) h + 1) d) ∷ []
+  rows (list f) at = listRow at (at + length (canon (list f))) (nodes (list f)) ∷ rowss f (at + 1)
+
+  pub rowss : Forest → ℕ → List Row
+  rowss nil at = []
+  rowss (cons t f) at = rows t at ++ rowss f (at + length (canon t))
+
+-- 01, "The table is first lent as plain numbers, eight to a record"
+unfoldable pub flat : List Row → List ℕ
+flat [] = []
+flat (r ∷ rs) = numbers r ++ flat rs
+
+-- a tree's table; offsets are into its canonical form
+unfoldable pub tableOf : Tree → List ℕ
+tableOf t = flat (rows t 0)
+
+-- the row of a node, by its number
+abbrev pub rowOf : Tree → ℕ → Row
+rowOf t node = getD (rows t 0) node (plainRow 0 0 0)
+
+-- 01, "a remainder unused": how many records a table of so many numbers has
+abbrev pub records : List ℕ → ℕ
+records table = length table / width
