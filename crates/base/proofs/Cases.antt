@@ -47,6 +47,9 @@ true-both {t} {u} a b = picked u false a ∙ b
 pub not-false : {t : Bool} → not t ≡ false → t ≡ true
 not-false {t} e = pick-cases t false true e (λ a b. a) (λ a b. differ refl b)
 
+pub not-true : {t : Bool} → not t ≡ true → t ≡ false
+not-true {t} e = pick-cases t false true e (λ a b. differ b refl) (λ a b. a)
+
 pub either-cases : {G : Type 0} (t u : Bool) → either t u ≡ true → (t ≡ true → G) → (u ≡ true → G) → G
 either-cases t u e f g = pick-cases t true u e (λ a b. f a) (λ a b. g b)
 
@@ -60,6 +63,9 @@ among-true lo hi b e = let w : (leb lo b ≡ true) × (leb b hi ≡ true) = both
 
 pub among-in : (lo hi b : ℕ) → lo ≤ b → b ≤ hi → among lo hi b ≡ true
 among-in lo hi b h k = true-both (le-leb lo b h) (le-leb b hi k)
+
+pub among-low : (lo hi b : ℕ) → b < lo → among lo hi b ≡ false
+among-low lo hi b h = by-bool (among lo hi b) (λ t. let w : (lo ≤ b) × (b ≤ hi) = among-true lo hi b t in absurd (omega arith)) (λ t. t)
 
 pub among-high : (lo hi b : ℕ) → hi < b → among lo hi b ≡ false
 among-high lo hi b h = by-bool (among lo hi b) (λ t. let w : (lo ≤ b) × (b ≤ hi) = among-true lo hi b t in absurd (omega arith)) (λ t. t)
