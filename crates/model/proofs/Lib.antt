@@ -6,6 +6,7 @@ pub mod Marks
 pub mod Quoted
 pub mod Simples
 pub mod Rules
+pub mod Streams
 pub mod Sizes
 pub mod Nesting
 pub mod Lexemes

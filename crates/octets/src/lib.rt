@@ -5,13 +5,14 @@ ghost use mathlib.Core.Path.{_≡_};
 ghost use Rattle.model.specs.Octets.{hexval, octval, escape, letter};
 ghost use Rattle.octets.specs.Classes.{Class, Classed, Lettered};
 
-mod lists;
+mod class_list;
+mod letter_list;
 
 // The class numbers.
 pub fn classes() -> [u8; 256]
     ensures { λ r. ⌜ Classed r ⌝ }
 {
-    lists::CLASSES
+    class_list::CLASSES
 }
 
 // The class number of an octet.
@@ -26,7 +27,7 @@ pub fn class_of(classes: &[u8; 256], b: u8) -> u8
 pub fn letters() -> [u8; 256]
     ensures { λ r. ⌜ Lettered r ⌝ }
 {
-    lists::LETTERS
+    letter_list::LETTERS
 }
 
 // The value of a base-64 letter.
