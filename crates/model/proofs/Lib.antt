@@ -19,3 +19,4 @@ pub mod WrittenBasic
 pub mod OutputSizes
 pub mod Laws
 mod Starred
+mod Examples
