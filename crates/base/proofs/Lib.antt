@@ -1,3 +1,4 @@
 pub mod Cases
 pub mod Below
 pub mod Lists
+pub mod Stores

@@ -21,7 +21,7 @@ use Rattle.model.proofs.Marks.{upto-sound, upto-complete, base-sound, b
 use Rattle.model.proofs.Nesting.{unnest, unnests, nest-sound, nest-complete}
 use Rattle.model.proofs.Rules.{whites-upto, Split, base-64-strip, After, strip-base-64, simple-strip, strip-simple, c-sexp-strip, strip-c-sexp}
 use Rattle.model.proofs.Sizes.{digits-length, verbatim-length, upto-size, base-size, whites-size, advanced-size}
-use Rattle.model.proofs.Strict.{octetsOfAll, unnest-octets, strict-all-sound, strict-all-complete}
+use Rattle.model.proofs.Strict.{octetsOfLexemes, unnest-octets, strict-all-sound, strict-all-complete}
 use Rattle.model.proofs.Stripped.{Base64}
 
 -- ---- form 3
@@ -117,14 +117,14 @@ complete₃ (sexp {t = t} w v x) = rw (lexemes-complete (whites-lexes w (value-l
 
 -- ---- form 1
 
-pub unnest-canon : (t : Tree) → octetsOfAll (unnest t []) ≡ canon t
-unfolding octetsOfAll
+pub unnest-canon : (t : Tree) → octetsOfLexemes (unnest t []) ≡ canon t
+unfolding octetsOfLexemes
 unnest-canon t = unnest-octets t [] ∙ append-nil (canon t)
 
 -- a text is read in form 1 exactly when it is a tree's canonical form
 pub canon-sound : (s : List ℕ) (t : Tree) → decode₁ s ≡ some t → s ≡ canon t
 unfolding decode₁
-canon-sound s t e = chain-cases (strictLexemes s) nest e (λ ls h₁ h₂. strict-all-sound s h₁ ∙ ap octetsOfAll (nest-sound ls t h₂) ∙ unnest-canon t)
+canon-sound s t e = chain-cases (strictLexemes s) nest e (λ ls h₁ h₂. strict-all-sound s h₁ ∙ ap octetsOfLexemes (nest-sound ls t h₂) ∙ unnest-canon t)
 
 pub canon-complete : (t : Tree) → decode₁ (canon t) ≡ some t
 unfolding decode₁ chain

@@ -1,5 +1,5 @@
 -- Reading lexemes is exact.
-use Prim.Native.Nat.{ℕ, zero, suc, _≤_, _<_}
+use Prim.Native.Nat.{ℕ, zero, suc, _<_}
 use native.Mathlib.Omega.{arith}
 use mathlib.Core.Path.{_≡_, refl, sym, ap, _∙_, subst}
 use mathlib.Core.Option.{Option, none, some}
@@ -12,9 +12,9 @@ use Rattle.base.proofs.Cases.{pick-cases, unpicked, some-same, none-some}
 use Rattle.model.specs.Grammar.{Whitespaces}
 use Rattle.model.specs.Lexemes.{Lexeme, opening, closing, atom, hinting, closeHint, lexeme, before, lexemesBy, lexemes}
 use Rattle.model.specs.Octets.{isWhitespace, isAlpha, isSimplePunc, isTokenStart}
-use Rattle.model.specs.Strings.{Read, got, refused, bind, skip, first, marked, simple}
+use Rattle.model.specs.Strings.{got, refused, bind, skip, first, marked, simple}
 use Rattle.model.proofs.Marks.{skip-whites, whites-skip}
-use Rattle.model.proofs.ReadCases.{bind-cases, never, got-same, pickList, list-cases, list-nil, list-cons, pickRead, read-cases, read-got}
+use Rattle.model.proofs.ReadCases.{bind-cases, never, got-same, list-cases, list-nil, list-cons, read-cases, read-got}
 use Rattle.model.proofs.Simples.{simple-sound, Begun, simple-begun, simple-complete, simple-skip}
 use Rattle.model.proofs.Sizes.{simple-short, whites-size}
 use Rattle.model.proofs.Stripped.{Simple}
@@ -35,7 +35,7 @@ closeHint-cases h (b ∷ s) e g =
     (λ t i. bind-cases (simple (skip s)) _ i (λ d k' h₁ h₂. g d s k' (ap (λ (x : ℕ). x ∷ s) (eqb-true b 93 t)) (simple-sound (skip s) h₁) h₂))
     (λ t i. never i)
 
-lexeme-sound : (s : List ℕ) {l : Lexeme} {k : List ℕ} → lexeme s ≡ got l k → Lexed s l k
+pub lexeme-sound : (s : List ℕ) {l : Lexeme} {k : List ℕ} → lexeme s ≡ got l k → Lexed s l k
 unfolding lexeme
 lexeme-sound [] e = never e
 lexeme-sound (b ∷ s) {l} {k} e =
@@ -70,7 +70,7 @@ skip-bracket : (s : List ℕ) → skip (93 ∷ s) ≡ 93 ∷ s
 unfolding skip isWhitespace member
 skip-bracket s = refl
 
-lexeme-complete : {s k : List ℕ} {l : Lexeme} → Lexed s l k → lexeme s ≡ got l k
+pub lexeme-complete : {s k : List ℕ} {l : Lexeme} → Lexed s l k → lexeme s ≡ got l k
 unfolding lexeme bind closeHint
 lexeme-complete l-open = refl
 lexeme-complete l-close = refl
@@ -85,7 +85,7 @@ lexed-skip l-close = refl
 lexed-skip (l-atom x) = simple-skip x
 lexed-skip (l-hint w₁ x w₂ w₃ y) = refl
 
-lexed-short : {s k : List ℕ} {l : Lexeme} → Lexed s l k → length k < length s
+pub lexed-short : {s k : List ℕ} {l : Lexeme} → Lexed s l k → length k < length s
 lexed-short l-open = omega arith
 lexed-short l-close = omega arith
 lexed-short (l-atom x) = simple-short x
@@ -132,44 +132,3 @@ lexemes-sound s e = by-lexemes (suc (length s)) s e
 pub lexemes-complete : {s : List ℕ} {ls : List Lexeme} → Lexes s ls → lexemes s ≡ some ls
 unfolding lexemes
 lexemes-complete {s} x = to-lexemes (suc (length s)) x (omega arith)
-
--- ---- lexeme by lexeme, without a bound on their number
-
-skip-short : (s : List ℕ) → length (skip s) ≤ length s
-skip-short s = whites-size (skip-whites s)
-
--- the step of the loop, over what is done with the rest
-abbrev stepBy : (List ℕ → Option (List Lexeme)) → List ℕ → Option (List Lexeme)
-stepBy rec s = elim (skip s) [ [] ↦ some [] | b ∷ r ↦ elim (lexeme (b ∷ r)) [ got l k ↦ before l (rec k) | refused ↦ none ] ]
-
-step-same : (p q : List ℕ → Option (List Lexeme)) (s : List ℕ) → ((k : List ℕ) → length k < length s → p k ≡ q k) → stepBy p s ≡ stepBy q s
-step-same p q s h = by (skip s) refl
-  where
-    at : (b : ℕ) (r : List ℕ) → length (b ∷ r) ≤ length s → (x : Read Lexeme) → lexeme (b ∷ r) ≡ x → pickRead x (λ l k. before l (p k)) none ≡ pickRead x (λ l k. before l (q k)) none
-    at b r n (got l k) e = ap (before l) (h k (omega (arith, lexed-short (lexeme-sound (b ∷ r) e))))
-    at b r n refused e = refl
-
-    by : (r : List ℕ) → skip s ≡ r
-        → pickList r (some []) (λ b t. pickRead (lexeme (b ∷ t)) (λ l k. before l (p k)) none) ≡ pickList r (some []) (λ b t. pickRead (lexeme (b ∷ t)) (λ l k. before l (q k)) none)
-    by [] e = refl
-    by (b ∷ r) e = at b r (omega (arith, skip-short s, ap length e)) (lexeme (b ∷ r)) refl
-
-lexemes-any : (f g : ℕ) (s : List ℕ) → length s < f → length s < g → lexemesBy skip lexeme f s ≡ lexemesBy skip lexeme g s
-unfolding lexemesBy
-lexemes-any zero g s h k = absurd (omega arith)
-lexemes-any (suc f) zero s h k = absurd (omega arith)
-lexemes-any (suc f) (suc g) s h k = step-same (lexemesBy skip lexeme f) (lexemesBy skip lexeme g) s (λ x l. lexemes-any f g x (omega arith) (omega arith))
-
-lexemes-step₀ : (s : List ℕ) → lexemes s ≡ stepBy lexemes s
-unfolding lexemes lexemesBy
-lexemes-step₀ s = step-same (lexemesBy skip lexeme (length s)) (λ k. lexemesBy skip lexeme (suc (length k)) k) s (λ k l. lexemes-any (length s) (suc (length k)) k l (omega arith))
-
--- the end, a lexeme, and what is none
-pub lexemes-end : (s : List ℕ) → skip s ≡ [] → lexemes s ≡ some []
-lexemes-end s e = lexemes-step₀ s ∙ list-nil _ _ e
-
-pub lexemes-next : (s : List ℕ) (b : ℕ) (r k : List ℕ) (l : Lexeme) → skip s ≡ b ∷ r → lexeme (b ∷ r) ≡ got l k → lexemes s ≡ before l (lexemes k)
-lexemes-next s b r k l e h = lexemes-step₀ s ∙ list-cons _ _ b r e ∙ read-got _ _ h
-
-pub lexemes-none : (s : List ℕ) (b : ℕ) (r : List ℕ) → skip s ≡ b ∷ r → lexeme (b ∷ r) ≡ refused → lexemes s ≡ none
-lexemes-none s b r e h = lexemes-step₀ s ∙ list-cons _ _ b r e ∙ rw h

@@ -11,6 +11,7 @@ pub mod Sizes
 pub mod Nesting
 pub mod Lexemes
 pub mod Strict
+pub mod LexemeLoop
 pub mod Unique
 pub mod Exact
 pub mod Bytes

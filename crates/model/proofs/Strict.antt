@@ -22,26 +22,26 @@ use Rattle.model.proofs.Simples.{verb-shape, first-sound, first-complet
 use Rattle.model.proofs.Sizes.{verbatim-length}
 
 -- the canonical octets of a lexeme, and of many
-unfoldable pub octetsOf : Lexeme → List ℕ
-octetsOf opening = 40 ∷ []
-octetsOf closing = 41 ∷ []
-octetsOf (atom d) = verbatim d
-octetsOf (hinting h d) = 91 ∷ verbatim h ++ 93 ∷ verbatim d
+unfoldable pub octetsOfLexeme : Lexeme → List ℕ
+octetsOfLexeme opening = 40 ∷ []
+octetsOfLexeme closing = 41 ∷ []
+octetsOfLexeme (atom d) = verbatim d
+octetsOfLexeme (hinting h d) = 91 ∷ verbatim h ++ 93 ∷ verbatim d
 
-unfoldable pub octetsOfAll : List Lexeme → List ℕ
-octetsOfAll [] = []
-octetsOfAll (l ∷ ls) = octetsOf l ++ octetsOfAll ls
+unfoldable pub octetsOfLexemes : List Lexeme → List ℕ
+octetsOfLexemes [] = []
+octetsOfLexemes (l ∷ ls) = octetsOfLexeme l ++ octetsOfLexemes ls
 
 -- a tree's lexemes have its canonical octets
 mutual
-  unfolding unnest canon octetsOf octetsOfAll
+  unfolding unnest canon octetsOfLexeme octetsOfLexemes
 
-  pub unnest-octets : (t : Tree) (ls : List Lexeme) → octetsOfAll (unnest t ls) ≡ canon t ++ octetsOfAll ls
+  pub unnest-octets : (t : Tree) (ls : List Lexeme) → octetsOfLexemes (unnest t ls) ≡ canon t ++ octetsOfLexemes ls
   unnest-octets (plain d) ls = refl
   unnest-octets (hinted h d) ls = refl
   unnest-octets (list f) ls = ap (λ (x : List ℕ). 40 ∷ x) (unnests-octets f (closing ∷ ls)) ∙ simp append-assoc
 
-  pub unnests-octets : (f : Forest) (ls : List Lexeme) → octetsOfAll (unnests f ls) ≡ canons f ++ octetsOfAll ls
+  pub unnests-octets : (f : Forest) (ls : List Lexeme) → octetsOfLexemes (unnests f ls) ≡ canons f ++ octetsOfLexemes ls
   unnests-octets nil ls = refl
   unnests-octets (cons t f) ls = unnest-octets t (unnests f ls) ∙ ap (λ (x : List ℕ). canon t ++ x) (unnests-octets f ls) ∙ simp append-assoc
 
@@ -83,30 +83,30 @@ led d k =
 
 -- ---- a lexeme
 
-close-sound : (h s : List ℕ) {l : Lexeme} {k : List ℕ} → closeStrict h s ≡ got l k → 91 ∷ (verbatim h ++ s) ≡ octetsOf l ++ k
-unfolding closeStrict octetsOf
+close-sound : (h s : List ℕ) {l : Lexeme} {k : List ℕ} → closeStrict h s ≡ got l k → 91 ∷ (verbatim h ++ s) ≡ octetsOfLexeme l ++ k
+unfolding closeStrict octetsOfLexeme
 close-sound h [] e = never e
 close-sound h (b ∷ s) {l} {k} e =
     pick-cases (eqb b 93) _ _ e
     (λ t i.
     let z : b ≡ 93 = eqb-true b 93 t in
     bind-cases (verbatimOf s) _ i
-    (λ d k' h₁ h₂. got-same (λ (l : Lexeme) (k : List ℕ). 91 ∷ (verbatim h ++ b ∷ s) ≡ octetsOf l ++ k) h₂ (rw (z, verb-sound s h₁) (simp append-assoc))))
+    (λ d k' h₁ h₂. got-same (λ (l : Lexeme) (k : List ℕ). 91 ∷ (verbatim h ++ b ∷ s) ≡ octetsOfLexeme l ++ k) h₂ (rw (z, verb-sound s h₁) (simp append-assoc))))
     (λ t i. never i)
 
-strict-sound : (s : List ℕ) {l : Lexeme} {k : List ℕ} → strictLexeme s ≡ got l k → s ≡ octetsOf l ++ k
-unfolding strictLexeme octetsOf
+pub strict-sound : (s : List ℕ) {l : Lexeme} {k : List ℕ} → strictLexeme s ≡ got l k → s ≡ octetsOfLexeme l ++ k
+unfolding strictLexeme octetsOfLexeme
 strict-sound [] e = never e
 strict-sound (b ∷ s) {l} {k} e =
     pick-cases (eqb b 40) _ _ e
-    (λ t h. let z : b ≡ 40 = eqb-true b 40 t in rw z (got-same (λ (l : Lexeme) (k : List ℕ). 40 ∷ s ≡ octetsOf l ++ k) h refl))
+    (λ t h. let z : b ≡ 40 = eqb-true b 40 t in rw z (got-same (λ (l : Lexeme) (k : List ℕ). 40 ∷ s ≡ octetsOfLexeme l ++ k) h refl))
     (λ t h. pick-cases (eqb b 41) _ _ h
-    (λ u i. let z : b ≡ 41 = eqb-true b 41 u in rw z (got-same (λ (l : Lexeme) (k : List ℕ). 41 ∷ s ≡ octetsOf l ++ k) i refl))
+    (λ u i. let z : b ≡ 41 = eqb-true b 41 u in rw z (got-same (λ (l : Lexeme) (k : List ℕ). 41 ∷ s ≡ octetsOfLexeme l ++ k) i refl))
     (λ u i. pick-cases (eqb b 91) _ _ i
     (λ v j.
     let z : b ≡ 91 = eqb-true b 91 v in
     bind-cases (verbatimOf s) closeStrict j (λ x r h₁ h₂. rw (z, verb-sound s h₁) (close-sound x r h₂)))
-    (λ v j. bind-cases (verbatimOf (b ∷ s)) _ j (λ d r h₁ h₂. got-same (λ (l : Lexeme) (k : List ℕ). b ∷ s ≡ octetsOf l ++ k) h₂ (verb-sound (b ∷ s) h₁)))))
+    (λ v j. bind-cases (verbatimOf (b ∷ s)) _ j (λ d r h₁ h₂. got-same (λ (l : Lexeme) (k : List ℕ). b ∷ s ≡ octetsOfLexeme l ++ k) h₂ (verb-sound (b ∷ s) h₁)))))
 
 not-digit : (b c : ℕ) → among 48 57 c ≡ false → among 48 57 b ≡ true → b ≡ c → ⊥
 not-digit b c f t e = let v : among 48 57 c ≡ true = rw e at t in let z : _≡_ {A = ℕ} 0 1 = cc in omega arith
@@ -122,15 +122,15 @@ atom-strict d k =
     ∙ unpicked _ _ (ne-eqb (l .first) 91 (not-digit (l .first) 91 refl (l .digital)))
     ∙ rw e
 
-strict-complete : (l : Lexeme) (k : List ℕ) → strictLexeme (octetsOf l ++ k) ≡ got l k
-unfolding octetsOf strictLexeme closeStrict bind
+pub strict-complete : (l : Lexeme) (k : List ℕ) → strictLexeme (octetsOfLexeme l ++ k) ≡ got l k
+unfolding octetsOfLexeme strictLexeme closeStrict bind
 strict-complete opening k = refl
 strict-complete closing k = refl
 strict-complete (atom d) k = atom-strict d k
 strict-complete (hinting h d) k = rw (append-assoc (verbatim h), led h (93 ∷ (verbatim d ++ k)) .reads, led d k .reads)
 
-octets-some : (l : Lexeme) → 0 < length (octetsOf l)
-unfolding octetsOf
+pub octets-some : (l : Lexeme) → 0 < length (octetsOfLexeme l)
+unfolding octetsOfLexeme
 octets-some opening = omega arith
 octets-some closing = omega arith
 octets-some (atom d) = omega (arith, verbatim-length d)
@@ -138,32 +138,32 @@ octets-some (hinting h d) = omega arith
 
 -- ---- all of them
 
-by-strict : (f : ℕ) (s : List ℕ) {ls : List Lexeme} → lexemesBy stay strictLexeme f s ≡ some ls → s ≡ octetsOfAll ls
-unfolding lexemesBy octetsOfAll
+by-strict : (f : ℕ) (s : List ℕ) {ls : List Lexeme} → lexemesBy stay strictLexeme f s ≡ some ls → s ≡ octetsOfLexemes ls
+unfolding lexemesBy octetsOfLexemes
 by-strict zero s e = none-some e
 by-strict (suc f) s e =
     list-cases s _ _ e
-    (λ z h. some-same (λ (ls : List Lexeme). s ≡ octetsOfAll ls) h z)
+    (λ z h. some-same (λ (ls : List Lexeme). s ≡ octetsOfLexemes ls) h z)
     (λ b t z h. read-cases (strictLexeme (b ∷ t)) _ _ h
     (λ l k i j. before-cases l (lexemesBy stay strictLexeme f k) j
-    (λ x p q. some-same (λ (ls : List Lexeme). s ≡ octetsOfAll ls) q (z ∙ strict-sound (b ∷ t) i ∙ ap (λ (y : List ℕ). octetsOf l ++ y) (by-strict f k p))))
+    (λ x p q. some-same (λ (ls : List Lexeme). s ≡ octetsOfLexemes ls) q (z ∙ strict-sound (b ∷ t) i ∙ ap (λ (y : List ℕ). octetsOfLexeme l ++ y) (by-strict f k p))))
     (λ i j. none-some j))
 
-strict-step : (f : ℕ) (s k : List ℕ) (l : Lexeme) {ls : List Lexeme} → s ≡ octetsOf l ++ k → lexemesBy stay strictLexeme f k ≡ some ls → lexemesBy stay strictLexeme (suc f) s ≡ some (l ∷ ls)
+strict-step : (f : ℕ) (s k : List ℕ) (l : Lexeme) {ls : List Lexeme} → s ≡ octetsOfLexeme l ++ k → lexemesBy stay strictLexeme f k ≡ some ls → lexemesBy stay strictLexeme (suc f) s ≡ some (l ∷ ls)
 unfolding lexemesBy before
-strict-step f [] k l z e = absurd (omega (arith, octets-some l, ap length z, length-append (octetsOf l) k))
+strict-step f [] k l z e = absurd (omega (arith, octets-some l, ap length z, length-append (octetsOfLexeme l) k))
 strict-step f (b ∷ s) k l z e = read-got _ _ (ap strictLexeme z ∙ strict-complete l k) ∙ ap (before l) e
 
-to-strict : (f : ℕ) (ls : List Lexeme) → length (octetsOfAll ls) < f → lexemesBy stay strictLexeme f (octetsOfAll ls) ≡ some ls
-unfolding lexemesBy octetsOfAll
+to-strict : (f : ℕ) (ls : List Lexeme) → length (octetsOfLexemes ls) < f → lexemesBy stay strictLexeme f (octetsOfLexemes ls) ≡ some ls
+unfolding lexemesBy octetsOfLexemes
 to-strict zero ls h = absurd (omega arith)
 to-strict (suc f) [] h = refl
-to-strict (suc f) (l ∷ ls) h = strict-step f _ (octetsOfAll ls) l refl (to-strict f ls (omega (arith, octets-some l, length-append (octetsOf l) (octetsOfAll ls))))
+to-strict (suc f) (l ∷ ls) h = strict-step f _ (octetsOfLexemes ls) l refl (to-strict f ls (omega (arith, octets-some l, length-append (octetsOfLexeme l) (octetsOfLexemes ls))))
 
-pub strict-all-sound : (s : List ℕ) {ls : List Lexeme} → strictLexemes s ≡ some ls → s ≡ octetsOfAll ls
+pub strict-all-sound : (s : List ℕ) {ls : List Lexeme} → strictLexemes s ≡ some ls → s ≡ octetsOfLexemes ls
 unfolding strictLexemes
 strict-all-sound s e = by-strict (suc (length s)) s e
 
-pub strict-all-complete : (ls : List Lexeme) → strictLexemes (octetsOfAll ls) ≡ some ls
+pub strict-all-complete : (ls : List Lexeme) → strictLexemes (octetsOfLexemes ls) ≡ some ls
 unfolding strictLexemes
-strict-all-complete ls = to-strict (suc (length (octetsOfAll ls))) ls (omega arith)
+strict-all-complete ls = to-strict (suc (length (octetsOfLexemes ls))) ls (omega arith)

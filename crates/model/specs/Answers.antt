@@ -189,8 +189,8 @@ abbrev pub part : ℕ → ℕ → Part
 part s e = record { start = s; end = e }
 
 -- the octets of a part
-unfoldable pub octetsOf : List ℕ → Part → List ℕ
-octetsOf canonical p = take (p .end - p .start) (drop (p .start) canonical)
+unfoldable pub octetsAt : List ℕ → Part → List ℕ
+octetsAt canonical p = take (p .end - p .start) (drop (p .start) canonical)
 
 -- the row of a node of a sheet with its own table: none where row 7 or 8 applies
 unfoldable pub shownRow : List ℕ → ℕ → List ℕ → ℕ → ℕ → Option Row
@@ -206,7 +206,7 @@ dataPart canonical len table count node = chain (shownRow canonical len table co
 
 unfoldable pub shownOr : Option Part → List ℕ → List ℕ → List ℕ
 shownOr none canonical other = other
-shownOr (some p) canonical other = octetsOf canonical p
+shownOr (some p) canonical other = octetsAt canonical p
 
 -- 01, "in every other case, bad sheets and tables included, the default as lent"
 unfoldable pub hintShown : List ℕ → ℕ → List ℕ → ℕ → ℕ → List ℕ → List ℕ
