@@ -12,12 +12,12 @@ use Rattle.walk.specs.Events.{Event, event, Frame, frame, stringRow, hin
 
 -- those of one tree, whose canonical octets begin at a place and whose number is n
 unfoldable mutual
-  eventsOf : Tree → ℕ → ℕ → List Event
+  pub eventsOf : Tree → ℕ → ℕ → List Event
   eventsOf (plain d) at n = event n (stringRow at d) ∷ []
   eventsOf (hinted h d) at n = event n (hintRow at h d) ∷ []
   eventsOf (list f) at n = eventsOfs f (at + 1) (n + 1) ++ (event n (listRow at (at + length (canon (list f))) (nodes (list f))) ∷ [])
 
-  eventsOfs : Forest → ℕ → ℕ → List Event
+  pub eventsOfs : Forest → ℕ → ℕ → List Event
   eventsOfs nil at n = []
   eventsOfs (cons t f) at n = eventsOf t at n ++ eventsOfs f (at + length (canon t)) (n + nodes t)
 
@@ -28,7 +28,7 @@ events-same ls st at at′ n n′ p q = ap₂ (λ (x y : ℕ). events ls x y st)
 mutual
   unfolding events eventsOf unnest canon nodes
 
-  events-tree : (t : Tree) (ls : List Lexeme) (at n : ℕ) (st : List Frame) → events (unnest t ls) at n st ≡ eventsOf t at n ++ events ls (at + length (canon t)) (n + nodes t) st
+  pub events-tree : (t : Tree) (ls : List Lexeme) (at n : ℕ) (st : List Frame) → events (unnest t ls) at n st ≡ eventsOf t at n ++ events ls (at + length (canon t)) (n + nodes t) st
   events-tree (plain d) ls at n st = refl
   events-tree (hinted h d) ls at n st =
       ap (λ (x : List Event). event n (hintRow at h d) ∷ x) (events-same ls st _ _ _ _ (omega (arith, length-append (verbatim h) (93 ∷ verbatim d))) refl)

@@ -1,0 +1,91 @@
+// Lengths in decimal, read and written.
+ghost use mathlib.Core.Path.{_≡_};
+ghost use mathlib.Core.Bool.{true};
+ghost use Prim.Native.Nat.{_+_, _≤_, _<_};
+ghost use lib.ListN.{length, drop, getD};
+ghost use Rattle.model.specs.Octets.{isDigit};
+ghost use Rattle.model.specs.Strings.{number, decimal};
+ghost use Rattle.model.specs.Tree.{digits};
+ghost use Rattle.scan.specs.Writes.{Wrote};
+ghost use Rattle.decimal.specs.Numbers.{Numbered, Wide};
+
+// A number and the place after it. A number beyond the source's length is none: nothing in the source is as long.
+pub enum Number {
+    Value { value: usize, next: usize },
+    NoNumber,
+}
+
+// Digits. The value is tested at each, so that it never wraps, however many digits there are.
+pub fn number_at(src: &[u8], at: usize) -> Number
+    requires { ⌜ (at ≤ length (now src)) × (length (now src) ≤ 32768) ⌝ }
+    ensures { λ r. ⌜ Numbered (now (src .entry)) (number 0 (drop at (now (src .entry)))) at r ⌝ }
+{
+    let mut value: usize = 0;
+    let mut i = at;
+    while i < src.len() {
+        let b = src[i];
+        if b < 48 {
+            return Number::Value { value, next: i };
+        }
+        if b > 57 {
+            return Number::Value { value, next: i };
+        }
+        value = value * 10 + (b - 48) as usize;
+        if value > src.len() {
+            return Number::NoNumber;
+        }
+        i += 1;
+    }
+    Number::Value { value, next: i }
+}
+
+// A decimal, whose first digit is at `at`: 0 stands alone.
+pub fn decimal_at(src: &[u8], at: usize) -> Number
+    requires { ⌜ (at < length (now src)) × (length (now src) ≤ 32768) × (isDigit (getD (now src) at 0) ≡ true) ⌝ }
+    ensures { λ r. ⌜ Numbered (now (src .entry)) (decimal (getD (now (src .entry)) at 0) (drop (at + 1) (now (src .entry)))) at r ⌝ }
+{
+    if src[at] == 48 {
+        return Number::Value {
+            value: 0,
+            next: at + 1,
+        };
+    }
+    number_at(src, at)
+}
+
+// How many digits a number has.
+pub fn width(n: usize) -> usize
+    requires { ⌜ n ≤ 32768 ⌝ }
+    ensures { λ r. ⌜ Wide n r ⌝ }
+{
+    if n < 10 {
+        return 1;
+    }
+    if n < 100 {
+        return 2;
+    }
+    if n < 1000 {
+        return 3;
+    }
+    if n < 10000 {
+        return 4;
+    }
+    5
+}
+
+// The digits of a number; the place after them. The last digit is written first.
+pub fn put_decimal(n: usize, out: &mut [u8], pos: usize) -> usize
+    requires { ⌜ (n ≤ 32768) × (pos + length (digits n) ≤ length (now out)) ⌝ }
+    ensures { λ r. ⌜ Wrote (digits n) pos (now (out .entry)) (now (out .exit)) r ⌝ }
+{
+    let end = pos + width(n);
+    let mut left = n;
+    let mut i = end;
+    while left >= 10 {
+        i -= 1;
+        out[i] = 48 + (left % 10) as u8;
+        left = left / 10;
+    }
+    out[pos] = 48 + left as u8;
+    end
+}

@@ -1,0 +1,4 @@
+pub mod Runs
+pub mod Writes
+pub mod Marks
+pub mod Strings
