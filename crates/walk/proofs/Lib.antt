@@ -1,3 +1,5 @@
 pub mod Walked
+pub mod Chained
 pub mod Evented
 pub mod Tabled
+pub mod Shut

@@ -14,20 +14,20 @@ use Rattle.model.specs.Decode.{nest}
 use Rattle.model.specs.Lexemes.{Lexeme, opening, closing, atom, hinting}
 use Rattle.model.specs.Tree.{Tree, plain, hinted, list, Forest, nil, cons, nodes, nodess, depth, depths}
 use Rattle.model.proofs.Nesting.{unnest, unnests, nest-sound, nest-complete}
-use Rattle.walk.specs.Count.{Count, begin, shut, step, walk, counts}
+use Rattle.walk.specs.Count.{Count, begin, shutBy, shut, step, walk, counts}
 
 -- ---- what is walked through is a tree
 
 shut-open : (c : Count) → 0 < c .opened → shut c ≡ false
-unfolding shut
+unfolding shutBy
 shut-open c h = picked _ _ (lt-ltb 0 (c .opened) h)
 
 shut-done : (c : Count) → c .opened ≡ 0 → 0 < c .seen → shut c ≡ true
-unfolding shut
+unfolding shutBy
 shut-done c z h = unpicked _ _ (le-ltb 0 (c .opened) (omega arith)) ∙ lt-ltb 0 (c .seen) h
 
 shut-not : (c : Count) → shut c ≡ false → c .opened ≡ 0 → c .seen ≡ 0
-unfolding shut
+unfolding shutBy
 shut-not c e z = let w : ltb 0 (c .seen) ≡ false = sym (unpicked _ _ (le-ltb 0 (c .opened) (omega arith))) ∙ e in omega (arith, ltb-false 0 (c .seen) w)
 
 -- what is to come while lists are open
@@ -105,7 +105,7 @@ walk-left (l ∷ ls) c r v e =
     (λ t h. chain-cases (step l c) _ h (λ c' h₁ h₂. step-left l ls c c' v t h₁ (λ w. walk-left ls c' r w h₂)))
 
 left-whole : (ls : List Lexeme) → Left begin ls → Whole ls
-unfolding shut
+unfolding shutBy
 left-whole ls (left-open o r) = absurd (omega arith)
 left-whole ls (left-new o k w) = w
 left-whole ls (left-done d e) = let z : _≡_ {A = ℕ} 0 1 = cc in absurd (omega arith)
@@ -151,7 +151,7 @@ mutual
   tree-walk (list f) ls c s h =
       open-walk (unnests f (closing ∷ ls)) c s
       ∙ forest-walk f (closing ∷ ls) (inner c) (omega arith) (omega arith)
-      ∙ walk-step closing ls (after (inner c) (depths f) (nodess f)) _ (shut-open _ (omega arith)) (close-step _ (omega arith))
+      ∙ walk-step closing ls (after (inner c) (depths f) (nodess f)) _ (shut-open (after (inner c) (depths f) (nodess f)) (omega arith)) (close-step (after (inner c) (depths f) (nodess f)) (omega arith))
       ∙ ap (walk ls) (same-count (omega arith) (omega arith) (omega arith))
 
   forest-walk : (f : Forest) (ls : List Lexeme) (c : Count) → 0 < c .opened → c .opened ≤ c .deepest → walk (unnests f ls) c ≡ walk ls (after c (depths f) (nodess f))
@@ -168,7 +168,7 @@ nodes-pos (hinted h d) = omega arith
 nodes-pos (list f) = omega arith
 
 pub walk-unnest : (t : Tree) → walk (unnest t []) begin ≡ counts t
-unfolding walk counts shut
+unfolding walk counts shutBy
 walk-unnest t =
     tree-walk t [] begin refl (omega arith)
     ∙ picked _ _ (shut-done (after begin (depth t) (nodes t)) refl (omega (arith, nodes-pos t)))

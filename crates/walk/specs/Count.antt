@@ -13,12 +13,18 @@ pub record Count : Type 0 where
   pub deepest : ℕ
   pub seen : ℕ
 
+abbrev pub count : ℕ → ℕ → ℕ → Count
+count o d n = record { opened = o; deepest = d; seen = n }
+
 abbrev pub begin : Count
 begin = record { opened = 0; deepest = 0; seen = 0 }
 
 -- the tree is whole where no list is open and a node was seen
-unfoldable pub shut : Count → Bool
-shut c = pick (ltb 0 (c .opened)) false (ltb 0 (c .seen))
+unfoldable pub shutBy : ℕ → ℕ → Bool
+shutBy opened seen = pick (ltb 0 opened) false (ltb 0 seen)
+
+abbrev pub shut : Count → Bool
+shut c = shutBy (c .opened) (c .seen)
 
 unfoldable pub step : Lexeme → Count → Option Count
 step opening c = some (record { opened = c .opened + 1; deepest = max (c .deepest) (c .opened + 1); seen = c .seen + 1 })

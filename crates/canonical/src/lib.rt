@@ -1,0 +1,177 @@
+// Canonical text: the lexeme at a place, and the sizes of the tree that a text is.
+ghost use Prim.Native.Nat.{_≤_, _<_};
+ghost use lib.ListN.{length};
+ghost use Rattle.canonical.specs.Lexed.{Follows, Spans, Closes, ItemAt};
+ghost use Rattle.model.specs.Decode.{decode₁};
+ghost use Rattle.walk.specs.Extent.{Measures};
+use decimal::Number;
+use walk::Extent;
+
+// Where the octets of a verbatim string stand.
+pub enum Span {
+    Is { start: usize, end: usize },
+    Not,
+}
+
+// A lexeme; a string's octets, and its hint's, stand from start to end.
+pub enum Item {
+    Open,
+    Close,
+    Plain {
+        start: usize,
+        end: usize,
+    },
+    Hinted {
+        hint_start: usize,
+        hint_end: usize,
+        start: usize,
+        end: usize,
+    },
+    Other,
+}
+
+// What follows a length n.
+fn after_length(src: &[u8], at: usize, n: usize) -> Span
+    requires { ⌜ (at ≤ length (now src)) × (length (now src) ≤ 32768) ⌝ }
+    ensures { λ r. ⌜ Follows (now (src .entry)) at n r ⌝ }
+{
+    if at >= src.len() {
+        return Span::Not;
+    }
+    if src[at] != 58 {
+        return Span::Not;
+    }
+    let start = at + 1;
+    if n > src.len() - start {
+        return Span::Not;
+    }
+    Span::Is {
+        start,
+        end: start + n,
+    }
+}
+
+// The verbatim string at a place.
+fn verbatim_at(src: &[u8], at: usize) -> Span
+    requires { ⌜ (at ≤ length (now src)) × (length (now src) ≤ 32768) ⌝ }
+    ensures { λ r. ⌜ Spans (now (src .entry)) at r ⌝ }
+{
+    if at >= src.len() {
+        return Span::Not;
+    }
+    let b = src[at];
+    if b < 48 {
+        return Span::Not;
+    }
+    if b > 57 {
+        return Span::Not;
+    }
+    match decimal::decimal_at(src, at) {
+        Number::Value { value, next } => after_length(src, next, value),
+        Number::NoNumber => Span::Not,
+    }
+}
+
+// What follows a hint that stands from `from` to `to`.
+fn after_hint(src: &[u8], from: usize, to: usize) -> Item
+    requires { ⌜ (to ≤ length (now src)) × (length (now src) ≤ 32768) ⌝ }
+    ensures { λ r. ⌜ Closes (now (src .entry)) from to r ⌝ }
+{
+    if to >= src.len() {
+        return Item::Other;
+    }
+    if src[to] != 93 {
+        return Item::Other;
+    }
+    match verbatim_at(src, to + 1) {
+        Span::Is { start, end } => Item::Hinted {
+            hint_start: from,
+            hint_end: to,
+            start,
+            end,
+        },
+        Span::Not => Item::Other,
+    }
+}
+
+// The lexeme at a place.
+pub fn lexeme_at(src: &[u8], at: usize) -> Item
+    requires { ⌜ (at < length (now src)) × (length (now src) ≤ 32768) ⌝ }
+    ensures { λ r. ⌜ ItemAt (now (src .entry)) at r ⌝ }
+{
+    let b = src[at];
+    if b == 40 {
+        return Item::Open;
+    }
+    if b == 41 {
+        return Item::Close;
+    }
+    if b == 91 {
+        match verbatim_at(src, at + 1) {
+            Span::Is { start, end } => after_hint(src, start, end),
+            Span::Not => Item::Other,
+        }
+    } else {
+        match verbatim_at(src, at) {
+            Span::Is { start, end } => Item::Plain { start, end },
+            Span::Not => Item::Other,
+        }
+    }
+}
+
+// The sizes of the tree that a text is. No limit plays a part.
+pub fn measure(src: &[u8]) -> Extent
+    requires { ⌜ length (now src) ≤ 32768 ⌝ }
+    ensures { λ r. ⌜ Measures (decode₁ (now (src .entry))) r ⌝ }
+{
+    let mut at: usize = 0;
+    let mut opened: usize = 0;
+    let mut deepest: usize = 0;
+    let mut seen: usize = 0;
+    loop {
+        if walk::closed(opened, seen) {
+            if at < src.len() {
+                return Extent::Refused;
+            }
+            return Extent::Whole {
+                len: at,
+                nodes: seen,
+                depth: deepest,
+            };
+        }
+        if at >= src.len() {
+            return Extent::Refused;
+        }
+        match lexeme_at(src, at) {
+            Item::Open => {
+                opened += 1;
+                deepest = walk::larger(deepest, opened);
+                seen += 1;
+                at += 1;
+            }
+            Item::Close => {
+                if opened == 0 {
+                    return Extent::Refused;
+                }
+                opened -= 1;
+                at += 1;
+            }
+            Item::Plain { start: _, end } => {
+                seen += 1;
+                at = end;
+            }
+            Item::Hinted {
+                hint_start: _,
+                hint_end: _,
+                start: _,
+                end,
+            } => {
+                seen += 1;
+                at = end;
+            }
+            Item::Other => {
+                return Extent::Refused;
+            }
+        }
+    }
+}
