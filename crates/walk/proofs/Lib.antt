@@ -3,3 +3,4 @@ pub mod Chained
 pub mod Evented
 pub mod Tabled
 pub mod Shut
+pub mod Fronts
