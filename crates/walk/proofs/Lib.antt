@@ -4,3 +4,4 @@ pub mod Evented
 pub mod Tabled
 pub mod Shut
 pub mod Fronts
+pub mod Owning

@@ -112,9 +112,13 @@ left-whole ls (left-done d e) = let z : _≡_ {A = ℕ} 0 1 = cc in absurd (omeg
 
 -- ---- a tree is walked through
 
-walk-step : (l : Lexeme) (ls : List Lexeme) (c c' : Count) → shut c ≡ false → step l c ≡ some c' → walk (l ∷ ls) c ≡ walk ls c'
+pub walk-step : (l : Lexeme) (ls : List Lexeme) (c c' : Count) → shut c ≡ false → step l c ≡ some c' → walk (l ∷ ls) c ≡ walk ls c'
 unfolding walk chain
 walk-step l ls c c' s e = unpicked _ _ s ∙ rw e
+
+pub walk-stop : (l : Lexeme) (ls : List Lexeme) (c : Count) → shut c ≡ false → step l c ≡ none → walk (l ∷ ls) c ≡ none
+unfolding walk chain
+walk-stop l ls c s e = unpicked _ _ s ∙ rw e
 
 -- the state past something of depth d and n nodes
 abbrev after : Count → ℕ → ℕ → Count

@@ -1,0 +1,4 @@
+pub mod Records
+pub mod Places
+pub mod Indexing
+pub mod Owning
