@@ -29,6 +29,18 @@ bind-both refused p g = refl
 to-stretch : {f : List ℕ → Read (List ℕ)} {src : List ℕ} {at : ℕ} {g : List ℕ} {next : ℕ} → Chunk f src at g next → Stretch f src at g next
 to-stretch c = record { on = omega (arith, c .on); few = c .few; within = c .within; more = c .more }
 
+pub stretch-none : (f : List ℕ → Read (List ℕ)) (src : List ℕ) (at : ℕ) → at ≤ length src → Stretch f src at [] at
+stretch-none f src at h = record { on = omega arith; few = omega arith; within = h; more = bind-none (f (drop at src)) }
+
+pub stretch-on : (f : List ℕ → Read (List ℕ)) (src : List ℕ) (at i : ℕ) (g : List ℕ) → Stretch f src at g i → (h : List ℕ) (next : ℕ) → Chunk f src i h next → Stretch f src at (g ++ h) next
+stretch-on f src at i g s h next c =
+    record {
+      on = omega (arith, s .on, c .on);
+      few = omega (arith, s .few, c .few, length-append g h);
+      within = c .within;
+      more = s .more ∙ ap (λ (x : Read (List ℕ)). bind x (λ d k. got (g ++ d) k)) (c .more) ∙ bind-both (f (drop next src)) g h;
+    }
+
 -- ---- counting
 
 -- n octets were read from `at` to `i`
@@ -103,6 +115,10 @@ write-none f src at pos out b =
     }
 
 module _ (f : List ℕ → Read (List ℕ)) (src : List ℕ) (at pos : ℕ) (out₀ out : List ℕ) (i o : ℕ) (w : Writing f src at pos out₀ out i o) where
+  -- what is left is read, and has room
+  pub write-body : Body f src i o (length out)
+  write-body = record { octets = w .left; rest = w .rest; reads = w .reads; inside = w .inside; fits = omega (arith, w .fits, w .long) }
+
   -- what a stretch leaves
   record Split (g : List ℕ) (next : ℕ) : Type 0 where
     after : List ℕ

@@ -1,0 +1,29 @@
+-- Pairs of hexadecimal digits at a place of a source.
+use Prim.Native.Nat.{ℕ, _+_, _*_}
+use mathlib.Core.Path.{_≡_}
+use mathlib.Core.List.{List, [], _∷_}
+use lib.ListN.{length, drop}
+use lib.Seq.{sets}
+use Rattle.model.specs.Strings.{refused, marked}
+use Rattle.scan.specs.Marks.{Stretch, Chunk, Last}
+use Rattle.hexadecimal.specs.declared.Pair.{Pair}
+use Rattle.hexadecimal.specs.declared.Pair.the-variants.{Two, Hash, NoPair}
+
+-- the next octet, the closing mark, or neither
+unfoldable pub Pairs : List ℕ → ℕ → Pair → Type 0
+Pairs src at (Two o next) = Chunk (marked 35) src at (o ∷ []) next
+Pairs src at (Hash next) = Last (marked 35) src at [] next
+Pairs src at NoPair = marked 35 (drop at src) ≡ refused
+
+-- pairs side by side from `at` to `next`
+pub record Paired (src : List ℕ) (at next : ℕ) : Type 0 where
+  pub octets : List ℕ
+  pub long : at + 2 * length octets ≡ next
+  pub stretch : Stretch (marked 35) src at octets next
+
+-- the same, and their octets are written from `pos` on
+pub record PairedOut (src : List ℕ) (at pos : ℕ) (before after : List ℕ) (next : ℕ) : Type 0 where
+  pub octets : List ℕ
+  pub long : at + 2 * length octets ≡ next
+  pub stretch : Stretch (marked 35) src at octets next
+  pub written : after ≡ sets before pos octets

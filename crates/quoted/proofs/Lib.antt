@@ -1,0 +1,3 @@
+pub mod EscapeSteps
+pub mod PieceSteps
+pub mod Loops
