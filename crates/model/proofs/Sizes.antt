@@ -22,7 +22,7 @@ pub verbatim-length : (d : List ℕ) → length (verbatim d) ≡ length (digits 
 unfolding verbatim
 verbatim-length d = length-append (digits (length d)) (58 ∷ d) ∙ omega arith
 
-run-size : {s d k : List ℕ} → Run s d k → length d + length k ≡ length s
+pub run-size : {s d k : List ℕ} → Run s d k → length d + length k ≡ length s
 run-size (run-more t r) = omega (arith, run-size r)
 run-size run-end = refl
 run-size (run-stop t) = omega arith
@@ -46,7 +46,7 @@ base-size (four t u v w h) = omega (arith, base-size h)
 base-size (three t u v l p) = omega arith
 base-size (two t u l p) = omega arith
 
-marked-size : {s d k : List ℕ} → Marked s d k → length d + 2 + length k ≤ length s
+pub marked-size : {s d k : List ℕ} → Marked s d k → length d + 2 + length k ≤ length s
 marked-size (in-quotes q) = omega (arith, quoted-size q)
 marked-size (in-hashes u h) = omega (arith, upto-size u, hex-size h)
 marked-size (in-bars u h) = omega (arith, upto-size u, base-size h)

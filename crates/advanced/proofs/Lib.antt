@@ -1,0 +1,2 @@
+pub mod Lexing
+pub mod Measuring

@@ -1,0 +1,68 @@
+-- What is said of the lexeme at a place of an advanced text.
+use Prim.Native.Nat.{ℕ, _+_, _≤_, _<_}
+use mathlib.Core.Path.{_≡_}
+use mathlib.Core.List.{List}
+use lib.ListN.{length, drop}
+use Rattle.model.specs.Edit.{within}
+use Rattle.model.specs.Lexemes.{Lexeme, opening, closing, atom, hinting, closeHint, lexeme}
+use Rattle.model.specs.Strings.{Read, got, refused, skip}
+use Rattle.model.specs.Tree.{digits}
+use Rattle.scan.specs.Strings.{bodyOf}
+use Rattle.advanced.specs.declared.Item.{Item}
+use Rattle.advanced.specs.declared.Item.the-variants.{Open, Close, Atom, Hinted, Other}
+
+-- a string's octets can be read again from its body on
+pub record Again (src : List ℕ) (kind len body : ℕ) (octets : List ℕ) : Type 0 where
+  pub rest : List ℕ
+  pub reads : bodyOf kind len (drop body src) ≡ got octets rest
+  pub size : length octets ≡ len
+  pub inside : body ≤ length src
+  pub small : len ≤ length src
+
+pub record Atomed (src : List ℕ) (y : Read Lexeme) (at kind len body next : ℕ) : Type 0 where
+  pub octets : List ℕ
+  pub on : at < next
+  pub within : next ≤ length src
+  pub reads : y ≡ got (atom octets) (drop next src)
+  pub again : Again src kind len body octets
+
+-- after a hint, whatever its octets
+pub record HintClosed (src : List ℕ) (at hk hl hb kind len body next : ℕ) : Type 0 where
+  pub octets : List ℕ
+  pub on : at < next
+  pub within : next ≤ length src
+  pub reads : (h : List ℕ) → closeHint h (skip (drop at src)) ≡ got (hinting h octets) (drop next src)
+  pub again : Again src kind len body octets
+
+pub record Hinting (src : List ℕ) (y : Read Lexeme) (at hk hl hb kind len body next : ℕ) : Type 0 where
+  pub hint : List ℕ
+  pub octets : List ℕ
+  pub on : at < next
+  pub within : next ≤ length src
+  pub reads : y ≡ got (hinting hint octets) (drop next src)
+  pub hint-again : Again src hk hl hb hint
+  pub again : Again src kind len body octets
+
+pub record Stepped (src : List ℕ) (y : Read Lexeme) (l : Lexeme) (at next : ℕ) : Type 0 where
+  pub on : at < next
+  pub within : next ≤ length src
+  pub reads : y ≡ got l (drop next src)
+
+unfoldable pub Closes : List ℕ → ℕ → ℕ → ℕ → ℕ → Item → Type 0
+Closes src at hk hl hb (Open n) = ⊥
+Closes src at hk hl hb (Close n) = ⊥
+Closes src at hk hl hb (Atom k l b n) = ⊥
+Closes src at hk hl hb (Hinted hk′ hl′ hb′ k l b n) = (hk′ ≡ hk) × (hl′ ≡ hl) × (hb′ ≡ hb) × HintClosed src at hk hl hb k l b n
+Closes src at hk hl hb Other = (h : List ℕ) → closeHint h (skip (drop at src)) ≡ refused
+
+unfoldable pub ItemAt : List ℕ → ℕ → Item → Type 0
+ItemAt src at (Open n) = Stepped src (lexeme (drop at src)) opening at n
+ItemAt src at (Close n) = Stepped src (lexeme (drop at src)) closing at n
+ItemAt src at (Atom k l b n) = Atomed src (lexeme (drop at src)) at k l b n
+ItemAt src at (Hinted hk hl hb k l b n) = Hinting src (lexeme (drop at src)) at hk hl hb k l b n
+ItemAt src at Other = lexeme (drop at src) ≡ refused
+
+-- how long a verbatim string of n octets is
+pub record Long (n r : ℕ) : Type 0 where
+  pub is : r ≡ length (digits n) + 1 + n
+  pub low : r ≤ 32774
