@@ -24,6 +24,10 @@ use Rattle.base64.specs.declared.steps.Group.the-variants.{Four, Rest, N
 low : (a b c e : ℕ) → a < 64 → b < 64 → c < 64 → e < 64 → Low (a ∷ b ∷ c ∷ e ∷ [])
 low a b c e h i j k = record { first = h; second = i; third = j; fourth = k }
 
+-- what is said of a group at a place, after p, of which n letters belong to the group
+abbrev GroupsAfter : ℕ → List ℕ → List ℕ → ℕ → ℕ → Group → Type 0
+GroupsAfter m src p n at g = Groups m src (between m unbase p (drop at src)) n at g
+
 -- a step before does not change what is said of the group
 earlier : (m : ℕ) (src : List ℕ) (y z : Read (List ℕ)) (n at next : ℕ) (g : Group) → at < next → y ≡ z → Groups m src z (n + 1) next g → Groups m src y n at g
 unfolding Groups
@@ -33,7 +37,7 @@ earlier m src y z n at next NoGroup h r t = r ∙ t
 
 -- the closing mark after p, where the low bits left over decide
 module _ (m : ℕ) (src : List ℕ) (p : List ℕ) (n at next len a b c : ℕ) (t : Bool) (w : Closed m src at next) (l : Low (a ∷ b ∷ c ∷ 0 ∷ [])) (f : len ≤ 2) where
-  ended : (t ≡ true → Base64 p (take len (threeOctets a b c 0))) → (t ≡ false → (d : List ℕ) → Base64 p d → ⊥) → Groups m src (between m unbase p (drop at src)) n at (allowed t (Rest len a b c next))
+  ended : (t ≡ true → Base64 p (take len (threeOctets a b c 0))) → (t ≡ false → (d : List ℕ) → Base64 p d → ⊥) → GroupsAfter m src p n at (allowed t (Rest len a b c next))
   unfolding Groups allowed
   ended y z =
       by-bool t
@@ -42,7 +46,7 @@ module _ (m : ℕ) (src : List ℕ) (p : List ℕ) (n at next len a b c : ℕ) (
 
 -- ---- after three letters
 module _ (m : ℕ) (src : List ℕ) (at x y z : ℕ) (hx : letter x < 64) (hy : letter y < 64) (hz : letter z < 64) (r : Letter) (w : Letters m src at r) where
-  pub g4-char : (a b c f v next : ℕ) → a ≡ letter x → b ≡ letter y → c ≡ letter z → r ≡ Char v next → f ≡ letter v → Groups m src (between m unbase (x ∷ y ∷ z ∷ []) (drop at src)) 3 at (Four a b c f next)
+  pub g4-char : (a b c f v next : ℕ) → a ≡ letter x → b ≡ letter y → c ≡ letter z → r ≡ Char v next → f ≡ letter v → GroupsAfter m src (x ∷ y ∷ z ∷ []) 3 at (Four a b c f next)
   unfolding Groups
   g4-char a b c f v next ea eb ec e ef =
       let t : (letter v < 64) × OneMore m src at v next = to-char m src at r w v next e in
@@ -53,127 +57,127 @@ module _ (m : ℕ) (src : List ℕ) (at x y z : ℕ) (hx : letter x < 64) (hy : 
         more = t .1 .moves (x ∷ y ∷ z ∷ []) ∙ rw (ea, eb, ec, ef) (base-group m x y z v (drop next src) hx hy hz (t .0) (pad-no-letter v (t .0)));
       }
 
-  pub g4-end : (a b c next : ℕ) (g : Group) → a ≡ letter x → b ≡ letter y → c ≡ letter z → r ≡ End next → g ≡ allowed (leftover (c % 4)) (Rest 2 a b c next) → Groups m src (between m unbase (x ∷ y ∷ z ∷ []) (drop at src)) 3 at g
+  pub g4-end : (a b c next : ℕ) (g : Group) → a ≡ letter x → b ≡ letter y → c ≡ letter z → r ≡ End next → g ≡ allowed (leftover (c % 4)) (Rest 2 a b c next) → GroupsAfter m src (x ∷ y ∷ z ∷ []) 3 at g
   g4-end a b c next g ea eb ec e q =
       rw (q, ea, eb, ec) (ended m src (x ∷ y ∷ z ∷ []) 3 at next 2 _ _ _ (leftover₃ z) (to-end m src at r w next e) (low _ _ _ _ hx hy hz (omega arith)) (omega arith)
       (λ t. three hx hy hz t no-pad)
       (λ t d. left-three hz t))
 
-  pub g4-no : r ≡ NoLetter → Groups m src (between m unbase (x ∷ y ∷ z ∷ []) (drop at src)) 3 at NoGroup
+  pub g4-no : r ≡ NoLetter → GroupsAfter m src (x ∷ y ∷ z ∷ []) 3 at NoGroup
   unfolding Groups
   g4-no e = to-none m src at r w (x ∷ y ∷ z ∷ []) e
 
   module _ (next : ℕ) (e : r ≡ Pad next) (s : Letter) (u : Letters m src next s) where
-    on-pad : (g : Group) → Groups m src (between m unbase (x ∷ y ∷ z ∷ 61 ∷ []) (drop next src)) 4 next g → Groups m src (between m unbase (x ∷ y ∷ z ∷ []) (drop at src)) 3 at g
+    on-pad : (g : Group) → GroupsAfter m src (x ∷ y ∷ z ∷ 61 ∷ []) 4 next g → GroupsAfter m src (x ∷ y ∷ z ∷ []) 3 at g
     on-pad g t = earlier m src _ _ 3 at next g (to-pad m src at r w next e .on) (to-pad m src at r w next e .moves (x ∷ y ∷ z ∷ [])) t
 
-    pub g4-pad-end : (a b c last : ℕ) (g : Group) → a ≡ letter x → b ≡ letter y → c ≡ letter z → s ≡ End last → g ≡ allowed (leftover (c % 4)) (Rest 2 a b c last) → Groups m src (between m unbase (x ∷ y ∷ z ∷ []) (drop at src)) 3 at g
+    pub g4-pad-end : (a b c last : ℕ) (g : Group) → a ≡ letter x → b ≡ letter y → c ≡ letter z → s ≡ End last → g ≡ allowed (leftover (c % 4)) (Rest 2 a b c last) → GroupsAfter m src (x ∷ y ∷ z ∷ []) 3 at g
     g4-pad-end a b c last g ea eb ec f q =
         rw (q, ea, eb, ec) (on-pad _
         (ended m src (x ∷ y ∷ z ∷ 61 ∷ []) 4 next last 2 _ _ _ (leftover₃ z) (to-end m src next s u last f) (low _ _ _ _ hx hy hz (omega arith)) (omega arith)
         (λ t. three hx hy hz t (a-pad no-pad))
         (λ t d. left-three-pad hz t)))
 
-    pub g4-pad-char : (v n : ℕ) → s ≡ Char v n → Groups m src (between m unbase (x ∷ y ∷ z ∷ []) (drop at src)) 3 at NoGroup
+    pub g4-pad-char : (v n : ℕ) → s ≡ Char v n → GroupsAfter m src (x ∷ y ∷ z ∷ []) 3 at NoGroup
     unfolding Groups
     g4-pad-char v n f = on-pad NoGroup (no-char m src next s u (x ∷ y ∷ z ∷ 61 ∷ []) v n f (λ l d k b. over-one hz b))
 
-    pub g4-pad-pad : (n : ℕ) → s ≡ Pad n → Groups m src (between m unbase (x ∷ y ∷ z ∷ []) (drop at src)) 3 at NoGroup
+    pub g4-pad-pad : (n : ℕ) → s ≡ Pad n → GroupsAfter m src (x ∷ y ∷ z ∷ []) 3 at NoGroup
     unfolding Groups
     g4-pad-pad n f = on-pad NoGroup (no-pads m src next s u (x ∷ y ∷ z ∷ 61 ∷ []) n f (λ l d b. over-one hz b))
 
-    pub g4-pad-no : s ≡ NoLetter → Groups m src (between m unbase (x ∷ y ∷ z ∷ []) (drop at src)) 3 at NoGroup
+    pub g4-pad-no : s ≡ NoLetter → GroupsAfter m src (x ∷ y ∷ z ∷ []) 3 at NoGroup
     unfolding Groups
     g4-pad-no f = on-pad NoGroup (to-none m src next s u (x ∷ y ∷ z ∷ 61 ∷ []) f)
 
 -- ---- after two letters, and after a pad
 module _ (m : ℕ) (src : List ℕ) (at x y : ℕ) (hx : letter x < 64) (hy : letter y < 64) (r : Letter) (w : Letters m src at r) where
   ended₂ : (p : List ℕ) (n a b next : ℕ) (g : Group) → a ≡ letter x → b ≡ letter y → r ≡ End next → g ≡ allowed (leftover (b % 16)) (Rest 1 a b 0 next)
-      → (leftover₂ y ≡ true → Base64 p (octet₁ x y ∷ [])) → (leftover₂ y ≡ false → (d : List ℕ) → Base64 p d → ⊥) → Groups m src (between m unbase p (drop at src)) n at g
+      → (leftover₂ y ≡ true → Base64 p (octet₁ x y ∷ [])) → (leftover₂ y ≡ false → (d : List ℕ) → Base64 p d → ⊥) → GroupsAfter m src p n at g
   ended₂ p n a b next g ea eb e q h k =
       rw (q, ea, eb) (ended m src p n at next 1 _ _ 0 (leftover₂ y) (to-end m src at r w next e) (low _ _ _ _ hx hy (omega arith) (omega arith)) (omega arith) h k)
 
-  pub g3-end : (a b next : ℕ) (g : Group) → a ≡ letter x → b ≡ letter y → r ≡ End next → g ≡ allowed (leftover (b % 16)) (Rest 1 a b 0 next) → Groups m src (between m unbase (x ∷ y ∷ []) (drop at src)) 2 at g
+  pub g3-end : (a b next : ℕ) (g : Group) → a ≡ letter x → b ≡ letter y → r ≡ End next → g ≡ allowed (leftover (b % 16)) (Rest 1 a b 0 next) → GroupsAfter m src (x ∷ y ∷ []) 2 at g
   g3-end a b next g ea eb e q = ended₂ (x ∷ y ∷ []) 2 a b next g ea eb e q (λ t. two hx hy t no-pad) (λ t d. left-two t)
 
-  pub g3-no : r ≡ NoLetter → Groups m src (between m unbase (x ∷ y ∷ []) (drop at src)) 2 at NoGroup
+  pub g3-no : r ≡ NoLetter → GroupsAfter m src (x ∷ y ∷ []) 2 at NoGroup
   unfolding Groups
   g3-no e = to-none m src at r w (x ∷ y ∷ []) e
 
-  pub pad-end : (a b next : ℕ) (g : Group) → a ≡ letter x → b ≡ letter y → r ≡ End next → g ≡ allowed (leftover (b % 16)) (Rest 1 a b 0 next) → Groups m src (between m unbase (x ∷ y ∷ 61 ∷ []) (drop at src)) 3 at g
+  pub pad-end : (a b next : ℕ) (g : Group) → a ≡ letter x → b ≡ letter y → r ≡ End next → g ≡ allowed (leftover (b % 16)) (Rest 1 a b 0 next) → GroupsAfter m src (x ∷ y ∷ 61 ∷ []) 3 at g
   pad-end a b next g ea eb e q = ended₂ (x ∷ y ∷ 61 ∷ []) 3 a b next g ea eb e q (λ t. two hx hy t (a-pad no-pad)) (λ t d. left-two-pad t)
 
-  pub pad-char : (v next : ℕ) → r ≡ Char v next → Groups m src (between m unbase (x ∷ y ∷ 61 ∷ []) (drop at src)) 3 at NoGroup
+  pub pad-char : (v next : ℕ) → r ≡ Char v next → GroupsAfter m src (x ∷ y ∷ 61 ∷ []) 3 at NoGroup
   unfolding Groups
   pad-char v next e = no-char m src at r w (x ∷ y ∷ 61 ∷ []) v next e (λ l d k b. letter-fourth k b)
 
-  pub pad-no : r ≡ NoLetter → Groups m src (between m unbase (x ∷ y ∷ 61 ∷ []) (drop at src)) 3 at NoGroup
+  pub pad-no : r ≡ NoLetter → GroupsAfter m src (x ∷ y ∷ 61 ∷ []) 3 at NoGroup
   unfolding Groups
   pad-no e = to-none m src at r w (x ∷ y ∷ 61 ∷ []) e
 
-  twice-end : (a b next : ℕ) (g : Group) → a ≡ letter x → b ≡ letter y → r ≡ End next → g ≡ allowed (leftover (b % 16)) (Rest 1 a b 0 next) → Groups m src (between m unbase (x ∷ y ∷ 61 ∷ 61 ∷ []) (drop at src)) 4 at g
+  twice-end : (a b next : ℕ) (g : Group) → a ≡ letter x → b ≡ letter y → r ≡ End next → g ≡ allowed (leftover (b % 16)) (Rest 1 a b 0 next) → GroupsAfter m src (x ∷ y ∷ 61 ∷ 61 ∷ []) 4 at g
   twice-end a b next g ea eb e q = ended₂ (x ∷ y ∷ 61 ∷ 61 ∷ []) 4 a b next g ea eb e q (λ t. two hx hy t (a-pad (a-pad no-pad))) (λ t d. left-two-pads t)
 
 module _ (m : ℕ) (src : List ℕ) (at x y : ℕ) (hx : letter x < 64) (hy : letter y < 64) (r : Letter) (w : Letters m src at r) (next : ℕ) where
-  pub g3-char : (v : ℕ) → r ≡ Char v next → (g : Group) → Groups m src (between m unbase (x ∷ y ∷ v ∷ []) (drop next src)) 3 next g → Groups m src (between m unbase (x ∷ y ∷ []) (drop at src)) 2 at g
+  pub g3-char : (v : ℕ) → r ≡ Char v next → (g : Group) → GroupsAfter m src (x ∷ y ∷ v ∷ []) 3 next g → GroupsAfter m src (x ∷ y ∷ []) 2 at g
   g3-char v e g t = let c : (letter v < 64) × OneMore m src at v next = to-char m src at r w v next e in earlier m src _ _ 2 at next g (c .1 .on) (c .1 .moves (x ∷ y ∷ [])) t
 
   module _ (e : r ≡ Pad next) where
-    past-pad : (p : List ℕ) (n : ℕ) (g : Group) → Groups m src (between m unbase (p ++ (61 ∷ [])) (drop next src)) (n + 1) next g → Groups m src (between m unbase p (drop at src)) n at g
+    past-pad : (p : List ℕ) (n : ℕ) (g : Group) → GroupsAfter m src (p ++ (61 ∷ [])) (n + 1) next g → GroupsAfter m src p n at g
     past-pad p n g t = earlier m src _ _ n at next g (to-pad m src at r w next e .on) (to-pad m src at r w next e .moves p) t
 
-    pub g3-pad : (g : Group) → Groups m src (between m unbase (x ∷ y ∷ 61 ∷ []) (drop next src)) 3 next g → Groups m src (between m unbase (x ∷ y ∷ []) (drop at src)) 2 at g
+    pub g3-pad : (g : Group) → GroupsAfter m src (x ∷ y ∷ 61 ∷ []) 3 next g → GroupsAfter m src (x ∷ y ∷ []) 2 at g
     g3-pad g t = past-pad (x ∷ y ∷ []) 2 g t
 
     module _ (s : Letter) (u : Letters m src next s) where
-      pub pad-pad-end : (a b last : ℕ) (g : Group) → a ≡ letter x → b ≡ letter y → s ≡ End last → g ≡ allowed (leftover (b % 16)) (Rest 1 a b 0 last) → Groups m src (between m unbase (x ∷ y ∷ 61 ∷ []) (drop at src)) 3 at g
+      pub pad-pad-end : (a b last : ℕ) (g : Group) → a ≡ letter x → b ≡ letter y → s ≡ End last → g ≡ allowed (leftover (b % 16)) (Rest 1 a b 0 last) → GroupsAfter m src (x ∷ y ∷ 61 ∷ []) 3 at g
       pad-pad-end a b last g ea eb f q = past-pad (x ∷ y ∷ 61 ∷ []) 3 g (twice-end m src next x y hx hy s u a b last g ea eb f q)
 
-      pub pad-pad-char : (v n : ℕ) → s ≡ Char v n → Groups m src (between m unbase (x ∷ y ∷ 61 ∷ []) (drop at src)) 3 at NoGroup
+      pub pad-pad-char : (v n : ℕ) → s ≡ Char v n → GroupsAfter m src (x ∷ y ∷ 61 ∷ []) 3 at NoGroup
       unfolding Groups
       pad-pad-char v n f = past-pad (x ∷ y ∷ 61 ∷ []) 3 NoGroup (no-char m src next s u (x ∷ y ∷ 61 ∷ 61 ∷ []) v n f (λ l d k b. over-two b))
 
-      pub pad-pad-pad : (n : ℕ) → s ≡ Pad n → Groups m src (between m unbase (x ∷ y ∷ 61 ∷ []) (drop at src)) 3 at NoGroup
+      pub pad-pad-pad : (n : ℕ) → s ≡ Pad n → GroupsAfter m src (x ∷ y ∷ 61 ∷ []) 3 at NoGroup
       unfolding Groups
       pad-pad-pad n f = past-pad (x ∷ y ∷ 61 ∷ []) 3 NoGroup (no-pads m src next s u (x ∷ y ∷ 61 ∷ 61 ∷ []) n f (λ l d b. over-two b))
 
-      pub pad-pad-no : s ≡ NoLetter → Groups m src (between m unbase (x ∷ y ∷ 61 ∷ []) (drop at src)) 3 at NoGroup
+      pub pad-pad-no : s ≡ NoLetter → GroupsAfter m src (x ∷ y ∷ 61 ∷ []) 3 at NoGroup
       unfolding Groups
       pad-pad-no f = past-pad (x ∷ y ∷ 61 ∷ []) 3 NoGroup (to-none m src next s u (x ∷ y ∷ 61 ∷ 61 ∷ []) f)
 
 -- ---- the first two letters
 module _ (m : ℕ) (src : List ℕ) (at : ℕ) (r : Letter) (w : Letters m src at r) where
-  pub g1-end : (next : ℕ) → r ≡ End next → Groups m src (between m unbase [] (drop at src)) 0 at (Rest 0 0 0 0 next)
+  pub g1-end : (next : ℕ) → r ≡ End next → GroupsAfter m src [] 0 at (Rest 0 0 0 0 next)
   unfolding Groups
   g1-end next e =
       let t : Closed m src at next = to-end m src at r w next e in
       record { on = t .on; within = t .within; low = low _ _ _ _ (omega arith) (omega arith) (omega arith) (omega arith); few = omega arith; ends = t .moves [] ∙ closed (drop next src) no-letter }
 
-  pub g1-pad : (next : ℕ) → r ≡ Pad next → Groups m src (between m unbase [] (drop at src)) 0 at NoGroup
+  pub g1-pad : (next : ℕ) → r ≡ Pad next → GroupsAfter m src [] 0 at NoGroup
   unfolding Groups
   g1-pad next e = no-pads m src at r w [] next e (λ l d b. pad-first b)
 
-  pub g1-no : r ≡ NoLetter → Groups m src (between m unbase [] (drop at src)) 0 at NoGroup
+  pub g1-no : r ≡ NoLetter → GroupsAfter m src [] 0 at NoGroup
   unfolding Groups
   g1-no e = to-none m src at r w [] e
 
   module _ (x next : ℕ) (e : r ≡ Char x next) (s : Letter) (u : Letters m src next s) where
-    g1-char : (g : Group) → Groups m src (between m unbase (x ∷ []) (drop next src)) 1 next g → Groups m src (between m unbase [] (drop at src)) 0 at g
+    g1-char : (g : Group) → GroupsAfter m src (x ∷ []) 1 next g → GroupsAfter m src [] 0 at g
     g1-char g t = let c : (letter x < 64) × OneMore m src at x next = to-char m src at r w x next e in earlier m src _ _ 0 at next g (c .1 .on) (c .1 .moves []) t
 
-    pub g2-end : (last : ℕ) → s ≡ End last → Groups m src (between m unbase [] (drop at src)) 0 at NoGroup
+    pub g2-end : (last : ℕ) → s ≡ End last → GroupsAfter m src [] 0 at NoGroup
     unfolding Groups
     g2-end last f = g1-char NoGroup (no-end m src next s u (x ∷ []) last f (λ d b. one-only b))
 
-    pub g2-pad : (last : ℕ) → s ≡ Pad last → Groups m src (between m unbase [] (drop at src)) 0 at NoGroup
+    pub g2-pad : (last : ℕ) → s ≡ Pad last → GroupsAfter m src [] 0 at NoGroup
     unfolding Groups
     g2-pad last f = g1-char NoGroup (no-pads m src next s u (x ∷ []) last f (λ l d b. pad-second b))
 
-    pub g2-no : s ≡ NoLetter → Groups m src (between m unbase [] (drop at src)) 0 at NoGroup
+    pub g2-no : s ≡ NoLetter → GroupsAfter m src [] 0 at NoGroup
     unfolding Groups
     g2-no f = g1-char NoGroup (to-none m src next s u (x ∷ []) f)
 
-    pub g2-char : (y last : ℕ) → s ≡ Char y last → (g : Group) → Groups m src (between m unbase (x ∷ y ∷ []) (drop last src)) 2 last g → Groups m src (between m unbase [] (drop at src)) 0 at g
+    pub g2-char : (y last : ℕ) → s ≡ Char y last → (g : Group) → GroupsAfter m src (x ∷ y ∷ []) 2 last g → GroupsAfter m src [] 0 at g
     g2-char y last f g t =
         let c : (letter y < 64) × OneMore m src next y last = to-char m src next s u y last f in
         g1-char g (earlier m src _ _ 1 next last g (c .1 .on) (c .1 .moves (x ∷ [])) t)

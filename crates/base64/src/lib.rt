@@ -101,23 +101,11 @@ pub fn base_size(
         let j = groups_end(classes, src, i);
         n += (j - i) / 4 * 3;
         match group_at(classes, letters, src, j, mark) {
-            Group::Four {
-                a: _,
-                b: _,
-                c: _,
-                e: _,
-                next,
-            } => {
+            Group::Four { next, .. } => {
                 n += 3;
                 i = next;
             }
-            Group::Rest {
-                len,
-                a: _,
-                b: _,
-                c: _,
-                next,
-            } => {
+            Group::Rest { len, next, .. } => {
                 return Simple::Is {
                     kind: mark,
                     len: n + len,
@@ -157,13 +145,7 @@ pub fn base_put(
                 o = put_three([a, b, c, e], out, o);
                 i = next;
             }
-            Group::Rest {
-                len,
-                a,
-                b,
-                c,
-                next: _,
-            } => {
+            Group::Rest { len, a, b, c, .. } => {
                 return put_last(len, [a, b, c, 0], out, o);
             }
             Group::NoGroup => {

@@ -135,8 +135,8 @@ fn group_4(
         Letter::End { next } => last_three(a, b, c, next),
         Letter::Pad { next } => match letter_at(classes, letters, src, next, mark) {
             Letter::End { next: last } => last_three(a, b, c, last),
-            Letter::Char { octet: _, next: _ } => Group::NoGroup,
-            Letter::Pad { next: _ } => Group::NoGroup,
+            Letter::Char { .. } => Group::NoGroup,
+            Letter::Pad { .. } => Group::NoGroup,
             Letter::NoLetter => Group::NoGroup,
         },
         Letter::NoLetter => Group::NoGroup,
@@ -164,11 +164,11 @@ fn padded(
         Letter::End { next } => last_two(a, b, next),
         Letter::Pad { next } => match letter_at(classes, letters, src, next, mark) {
             Letter::End { next: last } => last_two(a, b, last),
-            Letter::Char { octet: _, next: _ } => Group::NoGroup,
-            Letter::Pad { next: _ } => Group::NoGroup,
+            Letter::Char { .. } => Group::NoGroup,
+            Letter::Pad { .. } => Group::NoGroup,
             Letter::NoLetter => Group::NoGroup,
         },
-        Letter::Char { octet: _, next: _ } => Group::NoGroup,
+        Letter::Char { .. } => Group::NoGroup,
         Letter::NoLetter => Group::NoGroup,
     }
 }
@@ -209,8 +209,8 @@ pub fn group_at(classes: &[u8; 256], letters: &[u8; 256], src: &[u8], at: usize,
                 octet: y,
                 next: last,
             } => group_3(classes, letters, src, last, mark, x, y),
-            Letter::End { next: _ } => Group::NoGroup,
-            Letter::Pad { next: _ } => Group::NoGroup,
+            Letter::End { .. } => Group::NoGroup,
+            Letter::Pad { .. } => Group::NoGroup,
             Letter::NoLetter => Group::NoGroup,
         },
         Letter::End { next } => Group::Rest {
@@ -220,7 +220,7 @@ pub fn group_at(classes: &[u8; 256], letters: &[u8; 256], src: &[u8], at: usize,
             c: 0,
             next,
         },
-        Letter::Pad { next: _ } => Group::NoGroup,
+        Letter::Pad { .. } => Group::NoGroup,
         Letter::NoLetter => Group::NoGroup,
     }
 }

@@ -1,5 +1,5 @@
 -- A pair of hexadecimal digits at a place of a source.
-use Prim.Native.Nat.{ℕ, _+_, _*_, _-_, _≤_, _<_}
+use Prim.Native.Nat.{ℕ, _+_, _*_, _-_, _/_, _%_, _≤_, _<_}
 use native.Mathlib.Omega.{arith}
 use mathlib.Core.Path.{_≡_, refl, _∙_}
 use mathlib.Core.Bool.{false}
@@ -7,8 +7,8 @@ use mathlib.Core.Option.{none}
 use mathlib.Core.List.{List, [], _∷_}
 use lib.ListN.{length, drop, getD}
 use borrow.Author.Tests.{le-ltb, le-leb, ltb-true}
-use Rattle.base.specs.Choice.{member}
-use Rattle.base.proofs.Cases.{by-eq, unpicked}
+use Rattle.base.specs.Choice.{among, member}
+use Rattle.base.proofs.Cases.{by-bool, by-eq, picked, unpicked, among-true}
 use Rattle.model.specs.Octets.{isWhitespace, hexval}
 use Rattle.model.specs.Strings.{unhex, decoded, marked}
 use Rattle.model.proofs.Classes.{hex-unwhite}
@@ -18,7 +18,7 @@ use Rattle.scan.specs.Marks.{Chunk}
 use Rattle.scan.specs.Runs.{Skipped}
 use Rattle.scan.proofs.Between.{place-none, place-mark, place-other, lost}
 use Rattle.scan.proofs.Skips.{skip-here}
-use Rattle.hexadecimal.specs.Pairs.{Pairs}
+use Rattle.hexadecimal.specs.Pairs.{Pairs, Digit}
 use Rattle.hexadecimal.specs.declared.Pair.the-variants.{Two, Hash, NoPair}
 
 hash-unwhite : isWhitespace 35 ≡ false
@@ -92,3 +92,18 @@ pair-here src at a b h x k y l =
 -- a digit by its class
 pub digit-by-class : (b c : ℕ) → Class b c → 17 ≤ c → hexval b < 16
 digit-by-class b c k h = ltb-true (hexval b) 16 (k .hexdig ∙ le-leb 17 c h)
+
+-- a digit's value, computed
+value-is : (b : ℕ) → hexval b < 16 → b % 16 + b / 64 * 9 ≡ hexval b
+unfolding hexval
+value-is b h =
+    by-bool (among 48 57 b)
+    (λ t. let v : hexval b ≡ b - 48 = picked _ _ t in omega (arith, among-true 48 57 b t))
+    (λ t. by-bool (among 65 70 b)
+    (λ u. let v : hexval b ≡ b - 55 = unpicked _ _ t ∙ picked _ _ u in omega (arith, among-true 65 70 b u))
+    (λ u. by-bool (among 97 102 b)
+    (λ w. let v : hexval b ≡ b - 87 = unpicked _ _ t ∙ unpicked _ _ u ∙ picked _ _ w in omega (arith, among-true 97 102 b w))
+    (λ w. let v : hexval b ≡ 16 = unpicked _ _ t ∙ unpicked _ _ u ∙ unpicked _ _ w in absurd (omega arith))))
+
+pub value-digit : (b : ℕ) → hexval b < 16 → Digit b (b % 16 + b / 64 * 9)
+value-digit b h = record { is = value-is b h; low = omega (arith, value-is b h) }

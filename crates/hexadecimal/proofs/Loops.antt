@@ -4,7 +4,6 @@ use native.Mathlib.Omega.{arith}
 use mathlib.Core.Path.{_≡_, refl, sym, subst}
 use mathlib.Core.List.{List, [], _∷_, _++_}
 use lib.ListN.{length, drop, getD, length-append, set}
-use Rattle.model.specs.Octets.{hexval}
 use Rattle.model.specs.Strings.{refused, marked}
 use Rattle.octets.specs.Classes.{Class}
 use Rattle.scan.specs.Marks.{Chunk, Last, Body}
@@ -12,7 +11,7 @@ use Rattle.scan.specs.Strings.{bodyOf, octetsOf, Tells}
 use Rattle.scan.specs.Writes.{Wrote}
 use Rattle.scan.proofs.Copies.{sets-append}
 use Rattle.scan.proofs.Passing.{stretch-none, stretch-on, Passed, passed-by, passed-on, passed-last, passed-bad, Writing, write-none, write-body, write-room, write-by, write-on, write-end, write-never}
-use Rattle.hexadecimal.specs.Pairs.{Pairs, Paired, PairedOut}
+use Rattle.hexadecimal.specs.Pairs.{Pairs, Digit, Paired, PairedOut}
 use Rattle.hexadecimal.proofs.Digits.{pair-here, digit-by-class}
 use Rattle.scan.specs.declared.Simple.the-variants.{Is, Not}
 use Rattle.hexadecimal.specs.declared.Pair.{Pair}
@@ -59,9 +58,9 @@ module _ (src : List ℕ) (at pos : ℕ) (out₀ out : List ℕ) (i o : ℕ) (p 
   pub pairing-end : PairedOut src at pos out₀ out i
   pairing-end = p .so-far
 
-  module _ (h : 2 ≤ length src - i) (a b : ℕ) (x : a ≡ hexval (getD src i 0)) (k : a < 16) (y : b ≡ hexval (getD src (i + 1) 0)) (l : b < 16) where
+  module _ (h : 2 ≤ length src - i) (a b : ℕ) (x : Digit (getD src i 0) a) (y : Digit (getD src (i + 1) 0) b) where
     here : Chunk (marked 35) src i ((a * 16 + b) ∷ []) (i + 2)
-    here = pair-here src i a b h x k y l
+    here = pair-here src i a b h (x .is) (x .low) (y .is) (y .low)
 
     pub pairing-room : o < length out
     pairing-room = let r : o + 1 ≤ length out = write-room (marked 35) src at pos out₀ out i o (p .writing) _ (i + 2) here in omega arith

@@ -1,13 +1,14 @@
 // Hexadecimal strings, from after their opening mark: their octets counted, and written.
 // Pairs of digits side by side, which is nearly all there is, go through loops of their own that know no whitespace.
-ghost use Prim.Native.Nat.{_≤_};
+ghost use Prim.Native.Nat.{_≤_, _<_};
 ghost use lib.ListN.{length, drop};
+ghost use Rattle.model.specs.Octets.{hexval};
 ghost use Rattle.model.specs.Strings.{marked};
 ghost use Rattle.octets.specs.Classes.{Classed};
 ghost use Rattle.scan.specs.Marks.{Body};
 ghost use Rattle.scan.specs.Strings.{Tells, octetsOf};
 ghost use Rattle.scan.specs.Writes.{Wrote};
-ghost use Rattle.hexadecimal.specs.Pairs.{Pairs, Paired, PairedOut};
+ghost use Rattle.hexadecimal.specs.Pairs.{Pairs, Digit, Paired, PairedOut};
 use octets::class_of;
 use octets::hex_of;
 use scan::Simple;
@@ -71,6 +72,14 @@ fn pairs_end(classes: &[u8; 256], src: &[u8], at: usize) -> usize
     i
 }
 
+// The value of a digit, with no branch: a letter's low four bits are 9 less than its value.
+fn value(b: u8) -> u8
+    requires { ⌜ hexval b < 16 ⌝ }
+    ensures { λ r. ⌜ Digit b r ⌝ }
+{
+    b % 16 + b / 64 * 9
+}
+
 // The octets of a run of pairs side by side, written; the end of the run.
 fn pairs_put(classes: &[u8; 256], src: &[u8], at: usize, out: &mut [u8], pos: usize) -> usize
     requires { ⌜ Classed (now classes) ⌝ }
@@ -80,15 +89,15 @@ fn pairs_put(classes: &[u8; 256], src: &[u8], at: usize, out: &mut [u8], pos: us
     let mut o = pos;
     let mut i = at;
     while src.len() - i >= 2 {
-        let h = hex_of(classes, src[i]);
-        if h >= 16 {
+        let a = src[i];
+        if class_of(classes, a) < 17 {
             return i;
         }
-        let l = hex_of(classes, src[i + 1]);
-        if l >= 16 {
+        let b = src[i + 1];
+        if class_of(classes, b) < 17 {
             return i;
         }
-        out[o] = h * 16 + l;
+        out[o] = value(a) * 16 + value(b);
         o += 1;
         i += 2;
     }
@@ -107,7 +116,7 @@ pub fn hex_size(classes: &[u8; 256], src: &[u8], at: usize) -> Simple
         let j = pairs_end(classes, src, i);
         n += (j - i) / 2;
         match pair_at(classes, src, j) {
-            Pair::Two { octet: _, next } => {
+            Pair::Two { next, .. } => {
                 n += 1;
                 i = next;
             }
@@ -143,7 +152,7 @@ pub fn hex_put(classes: &[u8; 256], src: &[u8], at: usize, out: &mut [u8], pos: 
                 o += 1;
                 i = next;
             }
-            Pair::Hash { next: _ } => {
+            Pair::Hash { .. } => {
                 return o;
             }
             Pair::NoPair => {

@@ -69,7 +69,7 @@ pub fn quoted_size(classes: &[u8; 256], src: &[u8], at: usize) -> Simple
         let j = plain_end(classes, src, i);
         n += j - i;
         match piece_at(classes, src, j) {
-            Piece::One { octet: _, next } => {
+            Piece::One { next, .. } => {
                 n += 1;
                 i = next;
             }
@@ -111,7 +111,7 @@ pub fn quoted_put(classes: &[u8; 256], src: &[u8], at: usize, out: &mut [u8], po
             Piece::Gone { next } => {
                 i = next;
             }
-            Piece::Quote { next: _ } => {
+            Piece::Quote { .. } => {
                 return o;
             }
             Piece::NoPiece => {

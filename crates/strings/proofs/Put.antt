@@ -1,12 +1,12 @@
 -- Octets written from a string's body on.
-use Prim.Native.Nat.{ℕ, _+_, _≤_}
+use Prim.Native.Nat.{ℕ, _+_, _-_, _≤_}
 use native.Mathlib.Omega.{arith}
 use mathlib.Core.Path.{_≡_, sym, ap, _∙_, subst}
 use mathlib.Core.List.{List, [], _++_}
 use lib.ListN.{length, take, drop, length-append, length-drop}
 use borrow.Author.Tests.{le-leb, eq-eqb, ne-eqb}
 use Rattle.base.proofs.Cases.{by-eq, picked, unpicked}
-use Rattle.model.specs.Strings.{Read, got, first, unbase, marked}
+use Rattle.model.specs.Strings.{Read, got, first, unbase, marked, simple}
 use Rattle.model.proofs.ReadCases.{never}
 use Rattle.model.proofs.Simples.{first-sound}
 use Rattle.model.proofs.Streams.{between}
@@ -89,8 +89,8 @@ module _ (src : List ℕ) (kind len body pos : ℕ) (room : ℕ) (r : Ready src 
       base-wrote out out' o w = wrote (between kind unbase []) (base-closing .body len (drop body src)) out out' o w
 
 -- what was found can be written where it has room
-pub found-ready : (src : List ℕ) (x : Read (List ℕ)) (r : Simple) → Tells src x r → (kind len body next : ℕ) → r ≡ Is kind len body next → (pos room : ℕ) → pos + len ≤ room → Ready src kind len body pos room
+pub found-ready : (src : List ℕ) (at : ℕ) (r : Simple) → Tells src (simple (drop at src)) r → (kind len body next : ℕ) → r ≡ Is kind len body next → (pos room : ℕ) → len ≤ room - pos → pos ≤ room → Ready src kind len body pos room
 unfolding Tells
-found-ready src x r w kind len body next e pos room h =
-    let t : Reads src x kind len body next = subst (Tells src x) e w in
+found-ready src at r w kind len body next e pos room h k =
+    let t : Reads src (simple (drop at src)) kind len body next = subst (Tells src (simple (drop at src))) e w in
     record { octets = t .octets; rest = drop next src; reads = t .again; inside = omega (arith, t .ahead, t .within); fits = omega (arith, t .size) }

@@ -1,4 +1,5 @@
 use Rattle.hexadecimal.proofs.Loops.{Pairing, pairing-none, pairing-inside, pairing-end, pairing-room, pairing-on}
+use Rattle.hexadecimal.proofs.Digits.{digit-by-class}
 use borrow.Author.Needs.{needs}
 use native.Mathlib.Omega.{arith}
 use lib.ListN.{length}
@@ -18,11 +19,11 @@ loop-holds c = search pairing-none
 sub-loop : tie.Need-sub-loop Inv-loop μ-loop
 sub-loop c = search (pairing-inside, arith)
 
-shared-slice-read-hex-of : tie.Need-shared-slice-read-hex-of Inv-loop μ-loop
-shared-slice-read-hex-of c = omega arith
+shared-slice-read-a : tie.Need-shared-slice-read-a Inv-loop μ-loop
+shared-slice-read-a c = omega arith
 
-hex-of-requires : tie.Need-hex-of-requires Inv-loop μ-loop
-hex-of-requires c κs = search needs
+class-of-requires : tie.Need-class-of-requires Inv-loop μ-loop
+class-of-requires c κs = search needs
 
 same-length : tie.Need-same-length Inv-loop μ-loop
 same-length c = search needs
@@ -30,14 +31,14 @@ same-length c = search needs
 returns : tie.Need-returns Inv-loop μ-loop
 returns c = search pairing-end
 
-add-hex-of : tie.Need-add-hex-of Inv-loop μ-loop
-add-hex-of c = search needs
+add-b : tie.Need-add-b Inv-loop μ-loop
+add-b c = omega arith
 
-shared-slice-read-hex-of-2 : tie.Need-shared-slice-read-hex-of-2 Inv-loop μ-loop
-shared-slice-read-hex-of-2 c = omega arith
+shared-slice-read-b : tie.Need-shared-slice-read-b Inv-loop μ-loop
+shared-slice-read-b c = omega arith
 
-hex-of-requires-2 : tie.Need-hex-of-requires-2 Inv-loop μ-loop
-hex-of-requires-2 c κs = search needs
+class-of-requires-2 : tie.Need-class-of-requires-2 Inv-loop μ-loop
+class-of-requires-2 c κs = search needs
 
 same-length-2 : tie.Need-same-length-2 Inv-loop μ-loop
 same-length-2 c = search needs
@@ -45,20 +46,26 @@ same-length-2 c = search needs
 returns-2 : tie.Need-returns-2 Inv-loop μ-loop
 returns-2 c = search pairing-end
 
+value-requires : tie.Need-value-requires Inv-loop μ-loop
+value-requires c κs = digit-by-class _ _ (c .before .before .before .before .class-of .ensures) (omega arith)
+
 mul-out : tie.Need-mul-out Inv-loop μ-loop
-mul-out c = search needs
+mul-out c = omega arith
+
+value-requires-2 : tie.Need-value-requires-2 Inv-loop μ-loop
+value-requires-2 c κs = digit-by-class _ _ (c .before .before .class-of2 .ensures) (omega arith)
 
 add-out : tie.Need-add-out Inv-loop μ-loop
-add-out c = search needs
+add-out c = omega arith
 
 slice-write-out : tie.Need-slice-write-out Inv-loop μ-loop
 slice-write-out c = search (pairing-room, arith)
 
 add-o : tie.Need-add-o Inv-loop μ-loop
-add-o c = search needs
+add-o c = omega arith
 
 add-i : tie.Need-add-i Inv-loop μ-loop
-add-i c = search needs
+add-i c = omega arith
 
 loop-less : tie.Need-loop-less Inv-loop μ-loop
 loop-less c = search needs
@@ -80,16 +87,18 @@ pairs-put-spec =
     μ-loop
     loop-holds
     sub-loop
-    shared-slice-read-hex-of
-    hex-of-requires
+    shared-slice-read-a
+    class-of-requires
     same-length
     returns
-    add-hex-of
-    shared-slice-read-hex-of-2
-    hex-of-requires-2
+    add-b
+    shared-slice-read-b
+    class-of-requires-2
     same-length-2
     returns-2
+    value-requires
     mul-out
+    value-requires-2
     add-out
     slice-write-out
     add-o
