@@ -21,3 +21,4 @@ pub mod OutputSizes
 pub mod Laws
 mod Starred
 mod Examples
+pub mod Judging

@@ -1,0 +1,110 @@
+-- Rows 4 to 6, judged by sizes.
+use Prim.Native.Nat.{ℕ, _*_, _-_, _/_, _≤_, _<_, max}
+use native.Mathlib.Omega.{arith}
+use mathlib.Core.Path.{_≡_, refl, sym, ap, _∙_}
+use mathlib.Core.Bool.{Bool, true, false}
+use mathlib.Core.Option.{Option, none, some}
+use mathlib.Core.List.{List, _∷_}
+use lib.ListN.{length}
+use lib.Seq.{sets}
+use lib.Dec.{ltb}
+use borrow.Author.Tests.{lt-ltb, le-ltb, ltb-false}
+use Rattle.base.specs.Choice.{pick, either, isNone}
+use Rattle.base.proofs.Cases.{pick-cases, picked, unpicked}
+use Rattle.base.proofs.Stores.{sets-all}
+use Rattle.model.specs.Answers.{when, verdict, judged, the, roomChecks, settled, unchanged, filled}
+use Rattle.model.specs.Limits.{maxDepth, maxNodes, maxCanonical, Accepted, Syntax, Depth, Nodes, Size}
+use Rattle.model.specs.Table.{width, numbers, records}
+use Rattle.model.specs.Tree.{Tree, canon, nodes, depth}
+use Rattle.model.proofs.Judging.{judged-accepted, judged-refused}
+use Rattle.walk.specs.Count.{count}
+use Rattle.reader.specs.Stored.{roomVerdict, readTree}
+
+module _ (deep count len octets numbers : ℕ) where
+  pub room-deep : 32 < deep → 4 ≡ roomVerdict deep count len octets numbers
+  unfolding roomVerdict
+  room-deep h = sym (picked _ _ (lt-ltb 32 deep h))
+
+  module _ (a : deep ≤ 32) where
+    pub room-nodes : 4096 < count → 5 ≡ roomVerdict deep count len octets numbers
+    unfolding roomVerdict
+    room-nodes h = sym (unpicked _ _ (le-ltb 32 deep a) ∙ picked _ _ (lt-ltb 4096 count h))
+
+    module _ (b : count ≤ 4096) where
+      pub room-records : numbers / 8 < count → 5 ≡ roomVerdict deep count len octets numbers
+      unfolding roomVerdict
+      room-records h = sym (unpicked _ _ (le-ltb 32 deep a) ∙ unpicked _ _ (le-ltb 4096 count b) ∙ picked _ _ (lt-ltb (numbers / 8) count h))
+
+      module _ (c : count ≤ numbers / 8) where
+        firsts : roomVerdict deep count len octets numbers ≡ pick (ltb 16384 len) 6 (pick (ltb octets len) 6 0)
+        unfolding roomVerdict
+        firsts = unpicked _ _ (le-ltb 32 deep a) ∙ unpicked _ _ (le-ltb 4096 count b) ∙ unpicked _ _ (le-ltb (numbers / 8) count c)
+
+        pub room-size : 16384 < len → 6 ≡ roomVerdict deep count len octets numbers
+        room-size h = sym (firsts ∙ picked _ _ (lt-ltb 16384 len h))
+
+        pub room-lent : len ≤ 16384 → octets < len → 6 ≡ roomVerdict deep count len octets numbers
+        room-lent h k = sym (firsts ∙ unpicked _ _ (le-ltb 16384 len h) ∙ picked _ _ (lt-ltb octets len k))
+
+        pub room-good : len ≤ 16384 → len ≤ octets → 0 ≡ roomVerdict deep count len octets numbers
+        room-good h k = sym (firsts ∙ unpicked _ _ (le-ltb 16384 len h) ∙ unpicked _ _ (le-ltb octets len k))
+
+-- what holds where none applies
+pub record Lodged (deep count len octets numbers : ℕ) : Type 0 where
+  pub shallow : deep ≤ 32
+  pub few : count ≤ 4096
+  pub recorded : width * count ≤ numbers
+  pub small : len ≤ 16384
+  pub lent : len ≤ octets
+
+pub roomy : (deep count len octets numbers : ℕ) → roomVerdict deep count len octets numbers ≡ 0 → Lodged deep count len octets numbers
+unfolding roomVerdict
+roomy deep count len octets numbers e =
+    pick-cases (ltb 32 deep) _ _ e (λ t h. absurd (omega arith))
+    (λ a h. pick-cases (ltb 4096 count) _ _ h (λ t i. absurd (omega arith))
+    (λ b i. pick-cases (ltb (numbers / 8) count) _ _ i (λ t j. absurd (omega arith))
+    (λ c j. pick-cases (ltb 16384 len) _ _ j (λ t k. absurd (omega arith))
+    (λ d k. pick-cases (ltb octets len) _ _ k (λ t l. absurd (omega arith))
+    (λ f l.
+    let c′ : count ≤ numbers / 8 = ltb-false _ _ c in
+    record { shallow = ltb-false _ _ a; few = ltb-false _ _ b; recorded = omega arith; small = ltb-false _ _ d; lent = ltb-false _ _ f })))))
+
+-- ---- the model's checks
+
+split : {A : Type 0} (a b : Bool) (x y : A) → pick (either a b) x y ≡ pick a x (pick b x y)
+split true b x y = refl
+split false b x y = refl
+
+pub rooms : (t : Tree) (canonical table : List ℕ) → verdict (roomChecks t canonical table) ≡ roomVerdict (depth t) (nodes t) (length (canon t)) (length canonical) (length table)
+unfolding verdict roomChecks roomVerdict
+rooms t canonical table =
+    ap (pick (ltb maxDepth (depth t)) Depth)
+    (split (ltb maxNodes (nodes t)) (ltb (records table) (nodes t)) Nodes _
+    ∙ ap (λ (x : ℕ). pick (ltb maxNodes (nodes t)) Nodes (pick (ltb (records table) (nodes t)) Nodes x)) (split (ltb maxCanonical (length (canon t))) (ltb (length canonical) (length (canon t))) Size Accepted))
+
+module _ (o : Option Tree) (canonical table : List ℕ) where
+  pub tree-none : o ≡ none → readTree o canonical table ≡ unchanged 3 canonical table
+  unfolding readTree judged verdict isNone
+  tree-none e = rw e
+
+  module _ (t : Tree) (e : o ≡ some t) where
+    verdict-is : verdict (when Syntax (isNone o) ∷ roomChecks (the o) canonical table) ≡ roomVerdict (depth t) (nodes t) (length (canon t)) (length canonical) (length table)
+    unfolding verdict isNone the
+    verdict-is = rw e (rooms t canonical table)
+
+    pub tree-refused : (n : ℕ) → n ≡ roomVerdict (depth t) (nodes t) (length (canon t)) (length canonical) (length table) → 0 < n → readTree o canonical table ≡ unchanged n canonical table
+    unfolding readTree
+    tree-refused n h k = judged-refused _ _ _ n (verdict-is ∙ sym h) k
+
+    pub tree-accepted : roomVerdict (depth t) (nodes t) (length (canon t)) (length canonical) (length table) ≡ 0 → readTree o canonical table ≡ filled t 0 0 canonical table
+    unfolding readTree the
+    tree-accepted h = judged-accepted _ _ _ (verdict-is ∙ h) ∙ ap (λ (x : Option Tree). filled (the x) 0 0 canonical table) e
+
+-- ---- lent space from the front
+
+pub settled-front : (l vs : List ℕ) → length vs ≤ length l → settled l 0 vs ≡ sets l 0 vs
+unfolding settled
+settled-front l vs h =
+    let a : 0 - length vs ≡ 0 = omega arith in
+    let b : max 0 (length vs) ≡ length vs = omega arith in
+    rw (a, b) (sym (sets-all l vs h))

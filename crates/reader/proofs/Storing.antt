@@ -1,0 +1,146 @@
+-- A text measured, judged, written and indexed: what is left is what the tree that it means gives.
+use Prim.Native.Nat.{ℕ, _+_, _≤_, _<_}
+use native.Mathlib.Omega.{arith}
+use mathlib.Core.Path.{_≡_, refl, sym, ap, ap₂, _∙_, subst}
+use mathlib.Core.Option.{Option, some}
+use mathlib.Core.List.{List, [], _++_, append-nil}
+use lib.ListN.{length, take, drop}
+use lib.Seq.{take-at, sets, length-sets}
+use Rattle.base.proofs.Stores.{sets-all}
+use Rattle.model.specs.Answers.{the, fits, Outcome, filled}
+use Rattle.model.specs.Compare.{same}
+use Rattle.model.specs.Decode.{decode₁, decode₃}
+use Rattle.model.specs.Limits.{Accepted}
+use Rattle.model.specs.Strings.{number}
+use Rattle.model.specs.Table.{tableOf}
+use Rattle.model.specs.Tree.{Tree, canon, nodes, depth}
+use Rattle.model.proofs.Exact.{canon-sound, canon-complete}
+use Rattle.walk.specs.Count.{count}
+use Rattle.walk.specs.Extent.{Wholly, Measures}
+use Rattle.walk.proofs.Tabled.{table-length}
+use Rattle.scan.specs.Writes.{Wrote}
+use Rattle.emitter.specs.Emitted.{Emittable}
+use Rattle.answers.specs.Cases.{outcome, Refuses}
+use Rattle.reader.specs.Stored.{roomVerdict, readTree, Finishable, Finished}
+use Rattle.reader.proofs.Rooms.{Lodged, roomy, tree-none, tree-refused, tree-accepted, settled-front}
+use Rattle.answers.specs.declared.Reading.{Reading}
+use Rattle.walk.specs.declared.Extent.{Extent}
+use Rattle.walk.specs.declared.Extent.the-variants as extent
+
+same-verdict : (o k : ℕ) {d d′ n n′ l l′ : ℕ} → d ≡ d′ → n ≡ n′ → l ≡ l′ → roomVerdict d n l o k ≡ roomVerdict d′ n′ l′ o k
+same-verdict o k p q r = λ i. roomVerdict (p i) (q i) (r i) o k
+
+-- ---- whatever the form: o is the text's tree, if it has one
+module _ (o : Option Tree) (canonical table : List ℕ) (x : Extent) (m : Measures o x) where
+  pub store-none : x ≡ extent.Refused → (r : Reading) → Refuses 3 r → outcome r canonical table ≡ readTree o canonical table
+  unfolding Measures
+  store-none e r f = f .is canonical table ∙ sym (tree-none o canonical table (subst (Measures o) e m))
+
+  module _ (len count deep : ℕ) (e : x ≡ extent.Whole len count deep) where
+    pub measured : Wholly o len count deep
+    unfolding Measures
+    measured = subst (Measures o) e m
+
+    sized : roomVerdict (depth (measured .tree)) (nodes (measured .tree)) (length (canon (measured .tree))) (length canonical) (length table) ≡ roomVerdict deep count len (length canonical) (length table)
+    sized = same-verdict (length canonical) (length table) (sym (measured .deepest)) (sym (measured .counted)) (sym (measured .long))
+
+    module _ (n : ℕ) (h : n ≡ roomVerdict deep count len (length canonical) (length table)) where
+      pub store-refused : 0 < n → (r : Reading) → Refuses n r → outcome r canonical table ≡ readTree o canonical table
+      store-refused k r f = f .is canonical table ∙ sym (tree-refused o canonical table (measured .tree) (measured .is) n (h ∙ sym sized) k)
+
+      module _ (k : n ≤ 0) where
+        good : roomVerdict deep count len (length canonical) (length table) ≡ 0
+        good = sym h ∙ omega arith
+
+        pub fitting-room : Lodged deep count len (length canonical) (length table)
+        fitting-room = roomy deep count len (length canonical) (length table) good
+
+        -- the canonical form was written from the front
+        module _ (canonical′ : List ℕ) (p : ℕ) (w : Wrote (canon (measured .tree)) 0 canonical canonical′ p) where
+          written-is : canonical′ ≡ canon (measured .tree) ++ drop (length (canon (measured .tree))) canonical
+          written-is = w .same ∙ sets-all canonical (canon (measured .tree)) (omega (arith, measured .long, fitting-room .lent))
+
+          written-long : length canonical′ ≡ length canonical
+          written-long = ap length (w .same) ∙ length-sets canonical 0 (canon (measured .tree))
+
+          front-is : take len canonical′ ≡ canon (measured .tree)
+          front-is = ap₂ take (measured .long) written-is ∙ take-at (canon (measured .tree)) (drop (length (canon (measured .tree))) canonical) (length (canon (measured .tree))) refl
+
+          front-decodes : decode₁ (take len canonical′) ≡ some (measured .tree)
+          front-decodes = ap decode₁ front-is ∙ canon-complete (measured .tree)
+
+          pub store-finishable : Finishable canonical′ len count (length table)
+          store-finishable =
+              record {
+                tree = measured .tree;
+                inside = omega (arith, written-long, fitting-room .lent);
+                is = front-decodes;
+                deep = omega (arith, measured .deepest, fitting-room .shallow);
+                counted = measured .counted;
+                fits = omega (arith, measured .counted, fitting-room .recorded);
+                short = omega (arith, fitting-room .small);
+              }
+
+          pub store-accepted : (table′ : List ℕ) (r : Reading) → Finished canonical′ len count table table′ r → outcome r canonical′ table′ ≡ readTree o canonical table
+          unfolding filled the
+          store-accepted table′ r f =
+              f .tells canonical′ table′
+              ∙ same-outcome (measured .long) (measured .counted)
+              (w .same ∙ sym (settled-front canonical (canon (measured .tree)) (omega (arith, measured .long, fitting-room .lent))))
+              (f .wrote ∙ ap (λ (y : Option Tree). sets table 0 (tableOf (the y))) front-decodes
+              ∙ sym (settled-front table (tableOf (measured .tree)) (omega (arith, table-length (measured .tree), measured .counted, fitting-room .recorded))))
+              ∙ sym (tree-accepted o canonical table (measured .tree) (measured .is) (sized ∙ good))
+            where
+              same-outcome : {a a′ b b′ : ℕ} {c c′ d d′ : List ℕ} → a ≡ a′ → b ≡ b′ → c ≡ c′ → d ≡ d′
+                  → _≡_ {A = Outcome} (record { number = Accepted; octets = a; count = b; canonical = c; table = d }) (record { number = Accepted; octets = a′; count = b′; canonical = c′; table = d′ })
+              same-outcome p q r s = λ i. record { number = Accepted; octets = p i; count = q i; canonical = r i; table = s i }
+
+-- ---- form 1: the text is copied
+module _ (source canonical table : List ℕ) (x : Extent) (m : Measures (decode₁ source) x) (len count deep : ℕ) (e : x ≡ extent.Whole len count deep) (n : ℕ) (h : n ≡ roomVerdict deep count len (length canonical) (length table)) (k : n ≤ 0) where
+  abbrev whole : Wholly (decode₁ source) len count deep
+  whole = measured (decode₁ source) canonical table x m len count deep e
+
+  source-is : source ≡ canon (whole .tree)
+  source-is = canon-sound source (whole .tree) (whole .is)
+
+  pub copy-room : (0 + len ≤ length source) × (0 + len ≤ length canonical)
+  copy-room =
+      let f : Lodged deep count len (length canonical) (length table) = fitting-room (decode₁ source) canonical table x m len count deep e n h k in
+      (omega (arith, whole .long, ap length source-is), omega (arith, f .lent))
+
+  copied : take len (drop 0 source) ≡ canon (whole .tree)
+  copied = ap₂ take (whole .long ∙ ap length (sym source-is)) refl ∙ take-all source ∙ source-is
+    where
+      take-all : (l : List ℕ) → take (length l) l ≡ l
+      take-all l = ap (take (length l)) (sym (append-nil l)) ∙ take-at l [] (length l) refl
+
+  module _ (canonical′ : List ℕ) (p : ℕ) (w : Wrote (take len (drop 0 source)) 0 canonical canonical′ p) where
+    as-tree : Wrote (canon (whole .tree)) 0 canonical canonical′ p
+    as-tree = subst (λ (y : List ℕ). Wrote y 0 canonical canonical′ p) copied w
+
+    pub copy-finishable : Finishable canonical′ len count (length table)
+    copy-finishable = store-finishable (decode₁ source) canonical table x m len count deep e n h k canonical′ p as-tree
+
+    pub copy-accepted : (table′ : List ℕ) (r : Reading) → Finished canonical′ len count table table′ r → outcome r canonical′ table′ ≡ readTree (decode₁ source) canonical table
+    copy-accepted table′ r f = store-accepted (decode₁ source) canonical table x m len count deep e n h k canonical′ p as-tree table′ r f
+
+-- ---- form 3: the lexemes are written
+module _ (source canonical table : List ℕ) (short : length source ≤ 32768) (x : Extent) (m : Measures (decode₃ source) x) (len count deep : ℕ) (e : x ≡ extent.Whole len count deep) (n : ℕ) (h : n ≡ roomVerdict deep count len (length canonical) (length table)) (k : n ≤ 0) where
+  abbrev meant : Wholly (decode₃ source) len count deep
+  meant = measured (decode₃ source) canonical table x m len count deep e
+
+  pub emit-room : Emittable source 0 (length canonical)
+  emit-room =
+      let f : Lodged deep count len (length canonical) (length table) = fitting-room (decode₃ source) canonical table x m len count deep e n h k in
+      record { tree = meant .tree; is = meant .is; fits = omega (arith, meant .long, f .lent); near = omega arith; short = short }
+
+  module _ (canonical′ : List ℕ) (p : ℕ) (w : Wrote (canon (the (decode₃ source))) 0 canonical canonical′ p) where
+    as-meant : Wrote (canon (meant .tree)) 0 canonical canonical′ p
+    unfolding the
+    as-meant = subst (λ (y : Option Tree). Wrote (canon (the y)) 0 canonical canonical′ p) (meant .is) w
+
+    pub emit-finishable : Finishable canonical′ len count (length table)
+    emit-finishable = store-finishable (decode₃ source) canonical table x m len count deep e n h k canonical′ p as-meant
+
+    pub emit-accepted : (table′ : List ℕ) (r : Reading) → Finished canonical′ len count table table′ r → outcome r canonical′ table′ ≡ readTree (decode₃ source) canonical table
+    emit-accepted table′ r f = store-accepted (decode₃ source) canonical table x m len count deep e n h k canonical′ p as-meant table′ r f
