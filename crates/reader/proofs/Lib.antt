@@ -1,3 +1,5 @@
 pub mod Rooms
 pub mod Finishing
 pub mod Storing
+pub mod Braces
+pub mod Entry
