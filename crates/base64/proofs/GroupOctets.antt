@@ -5,35 +5,8 @@ use mathlib.Core.Path.{_≡_, refl, sym, _∙_}
 use mathlib.Core.List.{List}
 use lib.ListN.{length, take, getD, set, length-set}
 use native.Mathlib.Numerals.{add-one, add-two}
-use lib.Dec.{eqb}
-use borrow.Author.Tests.{lt-ltb, le-ltb, eq-eqb, ne-eqb}
-use Rattle.base.specs.Choice.{pick}
-use Rattle.base.proofs.Cases.{picked, unpicked}
-use Rattle.model.specs.Write.{letterOf}
 use Rattle.scan.specs.Writes.{Wrote}
 use Rattle.base64.specs.Bits.{threeFrom}
-
-pub letter-upper : (n : ℕ) → n < 26 → 65 + n ≡ letterOf n
-unfolding letterOf
-letter-upper n h = sym (picked _ _ (lt-ltb n 26 h))
-
-pub letter-lower : (n : ℕ) → 26 ≤ n → n < 52 → 71 + n ≡ letterOf n
-unfolding letterOf
-letter-lower n h k = sym (unpicked _ _ (le-ltb n 26 h) ∙ picked _ _ (lt-ltb n 52 k))
-
-pub letter-digit : (n : ℕ) → 52 ≤ n → n < 62 → n - 4 ≡ letterOf n
-unfolding letterOf
-letter-digit n h k = sym (unpicked _ _ (le-ltb n 26 (omega arith)) ∙ unpicked _ _ (le-ltb n 52 h) ∙ picked _ _ (lt-ltb n 62 k))
-
-past-digits : (n : ℕ) → 62 ≤ n → letterOf n ≡ pick (eqb n 62) 43 47
-unfolding letterOf
-past-digits n h = unpicked _ _ (le-ltb n 26 (omega arith)) ∙ unpicked _ _ (le-ltb n 52 (omega arith)) ∙ unpicked _ _ (le-ltb n 62 h)
-
-pub letter-plus : (n : ℕ) → 62 ≤ n → n ≡ 62 → 43 ≡ letterOf n
-letter-plus n h e = sym (past-digits n h ∙ picked _ _ (eq-eqb n 62 e))
-
-pub letter-slash : (n : ℕ) → 62 ≤ n → (n ≡ 62 → ⊥) → 47 ≡ letterOf n
-letter-slash n h e = sym (past-digits n h ∙ unpicked _ _ (ne-eqb n 62 e))
 
 -- ---- written
 module _ (g t out : List ℕ) (pos : ℕ) (q : t ≡ threeFrom g) where

@@ -10,13 +10,6 @@ threeOctets a b c e = (a * 4 + b / 16) ∷ (b % 16 * 16 + c / 4) ∷ (c % 4 * 64
 abbrev pub threeFrom : List ℕ → List ℕ
 threeFrom g = threeOctets (getD g 0 0) (getD g 1 0) (getD g 2 0) (getD g 3 0)
 
--- the way back
-abbrev pub fourValues : ℕ → ℕ → ℕ → List ℕ
-fourValues a b c = (a / 4) ∷ (a % 4 * 16 + b / 16) ∷ (b % 16 * 4 + c / 64) ∷ (c % 64) ∷ []
-
-abbrev pub fourFrom : List ℕ → List ℕ
-fourFrom g = fourValues (getD g 0 0) (getD g 1 0) (getD g 2 0)
-
 -- the four are values of letters
 pub record Low (g : List ℕ) : Type 0 where
   pub first : getD g 0 0 < 64

@@ -3,9 +3,8 @@ ghost use Prim.Native.Nat.{_+_, _≤_, _<_};
 ghost use mathlib.Core.Path.{_≡_};
 ghost use lib.ListN.{length, take};
 ghost use Rattle.model.specs.Octets as model;
-ghost use Rattle.model.specs.Write.{letterOf};
 ghost use Rattle.scan.specs.Writes.{Wrote};
-ghost use Rattle.base64.specs.Bits.{Low, threeFrom, fourFrom};
+ghost use Rattle.base64.specs.Bits.{Low, threeFrom};
 
 // Four letters taken together give three octets.
 pub fn octets(g: [u8; 4]) -> [u8; 3]
@@ -17,34 +16,6 @@ pub fn octets(g: [u8; 4]) -> [u8; 3]
         g[1] % 16 * 16 + g[2] / 4,
         g[2] % 4 * 64 + g[3],
     ]
-}
-
-// The way back: the values of the four letters that three octets give.
-pub fn letters_of(g: [u8; 3]) -> [u8; 4]
-    ensures { λ r. ⌜ r ≡ fourFrom g ⌝ }
-{
-    [
-        g[0] / 4,
-        g[0] % 4 * 16 + g[1] / 16,
-        g[1] % 16 * 4 + g[2] / 64,
-        g[2] % 64,
-    ]
-}
-
-// The letter of a value.
-pub fn letter_from(value: u8) -> u8
-    ensures { λ r. ⌜ r ≡ letterOf value ⌝ }
-{
-    if value < 26 {
-        return 65 + value;
-    }
-    if value < 52 {
-        return 71 + value;
-    }
-    if value < 62 {
-        return value - 4;
-    }
-    if value == 62 { 43 } else { 47 }
 }
 
 // Whether the low bits may stand that the last letter has too many: they are ignored, whatever they are.

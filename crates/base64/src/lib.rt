@@ -22,8 +22,6 @@ use steps::group_at;
 mod bits; // bits.rt: four letters and three octets
 mod steps; // steps.rt: a group letter by letter
 
-pub use bits::letter_from;
-pub use bits::letters_of;
 pub use bits::octets;
 
 // The end of a run of groups side by side.

@@ -52,9 +52,9 @@ fn read_canonical(source: &[u8], canonical: &mut [u8], table: &mut [u32]) -> Rea
 {
     match canonical::measure(source) {
         Extent::Whole { len, nodes, depth } => {
-            let n = room(len, nodes, depth, canonical.len(), table.len());
-            if n > 0 {
-                return refused(n);
+            let row = room(len, nodes, depth, canonical.len(), table.len());
+            if row > 0 {
+                return refused(row);
             }
             scan::copy(source, 0, len, canonical, 0);
             finish(canonical, len, nodes, table)

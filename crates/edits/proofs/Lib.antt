@@ -1,0 +1,13 @@
+pub mod Join
+pub mod Fill
+pub mod Rows
+pub mod Find
+pub mod Whole
+pub mod Sides
+pub mod Moved
+pub mod Steps
+pub mod Outside
+pub mod Holds
+pub mod Flat
+pub mod Demand
+mod Examples

@@ -1,0 +1,68 @@
+-- What comparing answers, by the checks of the two sheets.
+use Prim.Native.Nat.{ℕ}
+use native.Mathlib.Omega.{arith}
+use mathlib.Core.Path.{_≡_, refl, sym, ap, ap₂, _∙_}
+use mathlib.Core.Bool.{Bool, true, false}
+use mathlib.Core.Option.{Option, none, some}
+use mathlib.Core.List.{List, [], _∷_}
+use lib.ListN.{length, take}
+use Rattle.base.specs.Choice.{pick, either, not, isNone}
+use Rattle.model.specs.Answers.{when, verdict, judged, the, sheetTree, comparingChecks, comparing}
+use Rattle.model.specs.Compare.{same}
+use Rattle.model.specs.Decode.{decode₁}
+use Rattle.model.specs.Tree.{Tree}
+use Rattle.lookup.specs.Tokens.{Sheets}
+use Rattle.lookup.specs.Answers.{told}
+use Rattle.lookup.proofs.Sheets.{front-length, tree-of, none-of, Sheet, sheet-of}
+use Rattle.lookup.specs.declared.Comparing.the-variants.{Accepted, Refused}
+
+by-rows : (b : Bool) (y : Bool) → judged (when 7 b ∷ []) (record { number = 0; yes = y }) (λ n. record { number = n; yes = false }) ≡ pick b (told (Refused 7)) (told (Accepted y))
+unfolding judged verdict told
+by-rows true y = refl
+by-rows false y = refl
+
+-- the first octets of a sheet are there
+pub sheet-length : (c : List ℕ) (n : ℕ) (r : Bool) → r ≡ not (isNone (sheetTree c n)) → r ≡ true → n ≡ length (take n c)
+sheet-length c n r e y = tree-of (sheetTree c n) (sym y ∙ e) (λ t i. front-length c n (sheet-of c n t i .lent))
+
+module _ (a : List ℕ) (n : ℕ) (b : List ℕ) (m : ℕ) where
+  answers : (x : List ℕ) (o p : Option Tree) → sheetTree a n ≡ o → sheetTree b m ≡ p
+      → comparing a n b m x ≡ pick (either (isNone o) (isNone p)) (told (Refused 7)) (told (Accepted (same (the o) (the p) x)))
+  unfolding comparing comparingChecks
+  answers x o p e f = by-rows (either (isNone (sheetTree a n)) (isNone (sheetTree b m))) (same (the (sheetTree a n)) (the (sheetTree b m)) x) ∙ rw (e, f)
+
+  module _ (r : Bool) (e : r ≡ not (isNone (sheetTree a n))) where
+    pub left-refused : (x : List ℕ) → r ≡ false → told (Refused 7) ≡ comparing a n b m x
+    unfolding isNone
+    left-refused x y = sym (answers x none (sheetTree b m) (none-of (sheetTree a n) (sym y ∙ e)) refl)
+
+    module _ (y : r ≡ true) (q : Bool) (f : q ≡ not (isNone (sheetTree b m))) where
+      pub right-refused : (x : List ℕ) → q ≡ false → told (Refused 7) ≡ comparing a n b m x
+      unfolding isNone
+      right-refused x z =
+          tree-of (sheetTree a n) (sym y ∙ e)
+          (λ t i. sym (answers x (some t) none i (none-of (sheetTree b m) (sym z ∙ f))))
+
+      module _ (z : q ≡ true) where
+        trees : {G : Type 0} → ((t u : Tree) → sheetTree a n ≡ some t → sheetTree b m ≡ some u → Sheet a n t → Sheet b m u → G) → G
+        trees g = tree-of (sheetTree a n) (sym y ∙ e) (λ t i. tree-of (sheetTree b m) (sym z ∙ f) (λ u j. g t u i j (sheet-of a n t i) (sheet-of b m u j)))
+
+        pub two-sheets : Sheets (take n a) (take m b)
+        two-sheets =
+            trees
+            (λ t u i j s k. record {
+              left = t;
+              leftIs = s .decoded;
+              leftShort = omega (arith, ap length (s .is), s .fitting .long);
+              right = u;
+              rightIs = k .decoded;
+              rightShort = omega (arith, ap length (k .is), k .fitting .long);
+            })
+
+        pub compared : (x : List ℕ) (s : Bool) → s ≡ same (the (decode₁ (take n a))) (the (decode₁ (take m b))) x → told (Accepted s) ≡ comparing a n b m x
+        unfolding isNone the
+        compared x s w =
+            trees
+            (λ t u i j g h.
+            let v : s ≡ same t u x = w ∙ ap₂ (λ (t u : Tree). same t u x) (ap the (g .decoded)) (ap the (h .decoded)) in
+            sym (answers x (some t) (some u) i j ∙ ap (λ (v : Bool). told (Accepted v)) (sym v)))

@@ -1,0 +1,42 @@
+use native.Mathlib.Omega.{arith}
+use Rattle.lookup.proofs.Answered.{sheet-length, two-sheets, compared, right-refused, left-refused}
+use borrow.Author.Needs.{needs}
+use Rattle.lookup.proofs.same.Statement.{statement}
+use Rattle.lookup.proofs.same.Tie as tie
+
+sheet-requires : tie.Need-sheet-requires
+sheet-requires c κs = search needs
+
+sheet-requires-2 : tie.Need-sheet-requires-2
+sheet-requires-2 c κs = search needs
+
+slice-aggregate-left : tie.Need-slice-aggregate-left
+slice-aggregate-left c = search (sheet-length, arith)
+
+slice-aggregate-right : tie.Need-slice-aggregate-right
+slice-aggregate-right c = search (sheet-length, arith)
+
+alike-requires : tie.Need-alike-requires
+alike-requires c κs = search (two-sheets, arith)
+
+returns : tie.Need-returns
+returns c = search (compared, arith)
+
+returns-2 : tie.Need-returns-2
+returns-2 c = search (right-refused, arith)
+
+returns-3 : tie.Need-returns-3
+returns-3 c = search (left-refused, arith)
+
+pub same-spec : {M : Type 1} → statement M
+same-spec =
+    tie.close
+    (tie.spec
+    sheet-requires
+    sheet-requires-2
+    slice-aggregate-left
+    slice-aggregate-right
+    alike-requires
+    returns
+    returns-2
+    returns-3)

@@ -1,0 +1,176 @@
+// Sheets looked into: whether octets are one, whether a table is its own, what a node shows, and two of them compared.
+mod alike;
+
+ghost use mathlib.Core.Path.{_≡_};
+ghost use Prim.Native.Nat.{_+_, _*_, _≤_, _<_};
+ghost use lib.ListN.{length, getD};
+ghost use Rattle.base.specs.Choice.{not, isNone};
+ghost use Rattle.model.specs.Answers.{sheetTree, ownTree, hintPart, dataPart, hintShown, dataShown, comparing};
+ghost use Rattle.lookup.specs.Answers.{placed, told, InRecord};
+use walk::Extent;
+
+// Where a part of a sheet stands, if one is shown.
+pub enum Place {
+    Part { start: usize, end: usize },
+    NoPart,
+}
+
+// Whether two sheets are the same, or the number of the refusal.
+pub enum Comparing {
+    Accepted { same: bool },
+    Refused { number: u32 },
+}
+
+// Whether the first `length` octets are one fitting canonical form (01: a sheet).
+pub fn sheet(canonical: &[u8], length: usize) -> bool
+    ensures { λ r. ⌜ r ≡ not (isNone (sheetTree (now (canonical .entry)) length)) ⌝ }
+{
+    if length > canonical.len() {
+        return false;
+    }
+    if length > 16384 {
+        return false;
+    }
+    let part = &canonical[..length];
+    match canonical::measure(part) {
+        Extent::Whole {
+            len: _,
+            nodes,
+            depth,
+        } => {
+            if depth > 32 {
+                return false;
+            }
+            nodes <= 4096
+        }
+        Extent::Refused => false,
+    }
+}
+
+// Whether, besides, the first `nodes` records are its table (01: the sheet's own).
+pub fn own_sheet(canonical: &[u8], length: usize, table: &[u32], nodes: usize) -> bool
+    ensures { λ r. ⌜ r ≡ not (isNone (ownTree (now (canonical .entry)) length (now (table .entry)) nodes)) ⌝ }
+{
+    if length > canonical.len() {
+        return false;
+    }
+    if length > 16384 {
+        return false;
+    }
+    if nodes > 4096 {
+        return false;
+    }
+    if nodes > table.len() / 8 {
+        return false;
+    }
+    let part = &canonical[..length];
+    index::own(part, table, nodes)
+}
+
+// The k-th number of a node's record.
+fn number(table: &[u32], node: usize, k: usize) -> usize
+    requires { ⌜ InRecord (length (now table)) node k ⌝ }
+    ensures { λ r. ⌜ r ≡ getD (now (table .entry)) (node * 8 + k) 0 ⌝ }
+{
+    table[node * 8 + k] as usize
+}
+
+// Where a node's hint stands, if it is a string with a hint.
+pub fn hint_place(
+    canonical: &[u8],
+    length: usize,
+    table: &[u32],
+    nodes: usize,
+    node: usize,
+) -> Place
+    ensures { λ r. ⌜ placed r ≡ hintPart (now (canonical .entry)) length (now (table .entry)) nodes node ⌝ }
+{
+    if own_sheet(canonical, length, table, nodes) {
+        if node >= nodes {
+            return Place::NoPart;
+        }
+        if number(table, node, 0) != 1 {
+            return Place::NoPart;
+        }
+        Place::Part {
+            start: number(table, node, 4),
+            end: number(table, node, 5),
+        }
+    } else {
+        Place::NoPart
+    }
+}
+
+// Where a node's data stands.
+pub fn data_place(
+    canonical: &[u8],
+    length: usize,
+    table: &[u32],
+    nodes: usize,
+    node: usize,
+) -> Place
+    ensures { λ r. ⌜ placed r ≡ dataPart (now (canonical .entry)) length (now (table .entry)) nodes node ⌝ }
+{
+    if own_sheet(canonical, length, table, nodes) {
+        if node >= nodes {
+            return Place::NoPart;
+        }
+        Place::Part {
+            start: number(table, node, 6),
+            end: number(table, node, 7),
+        }
+    } else {
+        Place::NoPart
+    }
+}
+
+// A node's hint: the part of the sheet that holds it, else the default.
+pub fn hint<'a>(
+    canonical: &'a [u8],
+    length: usize,
+    table: &[u32],
+    nodes: usize,
+    node: usize,
+    default_hint: &'a [u8],
+) -> &'a [u8]
+    ensures { λ r. ⌜ now r ≡ hintShown (now (canonical .entry)) length (now (table .entry)) nodes node (now («default_hint» .entry)) ⌝ }
+{
+    match hint_place(canonical, length, table, nodes, node) {
+        Place::Part { start, end } => &canonical[start..end],
+        Place::NoPart => default_hint,
+    }
+}
+
+// A node's data: the part of the sheet that holds it, else an empty part.
+pub fn data<'a>(
+    canonical: &'a [u8],
+    length: usize,
+    table: &[u32],
+    nodes: usize,
+    node: usize,
+) -> &'a [u8]
+    ensures { λ r. ⌜ now r ≡ dataShown (now (canonical .entry)) length (now (table .entry)) nodes node ⌝ }
+{
+    match data_place(canonical, length, table, nodes, node) {
+        Place::Part { start, end } => &canonical[start..end],
+        Place::NoPart => &canonical[0..0],
+    }
+}
+
+// Two sheets compared: the same shape, data and hints, where a missing hint counts as the default.
+pub fn same(a: &[u8], a_length: usize, b: &[u8], b_length: usize, default_hint: &[u8]) -> Comparing
+    ensures { λ r. ⌜ told r ≡ comparing (now (a .entry)) «a_length» (now (b .entry)) «b_length» (now («default_hint» .entry)) ⌝ }
+{
+    if sheet(a, a_length) {
+        if sheet(b, b_length) {
+            let left = &a[..a_length];
+            let right = &b[..b_length];
+            let same = alike::alike(left, right, default_hint);
+            Comparing::Accepted { same }
+        } else {
+            Comparing::Refused { number: 7 }
+        }
+    } else {
+        Comparing::Refused { number: 7 }
+    }
+}

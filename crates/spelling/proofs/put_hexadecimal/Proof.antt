@@ -1,0 +1,38 @@
+use native.Mathlib.Omega.{arith}
+use Rattle.spelling.proofs.Putting.{mark-body, mark-last, mark-long, mark-both}
+use borrow.Author.Needs.{needs}
+use Rattle.spelling.proofs.put_hexadecimal.Statement.{statement}
+use Rattle.spelling.proofs.put_hexadecimal.Tie as tie
+
+slice-write-out : tie.Need-slice-write-out
+slice-write-out c = search needs
+
+add-put-pairs : tie.Need-add-put-pairs
+add-put-pairs c = search needs
+
+put-pairs-requires : tie.Need-put-pairs-requires
+put-pairs-requires c κs = search (mark-body, arith)
+
+slice-write-out-2 : tie.Need-slice-write-out-2
+slice-write-out-2 c = search (mark-last, arith)
+
+add-result : tie.Need-add-result
+add-result c = search needs
+
+same-length : tie.Need-same-length
+same-length c = search (mark-long, arith)
+
+returns : tie.Need-returns
+returns c = search (mark-both, arith)
+
+pub put-hexadecimal-spec : {M : Type 1} → statement M
+put-hexadecimal-spec =
+    tie.close
+    (tie.spec
+    slice-write-out
+    add-put-pairs
+    put-pairs-requires
+    slice-write-out-2
+    add-result
+    same-length
+    returns)

@@ -1,0 +1,38 @@
+use native.Mathlib.Omega.{arith}
+use Rattle.spelling.proofs.Putting.{mark-body, mark-last, mark-long, mark-both}
+use borrow.Author.Needs.{needs}
+use Rattle.spelling.proofs.put_quoted.Statement.{statement}
+use Rattle.spelling.proofs.put_quoted.Tie as tie
+
+slice-write-out : tie.Need-slice-write-out
+slice-write-out c = search needs
+
+add-put-octets : tie.Need-add-put-octets
+add-put-octets c = search needs
+
+put-octets-requires : tie.Need-put-octets-requires
+put-octets-requires c κs = search (mark-body, arith)
+
+slice-write-out-2 : tie.Need-slice-write-out-2
+slice-write-out-2 c = search (mark-last, arith)
+
+add-result : tie.Need-add-result
+add-result c = search needs
+
+same-length : tie.Need-same-length
+same-length c = search (mark-long, arith)
+
+returns : tie.Need-returns
+returns c = search (mark-both, arith)
+
+pub put-quoted-spec : {M : Type 1} → statement M
+put-quoted-spec =
+    tie.close
+    (tie.spec
+    slice-write-out
+    add-put-octets
+    put-octets-requires
+    slice-write-out-2
+    add-result
+    same-length
+    returns)
