@@ -1,0 +1,38 @@
+use native.Mathlib.Omega.{arith}
+use Rattle.write.proofs.Forms.{good-short, basic-refused, good-length, good-sheet, basic-room, basic-written}
+use borrow.Author.Needs.{needs}
+use Rattle.write.proofs.write_basic.Statement.{statement}
+use Rattle.write.proofs.write_basic.Tie as tie
+
+basic-len-requires : tie.Need-basic-len-requires
+basic-len-requires c κs = search (good-short, arith)
+
+refused-requires : tie.Need-refused-requires
+refused-requires c κs = search needs
+
+returns : tie.Need-returns
+returns c = search (basic-refused, arith)
+
+slice-aggregate-part : tie.Need-slice-aggregate-part
+slice-aggregate-part c = search (good-length, arith)
+
+put-basic-requires : tie.Need-put-basic-requires
+put-basic-requires c κs = (search (good-sheet, arith), search (basic-room, arith))
+
+same-length : tie.Need-same-length
+same-length c = search needs
+
+returns-2 : tie.Need-returns-2
+returns-2 c = search (basic-written, arith)
+
+pub write-basic-spec : {M : Type 1} → statement M
+write-basic-spec =
+    tie.close
+    (tie.spec
+    basic-len-requires
+    refused-requires
+    returns
+    slice-aggregate-part
+    put-basic-requires
+    same-length
+    returns-2)
