@@ -66,7 +66,7 @@ fit t f =
     let v : (leb (nodes t) 4096 ≡ true) × (leb (length (canon t)) 16384 ≡ true) = both-true (w .1) in
     record { deep = leb-true _ _ (w .0); many = leb-true _ _ (v .0); long = leb-true _ _ (v .1) }
 
-fitted : (t : Tree) → depth t ≤ 32 → nodes t ≤ 4096 → length (canon t) ≤ 16384 → fits t ≡ true
+pub fitted : (t : Tree) → depth t ≤ 32 → nodes t ≤ 4096 → length (canon t) ≤ 16384 → fits t ≡ true
 unfolding fits
 fitted t d n l = true-both (le-leb _ _ d) (true-both (le-leb _ _ n) (le-leb _ _ l))
 

@@ -1,2 +1,3 @@
 pub mod Forms
 pub mod Entry
+pub mod RoundTrip
