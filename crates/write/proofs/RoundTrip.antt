@@ -24,27 +24,27 @@ use Rattle.lookup.proofs.Sheets.{Sheet, sheet-of, fitted}
 
 -- ---- nothing applied
 
-no-row : {A : Type 0} (number : A → ℕ) (cs : List Check) (accepted : A) (refused : ℕ → A)
+pub no-row : {A : Type 0} (number : A → ℕ) (cs : List Check) (accepted : A) (refused : ℕ → A)
     → ((n : ℕ) → number (refused n) ≡ n) → number (judged cs accepted refused) ≡ 0 → verdict cs ≡ 0
 no-row number cs accepted refused same e =
     by-eq (verdict cs) 0 (λ z. z)
     (λ n. absurd (n (sym (ap number (judged-refused cs accepted refused (verdict cs) refl (omega arith)) ∙ same (verdict cs)) ∙ e)))
 
-not-this : (n : ℕ) (t : Bool) (cs : List Check) → 0 < n → verdict (when n t ∷ cs) ≡ 0 → (t ≡ false) × (verdict cs ≡ 0)
+pub not-this : (n : ℕ) (t : Bool) (cs : List Check) → 0 < n → verdict (when n t ∷ cs) ≡ 0 → (t ≡ false) × (verdict cs ≡ 0)
 unfolding verdict
 not-this n t cs h e =
     by-bool t
     (λ y. let z : n ≡ 0 = sym (picked _ _ y) ∙ e in absurd (omega arith))
     (λ y. (y, sym (unpicked _ _ y) ∙ e))
 
-past : (n : ℕ) (t : Bool) (cs : List Check) → t ≡ false → verdict cs ≡ 0 → verdict (when n t ∷ cs) ≡ 0
+pub past : (n : ℕ) (t : Bool) (cs : List Check) → t ≡ false → verdict cs ≡ 0 → verdict (when n t ∷ cs) ≡ 0
 past n t cs e f = verdict-past n t cs e ∙ f
 
-none-applies : verdict [] ≡ 0
+pub none-applies : verdict [] ≡ 0
 unfolding verdict
 none-applies = refl
 
-there : {G : Type 0} (o : Option Tree) → isNone o ≡ false → ((t : Tree) → o ≡ some t → G) → G
+pub there : {G : Type 0} (o : Option Tree) → isNone o ≡ false → ((t : Tree) → o ≡ some t → G) → G
 unfolding isNone
 there none e g = untrue (sym e)
 there (some t) e g = g t refl
