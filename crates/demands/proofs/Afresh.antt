@@ -1,0 +1,76 @@
+-- Demand 3, "Correcting one entry equals starting again."
+use Prim.Native.Nat.{ℕ, _*_, _/_, _≤_}
+use native.Mathlib.Omega.{arith}
+use mathlib.Core.Path.{_≡_, refl, sym, ap, _∙_, subst}
+use mathlib.Core.Bool.{false}
+use mathlib.Core.Option.{some}
+use mathlib.Core.List.{List}
+use lib.ListN.{length, take}
+use lib.Seq.{take-append-seam, take-at}
+use Rattle.model.specs.Answers.{noForm, settled, Outcome, filled, reading, replacing}
+use Rattle.model.specs.Decode.{decode}
+use Rattle.model.specs.Edit.{replace}
+use Rattle.model.specs.Limits.{maxDepth, maxNodes, maxCanonical}
+use Rattle.model.specs.Table.{width, tableOf, records}
+use Rattle.model.specs.Tree.{Tree, canon, nodes, depth}
+use Rattle.model.proofs.Exact.{canon-complete}
+use Rattle.walk.proofs.Tabled.{table-length}
+use Rattle.write.proofs.RoundTrip.{reads}
+use Rattle.demands.specs.Conditions.{Conditions, SameResult}
+use Rattle.demands.proofs.Refused.{accepted, conditions}
+
+-- what stands in the front of lent space that a tree was put in, whatever stood there before
+module _ (t : Tree) (oldOctets oldCount : ℕ) (canonical table : List ℕ) where
+  front-octets : take (filled t oldOctets oldCount canonical table .octets) (filled t oldOctets oldCount canonical table .canonical) ≡ canon t
+  unfolding filled settled
+  front-octets = take-append-seam (canon t) _
+
+  front-table : take (width * filled t oldOctets oldCount canonical table .count) (filled t oldOctets oldCount canonical table .table) ≡ tableOf t
+  unfolding filled settled
+  front-table = take-at (tableOf t) _ (width * nodes t) (table-length t)
+
+same-tree : (t : Tree) (a b c d : ℕ) (l m n o : List ℕ) → SameResult (filled t a b l m) (filled t c d n o)
+unfolding filled
+same-tree t a b c d l m n o =
+    record {
+      accepted = refl;
+      octets = refl;
+      count = refl;
+      canonical = front-octets t a b l m ∙ sym (front-octets t c d n o);
+      table = front-table t a b l m ∙ sym (front-table t c d n o);
+    }
+
+-- a canonical form that fits, read in form 1
+reads-canonical : (t : Tree) (canonical table : List ℕ) → depth t ≤ maxDepth → nodes t ≤ maxNodes → nodes t ≤ records table
+    → length (canon t) ≤ maxCanonical → length (canon t) ≤ length canonical → reading 1 (canon t) canonical table ≡ filled t 0 0 canonical table
+unfolding decode noForm
+reads-canonical t canonical table a b b′ l l′ = reads 1 (canon t) canonical table t refl (omega arith) (canon-complete t) a b b′ l l′
+
+module _ (form : ℕ) (text canonical table : List ℕ) (len count node : ℕ) (e : replacing form text canonical table len count node .number ≡ 0) where
+  abbrev answer : Outcome
+  answer = replacing form text canonical table len count node
+
+  abbrev c : Conditions form text canonical table len count node
+  c = conditions form text canonical table len count node e
+
+  abbrev now : Tree
+  now = replace (c .old) node (c .new)
+
+  filled-now : answer ≡ filled now len count canonical table
+  filled-now = accepted form text canonical table len count node c
+
+  -- 01, "The corrected sheet is that tree's canonical form"
+  pub corrected-sheet : take (answer .octets) (answer .canonical) ≡ canon now
+  corrected-sheet = ap (λ (o : Outcome). take (o .octets) (o .canonical)) filled-now ∙ front-octets now len count canonical table
+
+  pub corrected-table : take (width * answer .count) (answer .table) ≡ tableOf now
+  corrected-table = ap (λ (o : Outcome). take (width * o .count) (o .table)) filled-now ∙ front-table now len count canonical table
+
+  -- 01, "Reading it afresh is reading it in form 1 into a sheet and a table of the same room"
+  pub afresh : (canonical′ table′ : List ℕ) → length canonical′ ≡ length canonical → length table′ ≡ length table
+      → SameResult answer (reading 1 (take (answer .octets) (answer .canonical)) canonical′ table′)
+  afresh canonical′ table′ h k =
+      let f : reading 1 (take (answer .octets) (answer .canonical)) canonical′ table′ ≡ filled now 0 0 canonical′ table′
+      = ap (λ (s : List ℕ). reading 1 s canonical′ table′) corrected-sheet
+      ∙ reads-canonical now canonical′ table′ (c .shallow) (c .few) (subst (λ (n : ℕ). nodes now ≤ n / width) (sym k) (c .recorded)) (c .small) (omega (arith, c .roomy)) in
+      subst (λ (o : Outcome). SameResult answer o) (sym f) (subst (λ (o : Outcome). SameResult o (filled now 0 0 canonical′ table′)) (sym filled-now) (same-tree now len count 0 0 canonical table canonical′ table′))

@@ -1,0 +1,54 @@
+-- The conditions of demand 3, in 01's words for them, and the first row of a list of checks that applies.
+use Prim.Native.Nat.{ℕ, _*_, _≤_, _<_}
+use mathlib.Core.Path.{_≡_}
+use mathlib.Core.Bool.{true, false}
+use mathlib.Core.Option.{some}
+use mathlib.Core.List.{List, [], _∷_, _++_}
+use lib.ListN.{length, take}
+use Rattle.model.specs.Answers.{Check, when, noForm, ownTree, Outcome}
+use Rattle.model.specs.Decode.{decode}
+use Rattle.model.specs.Edit.{replace}
+use Rattle.model.specs.Limits.{maxSource, maxDepth, maxNodes, maxCanonical}
+use Rattle.model.specs.Table.{width, records}
+use Rattle.model.specs.Tree.{Tree, canon, nodes, depth}
+
+-- demand 3, "every sheet with its own table, every entry in it and every valid replacement text within the limit for texts,
+-- where the corrected tree fits the limits and the room lent"
+pub record Conditions (form : ℕ) (text canonical table : List ℕ) (len count node : ℕ) : Type 0 where
+  pub new : Tree
+  pub old : Tree
+  -- 01, "A replacement text is valid when rows 1 and 3 don't apply; the limit for texts is row 2"
+  pub known : noForm form ≡ false
+  pub short : length text ≤ maxSource
+  pub valid : decode form text ≡ some new
+  -- 01, "A sheet has its own table when row 7 doesn't apply"
+  pub own : ownTree canonical len table count ≡ some old
+  -- 01, "an entry is a node, told by its number, and row 8 says that it is missing"
+  pub present : node < count
+  -- 01, "the limits and the room lent are rows 4 to 6, for the corrected tree"
+  pub shallow : depth (replace old node new) ≤ maxDepth
+  pub few : nodes (replace old node new) ≤ maxNodes
+  pub recorded : nodes (replace old node new) ≤ records table
+  pub small : length (canon (replace old node new)) ≤ maxCanonical
+  pub roomy : length (canon (replace old node new)) ≤ length canonical
+
+-- none of the checks applies
+pub data Quiet : List Check → Type 0 where
+  no-check : Quiet []
+  not-applying : {n : ℕ} {cs : List Check} → Quiet cs → Quiet (when n false ∷ cs)
+
+-- 01, "The first that applies in this order": the row n
+pub record First (cs : List Check) (n : ℕ) : Type 0 where
+  pub before : List Check
+  pub after : List Check
+  pub is : cs ≡ before ++ (when n true ∷ after)
+  pub quiet : Quiet before
+
+-- demand 3, "The length and node count answered, the octets up to that length and the records up to that count are those that
+-- reading the corrected sheet afresh gives"
+pub record SameResult (corrected fresh : Outcome) : Type 0 where
+  pub accepted : fresh .number ≡ 0
+  pub octets : corrected .octets ≡ fresh .octets
+  pub count : corrected .count ≡ fresh .count
+  pub canonical : take (corrected .octets) (corrected .canonical) ≡ take (fresh .octets) (fresh .canonical)
+  pub table : take (width * corrected .count) (corrected .table) ≡ take (width * fresh .count) (fresh .table)
