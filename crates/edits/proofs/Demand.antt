@@ -17,7 +17,7 @@ use Rattle.edits.specs.Node.{nodeAmong, nodeAt, holds}
 use Rattle.edits.specs.Outside.{stepsOver}
 use Rattle.edits.specs.Place.{fill, level, outer, moved, grown, around, kept}
 use Rattle.edits.proofs.Find.{nodes-pos, nodeAt-among, node-at}
-use Rattle.edits.proofs.Flat.{flat-append}
+use Rattle.walk.proofs.Tabled.{flat-append}
 use Rattle.edits.proofs.Holds.{holds-count, holds-at, node-side, around-holds, holds-list, holds-node}
 use Rattle.edits.proofs.Moved.{new-length, octets-front, octets-entry, octets-back, octet-before, octet-new, octet-after, record-aside, record-around, record-new, record-after}
 use Rattle.edits.proofs.Outside.{walk-outside, over-front, over-back}

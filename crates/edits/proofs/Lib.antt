@@ -8,6 +8,5 @@ pub mod Moved
 pub mod Steps
 pub mod Outside
 pub mod Holds
-pub mod Flat
 pub mod Demand
 mod Examples

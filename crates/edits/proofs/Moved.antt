@@ -11,7 +11,7 @@ use Rattle.model.specs.Table.{Row, plainRow, rows, rowss, rowOf}
 use Rattle.model.specs.Tree.{Tree, Forest, canon, canons, nodes, nodess}
 use Rattle.edits.specs.Moves.{Moves}
 use Rattle.edits.specs.Place.{moved, grown, around, kept}
-use Rattle.edits.proofs.Rows.{rows-length, rowss-length}
+use Rattle.walk.proofs.Tabled.{rows-length, rowss-length}
 
 -- ---- lists in three parts
 module _ {A : Type 0} (a b c : List A) (d : A) where

@@ -11,6 +11,7 @@ use Rattle.base.proofs.Cases.{by-le}
 use Rattle.edits.specs.Place.{before, number, past, Place, here, down, fill, after, lead, trail, moved, grown, around, kept}
 use Rattle.model.specs.Table.{Row, rows, rowss}
 use Rattle.model.specs.Tree.{Tree, plain, hinted, list, Forest, nil, cons, verbatim, canon, canons, nodes, nodess}
+use Rattle.walk.proofs.Tabled.{rows-length, rowss-length}
 use Rattle.edits.proofs.Fill.{fill-rows}
 
 pub row-path : {a a' b b' c c' d d' e e' f f' g g' h h' : ℕ} → a ≡ a' → b ≡ b' → c ≡ c' → d ≡ d' → e ≡ e' → f ≡ f' → g ≡ g' → h ≡ h'
@@ -20,19 +21,6 @@ row-path a b c d e f g h = λ i. record { kind = a i; start = b i; end = c i; co
 pub map-append : {A B : Type 0} (f : A → B) (k l : List A) → map f (k ++ l) ≡ map f k ++ map f l
 map-append f [] l = refl
 map-append f (x ∷ k) l = ap (f x ∷_) (map-append f k l)
-
--- ---- as many rows as nodes
-mutual
-  unfolding rows nodes
-
-  pub rows-length : (t : Tree) (at : ℕ) → length (rows t at) ≡ nodes t
-  rows-length (plain d) at = refl
-  rows-length (hinted h d) at = refl
-  rows-length (list f) at = omega (arith, rowss-length f (at + 1))
-
-  pub rowss-length : (f : Forest) (at : ℕ) → length (rowss f at) ≡ nodess f
-  rowss-length nil at = refl
-  rowss-length (cons t f) at = omega (arith, length-append (rows t at) (rowss f (at + length (canon t))), rows-length t at, rowss-length f (at + length (canon t)))
 
 pub lead-length : (p : Place) (at l n : ℕ) → length (lead p at l n) ≡ number p
 unfolding lead number

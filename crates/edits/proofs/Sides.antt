@@ -10,7 +10,8 @@ use Rattle.model.specs.Edit.{one}
 use Rattle.edits.specs.Place.{before, number, past, Place, here, down, fill, after, beyond, lead, trail}
 use Rattle.model.specs.Table.{Row, plainRow, rows, rowss, rowOf}
 use Rattle.model.specs.Tree.{Tree, plain, hinted, list, Forest, nil, cons, canon, canons, nodes, nodess}
-use Rattle.edits.proofs.Rows.{rows-length, rowss-length, lead-length}
+use Rattle.walk.proofs.Tabled.{rows-length, rowss-length}
+use Rattle.edits.proofs.Rows.{lead-length}
 use Rattle.edits.proofs.Whole.{nodes-at, rows-at}
 
 -- row i is that of a node that ends by octet s and by node k
