@@ -56,7 +56,7 @@ module _ (form : ℕ) (text canonical table : List ℕ) (len count node : ℕ) (
   abbrev now : Tree
   now = replace (c .old) node (c .new)
 
-  filled-now : answer ≡ filled now len count canonical table
+  pub filled-now : answer ≡ filled now len count canonical table
   filled-now = accepted form text canonical table len count node c
 
   -- 01, "The corrected sheet is that tree's canonical form"

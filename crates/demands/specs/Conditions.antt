@@ -4,7 +4,7 @@ use mathlib.Core.Path.{_≡_}
 use mathlib.Core.Bool.{true, false}
 use mathlib.Core.Option.{some}
 use mathlib.Core.List.{List, [], _∷_, _++_}
-use lib.ListN.{length, take}
+use lib.ListN.{length, take, drop}
 use Rattle.model.specs.Answers.{Check, when, noForm, ownTree, Outcome}
 use Rattle.model.specs.Decode.{decode}
 use Rattle.model.specs.Edit.{replace}
@@ -52,3 +52,7 @@ pub record SameResult (corrected fresh : Outcome) : Type 0 where
   pub count : corrected .count ≡ fresh .count
   pub canonical : take (corrected .octets) (corrected .canonical) ≡ take (fresh .octets) (fresh .canonical)
   pub table : take (width * corrected .count) (corrected .table) ≡ take (width * fresh .count) (fresh .table)
+
+-- the numbers of node j's record in a lent table
+unfoldable pub recordAt : List ℕ → ℕ → List ℕ
+recordAt table j = take width (drop (width * j) table)
