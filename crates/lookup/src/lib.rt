@@ -68,7 +68,7 @@ pub fn own_sheet(canonical: &[u8], length: usize, table: &[u32], nodes: usize) -
 }
 
 // The k-th number of a node's record.
-fn number(table: &[u32], node: usize, k: usize) -> usize
+pub fn number(table: &[u32], node: usize, k: usize) -> usize
     requires { ⌜ InRecord (length (now table)) node k ⌝ }
     ensures { λ r. ⌜ r ≡ getD (now (table .entry)) (node * 8 + k) 0 ⌝ }
 {

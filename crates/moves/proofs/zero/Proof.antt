@@ -1,0 +1,46 @@
+use Prim.Native.Nat.{_-_}
+use native.Mathlib.Omega.{arith}
+use Rattle.moves.proofs.Cells.{Zeroing, zero-start, zero-on, zero-long, zero-end}
+use Rattle.moves.proofs.zero.Statement.{statement}
+use Rattle.moves.proofs.zero.Tie as tie
+
+abbrev Inv-loop : tie.InvT-loop
+Inv-loop buf₀ from to j₀ buf j = Zeroing buf₀ from to buf j
+
+abbrev μ-loop : tie.MeasureT-loop
+μ-loop buf₀ from to j₀ buf j = to - j
+
+loop-holds : tie.Need-loop-holds Inv-loop μ-loop
+loop-holds c = search (zero-start, arith)
+
+slice-write-buf : tie.Need-slice-write-buf Inv-loop μ-loop
+slice-write-buf c = omega arith
+
+add-j : tie.Need-add-j Inv-loop μ-loop
+add-j c = omega arith
+
+loop-less : tie.Need-loop-less Inv-loop μ-loop
+loop-less c = omega arith
+
+loop-again : tie.Need-loop-again Inv-loop μ-loop
+loop-again c = search (zero-on, arith)
+
+same-length : tie.Need-same-length Inv-loop μ-loop
+same-length c = search (zero-long, arith)
+
+returns : tie.Need-returns Inv-loop μ-loop
+returns c = search (zero-end, arith)
+
+pub zero-spec : {M : Type 1} → statement M
+zero-spec =
+    tie.close
+    (tie.spec
+    Inv-loop
+    μ-loop
+    loop-holds
+    slice-write-buf
+    add-j
+    loop-less
+    loop-again
+    same-length
+    returns)
