@@ -9,17 +9,14 @@ use lib.ListN.{length, getD}
 use lib.Dec.{leb}
 use borrow.Author.Tests.{le-leb, lt-leb}
 use Rattle.base.specs.Choice.{not, isNone}
-use Rattle.model.specs.Answers.{verdict, the, roomChecks, fitting, ownTree, unchanged, filled}
+use Rattle.model.specs.Answers.{verdict, the, roomChecks, ownTree, unchanged, filled}
 use Rattle.model.specs.Edit.{replace}
-use Rattle.model.specs.Strings.{decoded}
 use Rattle.model.specs.Tree.{Tree, canon, nodes, depth}
 use Rattle.model.proofs.Judging.{judged-accepted, judged-refused, verdict-here, verdict-past}
-use Rattle.walk.specs.Count.{count}
 use Rattle.reader.specs.Stored.{roomVerdict}
 use Rattle.reader.proofs.Rooms.{rooms}
 use Rattle.lookup.proofs.Sheets.{tree-of, none-of, Own, own-of, own-lent}
 use Rattle.lookup.proofs.Shown.{table-at}
-use Rattle.outside.specs.Passing.{counted}
 use Rattle.plan.specs.Planned.{treeChecks, replaceTree, Finds}
 use Rattle.plan.specs.declared.Found.the-variants.{Node, Unfound}
 

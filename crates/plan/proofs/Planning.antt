@@ -2,15 +2,12 @@
 use Prim.Native.Nat.{ℕ, _≤_, _<_}
 use native.Mathlib.Omega.{arith}
 use mathlib.Core.Path.{_≡_, sym, _∙_, subst}
-use mathlib.Core.Option.{none}
 use mathlib.Core.List.{List}
 use lib.ListN.{length}
 use Rattle.model.specs.Edit.{replace}
 use Rattle.model.specs.Tree.{Tree, canon, nodes, depth}
-use Rattle.walk.specs.Count.{count}
 use Rattle.reader.specs.Stored.{roomVerdict}
 use Rattle.reader.proofs.Rooms.{Lodged, roomy}
-use Rattle.outside.specs.Passing.{counted}
 use Rattle.plan.specs.Planned.{Sized, Small, Entered, Refusing, Finds, Resizable, Resized, Plans}
 use Rattle.plan.proofs.Finding.{node-refused, node-accepted}
 use Rattle.plan.specs.declared.Sizes.{Sizes}

@@ -8,10 +8,10 @@ use lib.Seq.{length-take-le}
 use Rattle.model.specs.Edit.{replace}
 use Rattle.model.specs.Tree.{Tree, plain, hinted, list, Forest, nil, cons, canon, nodes, nodess, depth, depths}
 use Rattle.model.proofs.Exact.{canon-sound}
-use Rattle.walk.specs.Count.{count, begin}
+use Rattle.walk.specs.Count.{begin}
 use Rattle.edits.specs.Outside.{stepsOver}
 use Rattle.edits.proofs.Demand.{entry-in, replace-length, replace-nodes, replace-depth-walked}
-use Rattle.outside.specs.Passing.{counted, Noded, Outlined}
+use Rattle.outside.specs.Passing.{Noded, Outlined}
 use Rattle.plan.specs.Planned.{Sized, AtNode, Resizable, Resized}
 use Rattle.plan.specs.declared.Sizes.{Sizes}
 

@@ -6,12 +6,10 @@ use mathlib.Core.Option.{Option}
 use mathlib.Core.List.{List}
 use lib.ListN.{length, take, drop, replicate}
 use lib.Seq.{sets, length-take-le}
-use Rattle.model.specs.Answers.{the, fits, reading}
+use Rattle.model.specs.Answers.{the}
 use Rattle.model.specs.Decode.{decode₁}
-use Rattle.model.specs.Limits.{Accepted}
-use Rattle.model.specs.Table.{width, numbers, tableOf, records}
+use Rattle.model.specs.Table.{width, tableOf}
 use Rattle.model.specs.Tree.{Tree}
-use Rattle.walk.specs.Count.{count}
 use Rattle.walk.proofs.Tabled.{table-length}
 use Rattle.index.specs.Indexed.{Indexable}
 use Rattle.answers.specs.Cases.{outcome}

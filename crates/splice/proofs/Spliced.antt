@@ -7,7 +7,6 @@ use lib.ListN.{length-replicate, length, take, drop, replicate, length-append, l
 use lib.Seq.{take-add, take-take, sets-eq, take-at, drop-at, sets, length-take-le}
 use Rattle.base.proofs.Stores.{sets-append, sets-join, sets-all}
 use Rattle.model.specs.Answers.{settled}
-use Rattle.walk.proofs.Walked.{tail}
 
 -- what ends at a length, from a place on
 pub drop-take : (l : List ℕ) (i n : ℕ) → i ≤ n → i ≤ length l → drop i (take n l) ≡ take (n - i) (drop i l)

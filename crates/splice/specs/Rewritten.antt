@@ -9,7 +9,7 @@ use Rattle.model.specs.Tree.{Tree, nodes, depth}
 use Rattle.model.specs.Table.{width, tableOf}
 use Rattle.model.specs.Decode.{decode₁}
 use Rattle.model.specs.Limits.{Accepted, maxDepth, maxNodes, maxCanonical}
-use Rattle.model.specs.Answers.{Outcome, the, settled}
+use Rattle.model.specs.Answers.{the, settled}
 use Rattle.answers.specs.declared.Reading.{Reading}
 use Rattle.answers.specs.Cases.{outcome}
 

@@ -1,0 +1,4 @@
+pub mod Replacing
+pub mod Written
+pub mod Braces
+pub mod Entry
