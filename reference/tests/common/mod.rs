@@ -1,6 +1,7 @@
 //! What the tests share.
-#![allow(dead_code)] // Each test file uses a part of it.
+#![allow(dead_code, unused_imports)] // Each test file uses a part of it.
 
+pub use reference::corpus::fixed::sizes::{empties, nested, verbatim};
 use reference::entries::{self, Reading};
 use reference::limits::{MAX_CANONICAL, MAX_NODES, RECORD};
 use reference::tree::Tree;
@@ -114,21 +115,6 @@ impl Pair {
             Reading::Accepted { .. } => panic!("accepted"),
         }
     }
-}
-
-/// Lists, each in the one before.
-pub fn nested(count: usize) -> Vec<u8> {
-    [vec![b'('; count], vec![b')'; count]].concat()
-}
-
-/// A canonical list of that many empty strings.
-pub fn empties(count: usize) -> Vec<u8> {
-    [b"(", &b"0:".repeat(count)[..], b")"].concat()
-}
-
-/// A verbatim string of that many octets.
-pub fn verbatim(octet: u8, count: usize) -> Vec<u8> {
-    [format!("{count}:").as_bytes(), &vec![octet; count]].concat()
 }
 
 /// A text with spaces after it up to that size.
