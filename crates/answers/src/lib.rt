@@ -1,5 +1,5 @@
 // What the entries answer. specs/ gives 01's number and values for each case.
-ghost use Rattle.answers.specs.Cases.{Refuses};
+ghost use Rattle.answers.specs.Cases.{Refuses, RefusesWriting, RefusesComparing};
 
 // Why something was refused: the number of the row in document 01's table.
 pub struct Refusal {
@@ -12,11 +12,47 @@ pub enum Reading {
     Refused { refusal: Refusal },
 }
 
-// A refusal by its number.
+// The answer of writing: how many octets were written.
+pub enum Writing {
+    Accepted { length: usize },
+    Refused { refusal: Refusal },
+}
+
+// The answer of comparing: whether two sheets are the same.
+pub enum Comparing {
+    Accepted { same: bool },
+    Refused { refusal: Refusal },
+}
+
+// Where a part of a sheet stands, if one is shown.
+pub enum Place {
+    Part { start: usize, end: usize },
+    NoPart,
+}
+
+// A reading or a replacing refused, by its number.
 pub fn refused(number: u32) -> Reading
     ensures { λ r. ⌜ Refuses number r ⌝ }
 {
     Reading::Refused {
+        refusal: Refusal { number },
+    }
+}
+
+// A writing refused, by its number.
+pub fn refused_writing(number: u32) -> Writing
+    ensures { λ r. ⌜ RefusesWriting number r ⌝ }
+{
+    Writing::Refused {
+        refusal: Refusal { number },
+    }
+}
+
+// A comparing refused, by its number.
+pub fn refused_comparing(number: u32) -> Comparing
+    ensures { λ r. ⌜ RefusesComparing number r ⌝ }
+{
+    Comparing::Refused {
         refusal: Refusal { number },
     }
 }

@@ -7,16 +7,17 @@ use mathlib.Core.Option.{Option, none, some}
 use mathlib.Core.List.{List, [], _∷_}
 use lib.ListN.{length, take}
 use Rattle.base.specs.Choice.{pick, either, not, isNone}
-use Rattle.model.specs.Answers.{when, verdict, judged, the, sheetTree, comparingChecks, comparing}
+use Rattle.model.specs.Answers.{when, verdict, judged, the, sheetTree, uncompared, comparingChecks, comparing}
 use Rattle.model.specs.Compare.{same}
 use Rattle.model.specs.Decode.{decode₁}
 use Rattle.model.specs.Tree.{Tree}
 use Rattle.lookup.specs.Tokens.{Sheets}
-use Rattle.lookup.specs.Answers.{told}
+use Rattle.answers.specs.Cases.{told, RefusesComparing}
 use Rattle.lookup.proofs.Sheets.{front-length, tree-of, none-of, Sheet, sheet-of}
-use Rattle.lookup.specs.declared.Comparing.the-variants.{Accepted, Refused}
+use Rattle.answers.specs.declared.Comparing.{Comparing}
+use Rattle.answers.specs.declared.Comparing.the-variants.{Accepted}
 
-by-rows : (b : Bool) (y : Bool) → judged (when 7 b ∷ []) (record { number = 0; yes = y }) (λ n. record { number = n; yes = false }) ≡ pick b (told (Refused 7)) (told (Accepted y))
+by-rows : (b : Bool) (y : Bool) → judged (when 7 b ∷ []) (record { number = 0; yes = y }) (λ n. uncompared n) ≡ pick b (uncompared 7) (told (Accepted y))
 unfolding judged verdict told
 by-rows true y = refl
 by-rows false y = refl
@@ -27,20 +28,20 @@ sheet-length c n r e y = tree-of (sheetTree c n) (sym y ∙ e) (λ t i. front-le
 
 module _ (a : List ℕ) (n : ℕ) (b : List ℕ) (m : ℕ) where
   answers : (x : List ℕ) (o p : Option Tree) → sheetTree a n ≡ o → sheetTree b m ≡ p
-      → comparing a n b m x ≡ pick (either (isNone o) (isNone p)) (told (Refused 7)) (told (Accepted (same (the o) (the p) x)))
+      → comparing a n b m x ≡ pick (either (isNone o) (isNone p)) (uncompared 7) (told (Accepted (same (the o) (the p) x)))
   unfolding comparing comparingChecks
   answers x o p e f = by-rows (either (isNone (sheetTree a n)) (isNone (sheetTree b m))) (same (the (sheetTree a n)) (the (sheetTree b m)) x) ∙ rw (e, f)
 
   module _ (r : Bool) (e : r ≡ not (isNone (sheetTree a n))) where
-    pub left-refused : (x : List ℕ) → r ≡ false → told (Refused 7) ≡ comparing a n b m x
+    pub left-refused : (x : List ℕ) → r ≡ false → (q : Comparing) → RefusesComparing 7 q → told q ≡ comparing a n b m x
     unfolding isNone
-    left-refused x y = sym (answers x none (sheetTree b m) (none-of (sheetTree a n) (sym y ∙ e)) refl)
+    left-refused x y q f = f .is ∙ sym (answers x none (sheetTree b m) (none-of (sheetTree a n) (sym y ∙ e)) refl)
 
     module _ (y : r ≡ true) (q : Bool) (f : q ≡ not (isNone (sheetTree b m))) where
-      pub right-refused : (x : List ℕ) → q ≡ false → told (Refused 7) ≡ comparing a n b m x
+      pub right-refused : (x : List ℕ) → q ≡ false → (c : Comparing) → RefusesComparing 7 c → told c ≡ comparing a n b m x
       unfolding isNone
-      right-refused x z =
-          tree-of (sheetTree a n) (sym y ∙ e)
+      right-refused x z c g =
+          g .is ∙ tree-of (sheetTree a n) (sym y ∙ e)
           (λ t i. sym (answers x (some t) none i (none-of (sheetTree b m) (sym z ∙ f))))
 
       module _ (z : q ≡ true) where

@@ -16,10 +16,11 @@ use Rattle.model.specs.Table.{Row, width, numbers, plainRow, rows, rowss, flat,
 use Rattle.model.specs.Tree.{Tree, plain, hinted, list, Forest, nil, cons, verbatim, canon, canons, nodes}
 use Rattle.model.proofs.Sizes.{verbatim-length}
 use Rattle.walk.proofs.Tabled.{rows-length}
-use Rattle.lookup.specs.Answers.{placed, InRecord}
+use Rattle.answers.specs.Cases.{placed}
+use Rattle.lookup.specs.Numbers.{InRecord}
 use Rattle.lookup.proofs.Sheets.{tree-of, none-of, Own, own-of, own-lent}
-use Rattle.lookup.specs.declared.Place.{Place}
-use Rattle.lookup.specs.declared.Place.the-variants.{Part, NoPart}
+use Rattle.answers.specs.declared.Place.{Place}
+use Rattle.answers.specs.declared.Place.the-variants.{Part, NoPart}
 
 -- ---- a number of a row
 

@@ -1,3 +1,3 @@
-pub mod Answers
+pub mod Numbers
 pub mod Alike
 pub mod Tokens

@@ -6,20 +6,12 @@ ghost use Prim.Native.Nat.{_+_, _*_, _≤_, _<_};
 ghost use lib.ListN.{length, getD};
 ghost use Rattle.base.specs.Choice.{not, isNone};
 ghost use Rattle.model.specs.Answers.{sheetTree, ownTree, hintPart, dataPart, hintShown, dataShown, comparing};
-ghost use Rattle.lookup.specs.Answers.{placed, told, InRecord};
+ghost use Rattle.answers.specs.Cases.{placed, told};
+ghost use Rattle.lookup.specs.Numbers.{InRecord};
+use answers::Comparing;
+use answers::Place;
+use answers::refused_comparing;
 use walk::Extent;
-
-// Where a part of a sheet stands, if one is shown.
-pub enum Place {
-    Part { start: usize, end: usize },
-    NoPart,
-}
-
-// Whether two sheets are the same, or the number of the refusal.
-pub enum Comparing {
-    Accepted { same: bool },
-    Refused { number: u32 },
-}
 
 // Whether the first `length` octets are one fitting canonical form (01: a sheet).
 pub fn sheet(canonical: &[u8], length: usize) -> bool
@@ -168,9 +160,9 @@ pub fn same(a: &[u8], a_length: usize, b: &[u8], b_length: usize, default_hint: 
             let same = alike::alike(left, right, default_hint);
             Comparing::Accepted { same }
         } else {
-            Comparing::Refused { number: 7 }
+            refused_comparing(7)
         }
     } else {
-        Comparing::Refused { number: 7 }
+        refused_comparing(7)
     }
 }

@@ -145,6 +145,10 @@ pub record Output : Type 0 where
   pub octets : ℕ
   pub out : List ℕ
 
+-- 01, "Counts are 0 in a refusal, and all lent space is unchanged"
+abbrev pub unwritten : ℕ → List ℕ → Output
+unwritten n out = record { number = n; octets = 0; out = out }
+
 -- what goes out of the sheet
 unfoldable pub written : ℕ → List ℕ → ℕ → List ℕ
 written form canonical len = encode form (the (sheetTree canonical len))
@@ -162,23 +166,27 @@ unfoldable pub writing : ℕ → List ℕ → ℕ → List ℕ → Output
 writing form canonical len out =
     judged (writingChecks form canonical len out)
     (record { number = Accepted; octets = length (written form canonical len); out = settled out 0 (written form canonical len) })
-    (λ n. record { number = n; octets = 0; out = out })
+    (λ n. unwritten n out)
 
 -- ---- comparing: 01's number, and yes or no
 pub record Comparison : Type 0 where
   pub number : ℕ
   pub yes : Bool
 
+-- 01, "no in a refusal"
+abbrev pub uncompared : ℕ → Comparison
+uncompared n = record { number = n; yes = false }
+
 -- 01, "comparing 7"
 unfoldable pub comparingChecks : List ℕ → ℕ → List ℕ → ℕ → List Check
 comparingChecks a aLength b bLength = when NotOwn (either (isNone (sheetTree a aLength)) (isNone (sheetTree b bLength))) ∷ []
 
--- 01, "A comparison answers yes or no besides, and no in a refusal"
+-- 01, "A comparison answers yes or no besides"
 unfoldable pub comparing : List ℕ → ℕ → List ℕ → ℕ → List ℕ → Comparison
 comparing a aLength b bLength defaultHint =
     judged (comparingChecks a aLength b bLength)
     (record { number = Accepted; yes = same (the (sheetTree a aLength)) (the (sheetTree b bLength)) defaultHint })
-    (λ n. record { number = n; yes = false })
+    (λ n. uncompared n)
 
 -- ---- showing: the part of the sheet that is shown, if one is
 pub record Part : Type 0 where

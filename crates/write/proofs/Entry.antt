@@ -10,32 +10,33 @@ use lib.Dec.{ltb}
 use borrow.Author.Tests.{eq-eqb, ne-eqb}
 use Rattle.base.specs.Choice.{pick, not, isNone}
 use Rattle.base.proofs.Cases.{picked, unpicked, among-in, among-low, among-high}
-use Rattle.model.specs.Answers.{when, verdict, judged, noForm, sheetTree, settled, written, writingChecks, writing}
+use Rattle.model.specs.Answers.{when, verdict, judged, noForm, sheetTree, settled, unwritten, written, writingChecks, writing}
 use Rattle.model.specs.Tree.{Tree}
 use Rattle.model.proofs.Judging.{judged-refused, verdict-here, verdict-past}
 use Rattle.lookup.proofs.Sheets.{tree-of, none-of}
-use Rattle.write.specs.Answers.{Refuses, Good, output, sized}
-use Rattle.write.specs.declared.Writing.{Writing}
-use Rattle.write.specs.declared.Writing.the-variants.{Accepted, Refused}
+use Rattle.answers.specs.Cases.{RefusesWriting, output}
+use Rattle.write.specs.Sized.{Good, sized}
+use Rattle.answers.specs.declared.Writing.{Writing}
+use Rattle.answers.specs.declared.Writing.the-variants.{Accepted}
 
 -- row 6 alone
 by-size : (b : Bool) (x out : List ℕ)
-    → elim (pick {A = ℕ} b 6 0) [ zero ↦ output (Accepted (length x)) (settled out 0 x) | suc n ↦ output (Refused (suc n)) out ]
-    ≡ pick b (output (Refused 6) out) (output (Accepted (length x)) (settled out 0 x))
+    → elim (pick {A = ℕ} b 6 0) [ zero ↦ output (Accepted (length x)) (settled out 0 x) | suc n ↦ unwritten (suc n) out ]
+    ≡ pick b (unwritten 6 out) (output (Accepted (length x)) (settled out 0 x))
 by-size true x out = refl
 by-size false x out = refl
 
 module _ (form : ℕ) (c : List ℕ) (n : ℕ) (out : List ℕ) where
-  form-refused : noForm form ≡ true → writing form c n out ≡ output (Refused 1) out
+  form-refused : noForm form ≡ true → writing form c n out ≡ unwritten 1 out
   unfolding writing writingChecks output
   form-refused e = judged-refused _ _ _ 1 (verdict-here 1 (noForm form) _ e) (omega arith)
 
-  pub write-low : form < 1 → (a : Writing) → Refuses 1 a → output a out ≡ writing form c n out
+  pub write-low : form < 1 → (a : Writing) → RefusesWriting 1 a → output a out ≡ writing form c n out
   unfolding noForm
   write-low h a f = f .is out ∙ sym (form-refused (unpicked _ _ (among-low 1 3 form h)))
 
   module _ (lo : 1 ≤ form) where
-    pub write-high : 3 < form → (a : Writing) → Refuses 1 a → output a out ≡ writing form c n out
+    pub write-high : 3 < form → (a : Writing) → RefusesWriting 1 a → output a out ≡ writing form c n out
     unfolding noForm
     write-high h a f = f .is out ∙ sym (form-refused (unpicked _ _ (among-high 1 3 form h)))
 
@@ -44,7 +45,7 @@ module _ (form : ℕ) (c : List ℕ) (n : ℕ) (out : List ℕ) where
       unfolding noForm
       known = picked _ _ (among-in 1 3 form lo hi)
 
-      pub write-none : s ≡ false → (a : Writing) → Refuses 7 a → output a out ≡ writing form c n out
+      pub write-none : s ≡ false → (a : Writing) → RefusesWriting 7 a → output a out ≡ writing form c n out
       unfolding writing writingChecks output isNone
       write-none y a f =
           f .is out
@@ -56,7 +57,7 @@ module _ (form : ℕ) (c : List ℕ) (n : ℕ) (out : List ℕ) where
         writes =
             tree-of (sheetTree c n) (sym y ∙ e)
             (λ t i.
-            ap (λ (k : ℕ). elim k [ zero ↦ output (Accepted (length (written form c n))) (settled out 0 (written form c n)) | suc m ↦ output (Refused (suc m)) out ]) (unpicked _ _ known ∙ unpicked _ _ (ap isNone i))
+            ap (λ (k : ℕ). elim k [ zero ↦ output (Accepted (length (written form c n))) (settled out 0 (written form c n)) | suc m ↦ unwritten (suc m) out ]) (unpicked _ _ known ∙ unpicked _ _ (ap isNone i))
             ∙ by-size (ltb (length out) (length (written form c n))) (written form c n) out)
 
         pub write-in : (k : ℕ) → form ≡ k → (out′ : List ℕ) (a : Writing) → output a out′ ≡ sized (written k c n) out → output a out′ ≡ writing form c n out

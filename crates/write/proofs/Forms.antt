@@ -16,13 +16,14 @@ use Rattle.scan.specs.Writes.{Wrote}
 use Rattle.writer.specs.Sheets.{Sheet}
 use Rattle.writer.proofs.Outputs.{own-sheet, own-advanced, own-basic, own-canonical, wrote-settled}
 use Rattle.lookup.proofs.Sheets.{front-length, sheet-of}
-use Rattle.write.specs.Answers.{Refuses, Good, output, sized}
-use Rattle.write.specs.declared.Writing.{Writing}
-use Rattle.write.specs.declared.Writing.the-variants.{Accepted, Refused}
+use Rattle.answers.specs.Cases.{RefusesWriting, output}
+use Rattle.write.specs.Sized.{Good, sized}
+use Rattle.answers.specs.declared.Writing.{Writing}
+use Rattle.answers.specs.declared.Writing.the-variants.{Accepted}
 
 -- ---- row 6
 
-too-long : (x out : List ℕ) → length out < length x → (a : Writing) → Refuses 6 a → output a out ≡ sized x out
+too-long : (x out : List ℕ) → length out < length x → (a : Writing) → RefusesWriting 6 a → output a out ≡ sized x out
 unfolding sized
 too-long x out h a f = f .is out ∙ sym (picked _ _ (lt-ltb _ _ h))
 
@@ -53,7 +54,7 @@ module _ (c : List ℕ) (n : ℕ) (g : Good c n) where
   pub canonical-room : (out : List ℕ) → n ≤ length out → (0 + n ≤ length c) × (0 + n ≤ length out)
   canonical-room out h = (omega (arith, lent), omega arith)
 
-  pub canonical-refused : (out : List ℕ) (a : Writing) → Refuses 6 a → length out < n → output a out ≡ sized (written 1 c n) out
+  pub canonical-refused : (out : List ℕ) (a : Writing) → RefusesWriting 6 a → length out < n → output a out ≡ sized (written 1 c n) out
   canonical-refused out a f h = too-long (written 1 c n) out (omega (arith, canonical-size)) a f
 
   pub canonical-written : (out out′ : List ℕ) (r : ℕ) → n ≤ length out → Wrote (take n (drop 0 c)) 0 out out′ r → output (Accepted n) out′ ≡ sized (written 1 c n) out
@@ -74,7 +75,7 @@ module _ (c : List ℕ) (n : ℕ) (g : Good c n) where
     basic-size : k ≡ length (basic (the (decode₁ (take n c))))
     basic-size = omega (arith, e, basic-length (the (decode₁ (take n c))), tree-size)
 
-    pub basic-refused : (out : List ℕ) (a : Writing) → Refuses 6 a → length out < k → output a out ≡ sized (written 2 c n) out
+    pub basic-refused : (out : List ℕ) (a : Writing) → RefusesWriting 6 a → length out < k → output a out ≡ sized (written 2 c n) out
     basic-refused out a f h = too-long (written 2 c n) out (omega (arith, basic-size, ap length basic-here)) a f
 
     pub basic-room : (out : List ℕ) → k ≤ length out → length (basic (the (decode₁ (take n c)))) ≤ length out
@@ -91,7 +92,7 @@ module _ (c : List ℕ) (n : ℕ) (g : Good c n) where
   advanced-here = own-advanced c n (g .tree) (g .is)
 
   module _ (k : ℕ) (e : k ≡ length (advanced (the (decode₁ (take n c))))) where
-    pub advanced-refused : (out : List ℕ) (a : Writing) → Refuses 6 a → length out < k → output a out ≡ sized (written 3 c n) out
+    pub advanced-refused : (out : List ℕ) (a : Writing) → RefusesWriting 6 a → length out < k → output a out ≡ sized (written 3 c n) out
     advanced-refused out a f h = too-long (written 3 c n) out (omega (arith, e, ap length advanced-here)) a f
 
     pub advanced-room : (out : List ℕ) → k ≤ length out → length (advanced (the (decode₁ (take n c)))) ≤ length out

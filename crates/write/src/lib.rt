@@ -2,24 +2,14 @@
 // lent output as it was.
 ghost use mathlib.Core.Path.{_≡_};
 ghost use Rattle.model.specs.Answers.{written, writing};
-ghost use Rattle.write.specs.Answers.{Refuses, Good, output, sized};
+ghost use Rattle.answers.specs.Cases.{output};
+ghost use Rattle.write.specs.Sized.{Good, sized};
+use answers::Writing;
+use answers::refused_writing;
 use writer::advanced::advanced_len;
 use writer::advanced::put_advanced;
 use writer::basic::basic_len;
 use writer::basic::put_basic;
-
-// How many octets were written, or the number of the refusal.
-pub enum Writing {
-    Accepted { length: usize },
-    Refused { number: u32 },
-}
-
-// A refusal by its number.
-fn refused(number: u32) -> Writing
-    ensures { λ r. ⌜ Refuses number r ⌝ }
-{
-    Writing::Refused { number }
-}
 
 // Form 1 is the sheet itself.
 fn write_canonical(canonical: &[u8], length: usize, out: &mut [u8]) -> Writing
@@ -27,7 +17,7 @@ fn write_canonical(canonical: &[u8], length: usize, out: &mut [u8]) -> Writing
     ensures { λ r. ⌜ output r (now (out .exit)) ≡ sized (written 1 (now (canonical .entry)) length) (now (out .entry)) ⌝ }
 {
     if length > out.len() {
-        return refused(6);
+        return refused_writing(6);
     }
     scan::copy(canonical, 0, length, out, 0);
     Writing::Accepted { length }
@@ -40,7 +30,7 @@ fn write_basic(canonical: &[u8], length: usize, out: &mut [u8]) -> Writing
 {
     let len = basic_len(length);
     if len > out.len() {
-        return refused(6);
+        return refused_writing(6);
     }
     let part = &canonical[..length];
     put_basic(part, out);
@@ -56,7 +46,7 @@ fn write_advanced(canonical: &[u8], length: usize, out: &mut [u8]) -> Writing
     let part = &canonical[..length];
     let len = advanced_len(&classes, part);
     if len > out.len() {
-        return refused(6);
+        return refused_writing(6);
     }
     put_advanced(&classes, part, out);
     Writing::Accepted { length: len }
@@ -68,10 +58,10 @@ pub fn write(form: u32, canonical: &[u8], length: usize, out: &mut [u8]) -> Writ
     ensures { λ r. ⌜ output r (now (out .exit)) ≡ writing form (now (canonical .entry)) length (now (out .entry)) ⌝ }
 {
     if form < 1 {
-        return refused(1);
+        return refused_writing(1);
     }
     if form > 3 {
-        return refused(1);
+        return refused_writing(1);
     }
     if lookup::sheet(canonical, length) {
         if form == 1 {
@@ -82,6 +72,6 @@ pub fn write(form: u32, canonical: &[u8], length: usize, out: &mut [u8]) -> Writ
         }
         write_advanced(canonical, length, out)
     } else {
-        refused(7)
+        refused_writing(7)
     }
 }

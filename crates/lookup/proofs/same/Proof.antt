@@ -3,6 +3,8 @@ use Rattle.lookup.proofs.Answered.{sheet-length, two-sheets, compared, 
 use borrow.Author.Needs.{needs}
 use Rattle.lookup.proofs.same.Statement.{statement}
 use Rattle.lookup.proofs.same.Tie as tie
+use Rattle.lookup.proofs.alike.alike.Reads as alike-reads
+use Rattle.lookup.proofs.sheet.Reads as sheet-reads
 
 sheet-requires : tie.Need-sheet-requires
 sheet-requires c κs = search needs
@@ -18,6 +20,12 @@ slice-aggregate-right c = search (sheet-length, arith)
 
 alike-requires : tie.Need-alike-requires
 alike-requires c κs = search (two-sheets, arith)
+
+refused-comparing-requires : tie.Need-refused-comparing-requires
+refused-comparing-requires c κs = search needs
+
+refused-comparing-requires-2 : tie.Need-refused-comparing-requires-2
+refused-comparing-requires-2 c κs = search needs
 
 returns : tie.Need-returns
 returns c = search (compared, arith)
@@ -37,6 +45,8 @@ same-spec =
     slice-aggregate-left
     slice-aggregate-right
     alike-requires
+    refused-comparing-requires
+    refused-comparing-requires-2
     returns
     returns-2
     returns-3)

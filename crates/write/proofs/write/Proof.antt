@@ -4,14 +4,14 @@ use borrow.Author.Needs.{needs}
 use Rattle.write.proofs.write.Statement.{statement}
 use Rattle.write.proofs.write.Tie as tie
 
-refused-requires : tie.Need-refused-requires
-refused-requires c κs = search needs
+refused-writing-requires : tie.Need-refused-writing-requires
+refused-writing-requires c κs = search needs
 
 returns : tie.Need-returns
 returns c = search (write-low, arith)
 
-refused-requires-2 : tie.Need-refused-requires-2
-refused-requires-2 c κs = search needs
+refused-writing-requires-2 : tie.Need-refused-writing-requires-2
+refused-writing-requires-2 c κs = search needs
 
 returns-2 : tie.Need-returns-2
 returns-2 c = search (write-high, arith)
@@ -40,8 +40,8 @@ returns-4 c = search (write-in, arith)
 write-advanced-requires : tie.Need-write-advanced-requires
 write-advanced-requires c κs = search (good, arith)
 
-refused-requires-3 : tie.Need-refused-requires-3
-refused-requires-3 c κs = search needs
+refused-writing-requires-3 : tie.Need-refused-writing-requires-3
+refused-writing-requires-3 c κs = search needs
 
 same-length-3 : tie.Need-same-length-3
 same-length-3 c = search needs
@@ -56,9 +56,9 @@ pub write-spec : {M : Type 1} → statement M
 write-spec =
     tie.close
     (tie.spec
-    refused-requires
+    refused-writing-requires
     returns
-    refused-requires-2
+    refused-writing-requires-2
     returns-2
     sheet-requires
     write-canonical-requires
@@ -68,7 +68,7 @@ write-spec =
     same-length-2
     returns-4
     write-advanced-requires
-    refused-requires-3
+    refused-writing-requires-3
     same-length-3
     returns-5
     returns-6)

@@ -13,8 +13,8 @@ slice-aggregate-part c = search (good-length, arith)
 advanced-len-requires : tie.Need-advanced-len-requires
 advanced-len-requires c κs = (search needs, search (good-sheet, arith))
 
-refused-requires : tie.Need-refused-requires
-refused-requires c κs = search needs
+refused-writing-requires : tie.Need-refused-writing-requires
+refused-writing-requires c κs = search needs
 
 returns : tie.Need-returns
 returns c = search (advanced-refused, arith)
@@ -35,7 +35,7 @@ write-advanced-spec =
     classes-requires
     slice-aggregate-part
     advanced-len-requires
-    refused-requires
+    refused-writing-requires
     returns
     put-advanced-requires
     same-length

@@ -7,8 +7,8 @@ use Rattle.write.proofs.write_basic.Tie as tie
 basic-len-requires : tie.Need-basic-len-requires
 basic-len-requires c κs = search (good-short, arith)
 
-refused-requires : tie.Need-refused-requires
-refused-requires c κs = search needs
+refused-writing-requires : tie.Need-refused-writing-requires
+refused-writing-requires c κs = search needs
 
 returns : tie.Need-returns
 returns c = search (basic-refused, arith)
@@ -30,7 +30,7 @@ write-basic-spec =
     tie.close
     (tie.spec
     basic-len-requires
-    refused-requires
+    refused-writing-requires
     returns
     slice-aggregate-part
     put-basic-requires

@@ -4,8 +4,8 @@ use borrow.Author.Needs.{needs}
 use Rattle.write.proofs.write_canonical.Statement.{statement}
 use Rattle.write.proofs.write_canonical.Tie as tie
 
-refused-requires : tie.Need-refused-requires
-refused-requires c κs = search needs
+refused-writing-requires : tie.Need-refused-writing-requires
+refused-writing-requires c κs = search needs
 
 returns : tie.Need-returns
 returns c = search (canonical-refused, arith)
@@ -22,4 +22,4 @@ returns-2 c = search (canonical-written, arith)
 
 pub write-canonical-spec : {M : Type 1} → statement M
 write-canonical-spec =
-    tie.close (tie.spec refused-requires returns copy-requires same-length returns-2)
+    tie.close (tie.spec refused-writing-requires returns copy-requires same-length returns-2)
