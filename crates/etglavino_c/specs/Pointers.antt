@@ -1,0 +1,43 @@
+-- What a C entry answers: 01's number is returned, and what is asked for goes out through pointers.
+use Prim.Native.Nat.{ℕ}
+use mathlib.Core.Bool.{Bool, true, false}
+use mathlib.Core.Option.{Option, none, some}
+use mathlib.Core.List.{List}
+use Rattle.model.specs.Answers.{Outcome, Output, Comparison, Part}
+
+-- the number, the length and the node count, with both lent buffers
+abbrev pub outcomeOf : ℕ → ℕ → ℕ → List ℕ → List ℕ → Outcome
+outcomeOf n len count canonical table = record { number = n; octets = len; count = count; canonical = canonical; table = table }
+
+-- the number and the length, with the lent output
+abbrev pub outputOf : ℕ → ℕ → List ℕ → Output
+outputOf n len out = record { number = n; octets = len; out = out }
+
+-- 1 for yes, 0 for no
+unfoldable pub flag : Bool → ℕ
+flag true = 1
+flag false = 0
+
+-- the number, and yes or no
+pub record Compared : Type 0 where
+  pub number : ℕ
+  pub same : ℕ
+
+abbrev pub compared : ℕ → ℕ → Compared
+compared n s = record { number = n; same = s }
+
+unfoldable pub comparedOf : Comparison → Compared
+comparedOf c = compared (c .number) (flag (c .yes))
+
+-- whether a part of the sheet is shown, and where it stands; 0 and 0 where none is
+pub record Shown : Type 0 where
+  pub there : ℕ
+  pub start : ℕ
+  pub end : ℕ
+
+abbrev pub shown : ℕ → ℕ → ℕ → Shown
+shown t s e = record { there = t; start = s; end = e }
+
+unfoldable pub shownOf : Option Part → Shown
+shownOf none = shown 0 0 0
+shownOf (some p) = shown 1 (p .start) (p .end)

@@ -1,0 +1,175 @@
+// The C interface: the public entries with 01's number as the return value. What is asked for goes out through pointers and is
+// 0 in a refusal. include/etglavino.h tells a C program how to call them.
+ghost use mathlib.Core.Path.{_≡_};
+ghost use Rattle.model.specs.Answers.{reading, replacing, writing, comparing, hintPart, dataPart};
+ghost use Rattle.etglavino_c.specs.Pointers.{outcomeOf, outputOf, compared, comparedOf, shown, shownOf};
+use answers::Comparing;
+use answers::Place;
+use answers::Reading;
+use answers::Writing;
+
+#[no_mangle]
+pub extern "C" fn etg_read(
+    form: u32,
+    source: &[u8],
+    canonical: &mut [u8],
+    table: &mut [u32],
+    length: &mut usize,
+    nodes: &mut usize,
+) -> u32
+    ensures { λ r. ⌜ outcomeOf r (now (length .exit)) (now (nodes .exit)) (now (canonical .exit)) (now (table .exit)) ≡ reading form (now (source .entry)) (now (canonical .entry)) (now (table .entry)) ⌝ }
+{
+    match etglavino::read(form, source, canonical, table) {
+        Reading::Accepted {
+            length: len,
+            nodes: count,
+        } => {
+            *length = len;
+            *nodes = count;
+            0
+        }
+        Reading::Refused { refusal } => {
+            *length = 0;
+            *nodes = 0;
+            refusal.number
+        }
+    }
+}
+
+#[no_mangle]
+pub extern "C" fn etg_write(
+    form: u32,
+    canonical: &[u8],
+    length: usize,
+    out: &mut [u8],
+    written: &mut usize,
+) -> u32
+    ensures { λ r. ⌜ outputOf r (now (written .exit)) (now (out .exit)) ≡ writing form (now (canonical .entry)) length (now (out .entry)) ⌝ }
+{
+    match etglavino::write(form, canonical, length, out) {
+        Writing::Accepted { length: len } => {
+            *written = len;
+            0
+        }
+        Writing::Refused { refusal } => {
+            *written = 0;
+            refusal.number
+        }
+    }
+}
+
+#[no_mangle]
+pub extern "C" fn etg_replace(
+    form: u32,
+    text: &[u8],
+    canonical: &mut [u8],
+    table: &mut [u32],
+    length: usize,
+    nodes: usize,
+    node: usize,
+    new_length: &mut usize,
+    new_nodes: &mut usize,
+) -> u32
+    ensures { λ r. ⌜ outcomeOf r (now («new_length» .exit)) (now («new_nodes» .exit)) (now (canonical .exit)) (now (table .exit)) ≡ replacing form (now (text .entry)) (now (canonical .entry)) (now (table .entry)) length nodes node ⌝ }
+{
+    match etglavino::replace(form, text, canonical, table, length, nodes, node) {
+        Reading::Accepted {
+            length: len,
+            nodes: count,
+        } => {
+            *new_length = len;
+            *new_nodes = count;
+            0
+        }
+        Reading::Refused { refusal } => {
+            *new_length = 0;
+            *new_nodes = 0;
+            refusal.number
+        }
+    }
+}
+
+#[no_mangle]
+pub extern "C" fn etg_same(
+    a: &[u8],
+    a_length: usize,
+    b: &[u8],
+    b_length: usize,
+    default_hint: &[u8],
+    same: &mut u32,
+) -> u32
+    ensures { λ r. ⌜ compared r (now (same .exit)) ≡ comparedOf (comparing (now (a .entry)) «a_length» (now (b .entry)) «b_length» (now («default_hint» .entry))) ⌝ }
+{
+    match etglavino::same(a, a_length, b, b_length, default_hint) {
+        Comparing::Accepted { same: yes } => {
+            if yes {
+                *same = 1;
+            } else {
+                *same = 0;
+            }
+            0
+        }
+        Comparing::Refused { refusal } => {
+            *same = 0;
+            refusal.number
+        }
+    }
+}
+
+#[no_mangle]
+pub extern "C" fn etg_hint(
+    canonical: &[u8],
+    length: usize,
+    table: &[u32],
+    nodes: usize,
+    node: usize,
+    start: &mut usize,
+    end: &mut usize,
+) -> u32
+    ensures { λ r. ⌜ shown r (now (start .exit)) (now (end .exit)) ≡ shownOf (hintPart (now (canonical .entry)) length (now (table .entry)) nodes node) ⌝ }
+{
+    match etglavino::hint_place(canonical, length, table, nodes, node) {
+        Place::Part {
+            start: from,
+            end: to,
+        } => {
+            *start = from;
+            *end = to;
+            1
+        }
+        Place::NoPart => {
+            *start = 0;
+            *end = 0;
+            0
+        }
+    }
+}
+
+#[no_mangle]
+pub extern "C" fn etg_data(
+    canonical: &[u8],
+    length: usize,
+    table: &[u32],
+    nodes: usize,
+    node: usize,
+    start: &mut usize,
+    end: &mut usize,
+) -> u32
+    ensures { λ r. ⌜ shown r (now (start .exit)) (now (end .exit)) ≡ shownOf (dataPart (now (canonical .entry)) length (now (table .entry)) nodes node) ⌝ }
+{
+    match etglavino::data_place(canonical, length, table, nodes, node) {
+        Place::Part {
+            start: from,
+            end: to,
+        } => {
+            *start = from;
+            *end = to;
+            1
+        }
+        Place::NoPart => {
+            *start = 0;
+            *end = 0;
+            0
+        }
+    }
+}
