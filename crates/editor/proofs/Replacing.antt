@@ -6,7 +6,7 @@ use mathlib.Core.Path.{_≡_, sym, ap, ap₂, _∙_, subst}
 use mathlib.Core.Option.{Option, none, some}
 use mathlib.Core.List.{List, _++_}
 use lib.ListN.{length, take, drop, replicate}
-use lib.Seq.{sets, length-take-le, length-sets}
+use lib.Seq.{sets, length-sets}
 use Rattle.base.specs.Choice.{isNone}
 use Rattle.model.specs.Answers.{the, settled, Outcome, unchanged, filled}
 use Rattle.model.specs.Decode.{decode₁}
@@ -14,7 +14,7 @@ use Rattle.model.specs.Edit.{replace}
 use Rattle.model.specs.Limits.{Accepted}
 use Rattle.model.specs.Table.{width, tableOf}
 use Rattle.model.specs.Tree.{Tree, canon, nodes, depth}
-use Rattle.model.proofs.Exact.{canon-sound, canon-complete}
+use Rattle.model.proofs.Exact.{canon-complete}
 use Rattle.model.proofs.Judging.{judged-refused, verdict-here}
 use Rattle.model.proofs.OutputSizes.{nodes-half}
 use Rattle.walk.specs.Extent.{Wholly, Measures}
@@ -37,7 +37,7 @@ same-outcome : {a a′ b b′ : ℕ} {c c′ d d′ : List ℕ} → a ≡ a′ �
 same-outcome p q r s = λ i. record { number = Accepted; octets = p i; count = q i; canonical = r i; table = s i }
 
 -- the octets of the sheet with its node k replaced
-module _ (canonical : List ℕ) (len count start end n : ℕ) (t : Tree) (k : ℕ) (a : AtNode canonical len count start end n t k) (u : Tree) where
+module _ (canonical : List ℕ) (len : ℕ) (table : List ℕ) (count start end n : ℕ) (t : Tree) (k : ℕ) (a : AtNode len table count start end n t k) (u : Tree) where
   octets-at : take len canonical ≡ canon t → take start (take len canonical) ++ (canon u ++ drop end (take len canonical)) ≡ canon (replace t k u)
   octets-at e = rw (e, a .begins, a .ends) (sym (replace-octets t k (a .inside) u))
 
@@ -97,30 +97,33 @@ module _ (o : Option Tree) (canonical : List ℕ) (len : ℕ) (table : List ℕ)
         abbrev new : Tree
         new = replace t node u
 
-        at-node : AtNode canonical len count start end (fitting .n) t node
+        at-node : AtNode len table count start end (fitting .n) t node
         at-node = fitting .found .at
 
         takes : Taking new canonical table len′ count′
         takes = fitting .takes u sized
 
         sheet-is : take len canonical ≡ canon t
-        sheet-is = canon-sound (take len canonical) t (at-node .is)
+        sheet-is = fitting .found .is
 
         sheet-long : length (canon t) ≡ len
-        sheet-long = omega (arith, ap length sheet-is, length-take-le len canonical (at-node .lent))
+        sheet-long = sym (at-node .long)
+
+        lent : len ≤ length canonical
+        lent = fitting .found .lent
 
         in-order : (start ≤ end) × (end ≤ len) × (fitting .n ≤ count)
-        in-order = ordered canonical len count start end (fitting .n) t node at-node
+        in-order = ordered table len count node start end (fitting .n) t at-node
 
         new-octets : take start (take len canonical) ++ (canon u ++ drop end (take len canonical)) ≡ canon new
-        new-octets = octets-at canonical len count start end (fitting .n) t node at-node u sheet-is
+        new-octets = octets-at canonical len table count start end (fitting .n) t node at-node u sheet-is
 
         new-long : length (canon new) ≡ start + n + (len - end)
-        new-long = omega (arith, long-at canonical len count start end (fitting .n) t node at-node u, sheet-long, whole .long, in-order .0, in-order .1)
+        new-long = omega (arith, long-at canonical len table count start end (fitting .n) t node at-node u, sheet-long, whole .long, in-order .0, in-order .1)
 
         pub gap-room : Movable (length canonical) start end len n
         gap-room =
-            record { ordered = in-order .0; ended = in-order .1; lent = at-node .lent; fits = omega (arith, new-long, takes .long, takes .lent) }
+            record { ordered = in-order .0; ended = in-order .1; lent = lent; fits = omega (arith, new-long, takes .long, takes .lent) }
 
         module _ (canonical₁ : List ℕ) (g₁ : canonical₁ ≡ sets canonical (start + n) (take (len - end) (drop end canonical))) where
           pub text-room : (start + n ≤ length canonical₁) × (start ≤ 16384)
@@ -134,7 +137,7 @@ module _ (o : Option Tree) (canonical : List ℕ) (len : ℕ) (table : List ℕ)
             written =
                 let y : start + n ≡ start + length (canon u) = omega (arith, whole .long) in
                 g₂ .same ∙ ap (λ (c : List ℕ). sets c start (canon u)) (g₁ ∙ ap (λ (i : ℕ). sets canonical i (take (len - end) (drop end canonical))) y)
-                ∙ spliced canonical (canon u) start end len (in-order .0) (in-order .1) (at-node .lent) (omega (arith, whole .long, gap-room .fits))
+                ∙ spliced canonical (canon u) start end len (in-order .0) (in-order .1) (lent) (omega (arith, whole .long, gap-room .fits))
                 ∙ ap (sets canonical 0) new-octets
 
             kept-long : length canonical₂ ≡ length canonical
@@ -159,8 +162,8 @@ module _ (o : Option Tree) (canonical : List ℕ) (len : ℕ) (table : List ℕ)
                   recorded = takes .recorded;
                   short = takes .short;
                   lent = omega (arith, kept-long, takes .lent);
-                  oldLent = omega (arith, kept-long, at-node .lent);
-                  oldRecorded = fitting .found .recorded;
+                  oldLent = omega (arith, kept-long, lent);
+                  oldRecorded = at-node .recorded;
                   few = (omega (arith, takes .counted, nodes-half new, takes .long, takes .short), at-node .few);
                 }
 
@@ -172,6 +175,6 @@ module _ (o : Option Tree) (canonical : List ℕ) (len : ℕ) (table : List ℕ)
                 ∙ same-outcome (takes .long) (takes .counted)
                 (f .octets
                 ∙ ap₂ (λ (c : List ℕ) (i : ℕ). sets c i (replicate (len - i) 0)) written (takes .long)
-                ∙ zeroed canonical (canon new) len (at-node .lent) new-fits)
+                ∙ zeroed canonical (canon new) len (lent) new-fits)
                 (f .records ∙ ap (λ (y : Option Tree). settled table (width * count) (tableOf (the y))) front-decodes)
                 ∙ sym (fitting .answer u sized) ∙ answered

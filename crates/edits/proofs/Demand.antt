@@ -3,7 +3,6 @@ use Prim.Native.Nat.{ℕ, _+_, _-_, _≤_, _<_, max}
 use native.Mathlib.Omega.{arith}
 use mathlib.Core.Path.{_≡_, refl, sym, ap, ap₂, _∙_, subst}
 use mathlib.Core.Bool.{true, false}
-use mathlib.Core.Option.{some}
 use mathlib.Core.List.{List, _++_, map}
 use lib.ListN.{length, take, drop, getD}
 use borrow.Author.Tests.{le-ltb, eq-eqb, ne-eqb}
@@ -11,16 +10,13 @@ use Rattle.base.proofs.Cases.{differ}
 use Rattle.model.specs.Edit.{one, replace}
 use Rattle.model.specs.Table.{Row, plainRow, rows, flat, tableOf, rowOf}
 use Rattle.model.specs.Tree.{Tree, Forest, nil, canon, canons, nodes, nodess, depth}
-use Rattle.walk.specs.Count.{Count, begin}
 use Rattle.edits.specs.Moves.{Moves, Grows, Shifts}
 use Rattle.edits.specs.Node.{nodeAmong, nodeAt, holds}
-use Rattle.edits.specs.Outside.{stepsOver}
 use Rattle.edits.specs.Place.{fill, level, outer, moved, grown, around, kept}
 use Rattle.edits.proofs.Find.{nodes-pos, nodeAt-among, node-at}
 use Rattle.walk.proofs.Tabled.{flat-append}
 use Rattle.edits.proofs.Holds.{holds-count, holds-at, node-side, around-holds, holds-list, holds-node}
 use Rattle.edits.proofs.Moved.{new-length, octets-front, octets-entry, octets-back, octet-before, octet-new, octet-after, record-aside, record-around, record-new, record-after}
-use Rattle.edits.proofs.Outside.{walk-outside, over-front, over-back}
 use Rattle.edits.proofs.Sides.{BeginsFrom, Side, aside, round, sides-after}
 use Rattle.edits.proofs.Whole.{canons-one, nodess-one, depths-one, rowss-one, depth-at, moves-at, moves-as, locate, count-at, length-at, end-at, replaced-at}
 
@@ -191,15 +187,3 @@ module _ (t : Tree) (k : ℕ) (h : k < nodes t) where
     -- ---- the corrected tree's depth
     pub replace-depth : depth now ≡ max (outer ((locate t k h) .place)) (level ((locate t k h) .place) + depth u)
     replace-depth = depth-at now ((locate t k h) .place) (one u) (replaced-at t k h u) ∙ rw depths-one
-
-    -- by a loop over the lexemes outside the entry, first those before it and then those after it: the deepest opening, or the
-    -- lists open at its start and the text's depth
-    pub replace-depth-walked : (c d : Count) → stepsOver (take (entry .start) (canon t)) begin ≡ some c → stepsOver (drop (entry .end) (canon t)) c ≡ some d
-        → depth now ≡ max (d .deepest) (c .opened + depth u)
-    replace-depth-walked c d e f =
-        let o = walk-outside t k h in
-        let x : some c ≡ some (o .atStart) = sym e ∙ over-front t k h in
-        let y : c ≡ o .atStart = cc in
-        let z : some d ≡ some (o .atEnd) = sym f ∙ ap (stepsOver (drop (entry .end) (canon t))) y ∙ over-back t k h in
-        let w : d ≡ o .atEnd = cc in
-        rw (y, w) (o .depthIs u)

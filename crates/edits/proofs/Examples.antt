@@ -1,19 +1,14 @@
 -- 01's starred correction, computed: node 1 of (3:abc[1:x]0:) replaced by "hi".
 use mathlib.Core.Path.{_≡_, refl}
 use mathlib.Core.Bool.{true, false}
-use mathlib.Core.Option.{some}
 use mathlib.Core.List.{[], _∷_}
-use lib.ListN.{take, drop}
-use Rattle.base.specs.Choice.{chain}
+use lib.ListN.{take}
 use Rattle.model.specs.Edit.{join, within, replace}
-use Rattle.model.specs.Lexemes.{closeStrict, strictLexeme, before, lexemesBy, strictLexemes}
 use Rattle.edits.specs.Place.{moved, kept}
-use Rattle.model.specs.Strings.{bind, number, decimal, first, afterLength, verbatimOf}
 use Rattle.model.specs.Table.{rows, flat, tableOf, rowOf}
 use Rattle.model.specs.Tree.{Tree, plain, hinted, list, nil, cons, digitsUpTo, digits, verbatim, canon, nodes}
-use Rattle.walk.specs.Count.{begin, step}
 use Rattle.edits.specs.Node.{holds}
-use Rattle.edits.specs.Outside.{steps, stepsOver}
+use Rattle.edits.specs.Levels.{holders}
 
 sheet : Tree
 sheet = list (cons (plain (97 ∷ 98 ∷ 99 ∷ [])) (cons (hinted (120 ∷ []) []) nil))
@@ -40,11 +35,7 @@ held : (holds sheet 0 1 ∷ holds sheet 0 2 ∷ holds sheet 1 2 ∷ []) ≡ (tru
 unfolding sheet canon verbatim digits digitsUpTo rows nodes
 held = refl
 
--- one list is open at the node's start, and no list is deeper outside it
-open-at : stepsOver (take 1 (canon sheet)) begin ≡ some (record { opened = 1; deepest = 1; seen = 1 })
-unfolding sheet canon verbatim digits digitsUpTo stepsOver steps step chain strictLexemes lexemesBy strictLexeme before
-open-at = refl
-
-closed-at : stepsOver (drop 6 (canon sheet)) (record { opened = 1; deepest = 1; seen = 1 }) ≡ some (record { opened = 0; deepest = 1; seen = 2 })
-unfolding sheet canon verbatim digits digitsUpTo stepsOver steps step chain strictLexemes lexemesBy strictLexeme closeStrict verbatimOf afterLength bind number decimal first before
-closed-at = refl
+-- one list is around each string
+around-both : (holders (take 1 (rows sheet 0)) 0 1 ∷ holders (take 2 (rows sheet 0)) 0 2 ∷ []) ≡ (1 ∷ 1 ∷ [])
+unfolding sheet canon verbatim digits digitsUpTo rows nodes holders
+around-both = refl

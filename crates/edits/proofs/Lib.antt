@@ -5,8 +5,7 @@ pub mod Find
 pub mod Whole
 pub mod Sides
 pub mod Moved
-pub mod Steps
-pub mod Outside
+pub mod Levels
 pub mod Holds
 pub mod Demand
 mod Examples

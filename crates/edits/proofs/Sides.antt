@@ -15,9 +15,9 @@ use Rattle.edits.proofs.Rows.{lead-length}
 use Rattle.edits.proofs.Whole.{nodes-at, rows-at}
 
 -- row i is that of a node that ends by octet s and by node k
-record EndsBy (r : Row) (i k s : ℕ) : Type 0 where
-  octets : r .end ≤ s
-  nodes : i + r .count ≤ k
+pub record EndsBy (r : Row) (i k s : ℕ) : Type 0 where
+  pub octets : r .end ≤ s
+  pub nodes : i + r .count ≤ k
 
 -- no number of the row is below octet s, but for the hint numbers of a row without a hint
 pub record BeginsFrom (r : Row) (s : ℕ) : Type 0 where
@@ -39,7 +39,7 @@ part a b i P f g =
 mutual
   unfolding rows canon nodes
 
-  rows-before : (t : Tree) (at i : ℕ) → i < nodes t → EndsBy (getD (rows t at) i (plainRow 0 0 0)) i (nodes t) (at + length (canon t))
+  pub rows-before : (t : Tree) (at i : ℕ) → i < nodes t → EndsBy (getD (rows t at) i (plainRow 0 0 0)) i (nodes t) (at + length (canon t))
   rows-before (plain d) at zero h = record { octets = omega arith; nodes = omega arith }
   rows-before (plain d) at (suc i) h = absurd (omega arith)
   rows-before (hinted k d) at zero h = record { octets = simp length-append (omega arith); nodes = omega arith }

@@ -1,4 +1,4 @@
 pub mod Node
 pub mod Place
 pub mod Moves
-pub mod Outside
+pub mod Levels

@@ -80,11 +80,14 @@ module _ (canonical : List ℕ) (len : ℕ) (table : List ℕ) (count node : ℕ
           record {
             tree = t;
             own = i;
-            recorded = own-lent canonical len table count t o;
+            is = o .sheet .is;
+            lent = o .sheet .lent;
             at = record {
-              is = o .sheet .decoded;
-              lent = o .sheet .lent;
+              long = sym (o .sheet .size);
               short = omega (arith, o .sheet .size, o .sheet .fitting .long);
+              shallow = o .sheet .fitting .deep;
+              recorded = own-lent canonical len table count t o;
+              counts = λ j l. table-at canonical len table count t o j 3 l (omega arith);
               counted = o .counted;
               few = omega (arith, o .counted, o .sheet .fitting .many);
               inside = omega (arith, o .counted);

@@ -1,3 +1,4 @@
 pub mod Finding
+pub mod Levelling
 pub mod Resizing
 pub mod Planning

@@ -4,16 +4,23 @@ use native.Mathlib.Omega.{arith}
 use mathlib.Core.Path.{_≡_, sym, _∙_, subst}
 use mathlib.Core.List.{List}
 use lib.ListN.{length}
+use lib.Dec.{ltb}
+use borrow.Author.Tests.{le-ltb, ltb-false}
 use Rattle.model.specs.Edit.{replace}
 use Rattle.model.specs.Tree.{Tree, canon, nodes, depth}
 use Rattle.reader.specs.Stored.{roomVerdict}
 use Rattle.reader.proofs.Rooms.{Lodged, roomy}
-use Rattle.plan.specs.Planned.{Sized, Small, Entered, Refusing, Finds, Resizable, Resized, Plans}
+use Rattle.plan.specs.Planned.{Sized, Small, Entered, Refusing, Finds, Resizable, Weighed, Resized, Plans}
 use Rattle.plan.proofs.Finding.{node-refused, node-accepted}
 use Rattle.plan.specs.declared.Sizes.{Sizes}
 use Rattle.plan.specs.declared.Found.{Found}
 use Rattle.plan.specs.declared.Found.the-variants.{Node, Unfound}
 use Rattle.plan.specs.declared.Plan.the-variants.{Fits, Misfit}
+
+-- only whether a tree is too deep plays a part
+same-verdict : (o k d d′ : ℕ) {n n′ l l′ : ℕ} → ltb 32 d ≡ ltb 32 d′ → n ≡ n′ → l ≡ l′ → roomVerdict d n l o k ≡ roomVerdict d′ n′ l′ o k
+unfolding roomVerdict
+same-verdict o k d d′ p q r = rw (p, q, r)
 
 module _ (canonical : List ℕ) (len : ℕ) (table : List ℕ) (count node : ℕ) (text : Sizes) (small : Small text) (r : Found) (w : Finds canonical len table count node r) where
   pub plan-unfound : (k : ℕ) → r ≡ Unfound k → Plans canonical len table count node text (Misfit k)
@@ -27,19 +34,16 @@ module _ (canonical : List ℕ) (len : ℕ) (table : List ℕ) (count node : ℕ
     unfolding Finds
     entered = subst (Finds canonical len table count node) e w
 
-    pub plan-resizable : Resizable canonical len count start end n text
-    plan-resizable = record { tree = entered .tree; node = node; at = entered .at; small = small }
+    pub plan-resizable : Resizable table len count node start end n text
+    plan-resizable = record { tree = entered .tree; at = entered .at; small = small }
 
-    module _ (to : Sizes) (z : Resized canonical len count start end n text to) (row : ℕ) (v : row ≡ roomVerdict (to .depth) (to .nodes) (to .len) (length canonical) (length table)) where
-      sized : (u : Tree) → Sized u text → Sized (replace (entered .tree) node u) to
-      sized u s = z .is (entered .tree) node (entered .at) u s
+    module _ (to : Sizes) (z : Resized table len count node start end n text to) (row : ℕ) (v : row ≡ roomVerdict (to .depth) (to .nodes) (to .len) (length canonical) (length table)) where
+      weighed : (u : Tree) → Sized u text → Weighed (replace (entered .tree) node u) to
+      weighed u s = z .is (entered .tree) (entered .at) u s
 
       verdict-of : (u : Tree) → Sized u text
           → row ≡ roomVerdict (depth (replace (entered .tree) node u)) (nodes (replace (entered .tree) node u)) (length (canon (replace (entered .tree) node u))) (length canonical) (length table)
-      verdict-of u s = let x = sized u s in v ∙ same-verdict (length canonical) (length table) (x .deepest) (x .counted) (x .long)
-        where
-          same-verdict : (o k : ℕ) {d d′ n n′ l l′ : ℕ} → d ≡ d′ → n ≡ n′ → l ≡ l′ → roomVerdict d n l o k ≡ roomVerdict d′ n′ l′ o k
-          same-verdict o k p q r = λ i. roomVerdict (p i) (q i) (r i) o k
+      verdict-of u s = let x = weighed u s in v ∙ same-verdict (length canonical) (length table) (to .depth) (depth (replace (entered .tree) node u)) (x .deep) (x .counted) (x .long)
 
       inside : node < count
       inside = omega (arith, entered .at .inside, entered .at .counted)
@@ -57,7 +61,7 @@ module _ (canonical : List ℕ) (len : ℕ) (table : List ℕ) (count node : ℕ
             n = n;
             found = entered;
             takes = λ u s.
-                let x = sized u s in
-                record { long = x .long; counted = x .counted; shallow = omega (arith, x .deepest, g .shallow); recorded = g .recorded; short = g .small; lent = g .lent };
+                let x = weighed u s in
+                record { long = x .long; counted = x .counted; shallow = ltb-false 32 _ (sym (x .deep) ∙ le-ltb 32 (to .depth) (g .shallow)); recorded = g .recorded; short = g .small; lent = g .lent };
             answer = λ u s. node-accepted canonical len table count node (entered .tree) (entered .own) u inside (sym (verdict-of u s) ∙ none);
           }

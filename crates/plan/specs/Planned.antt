@@ -1,15 +1,14 @@
 -- Replacing by steps: the node, the sizes of the tree with it replaced, and what rows 7, 8 and 4 to 6 say of it.
-use Prim.Native.Nat.{ℕ, _*_, _≤_, _<_}
+use Prim.Native.Nat.{ℕ, zero, suc, _+_, _-_, _*_, _≤_, _<_}
 use mathlib.Core.Path.{_≡_}
 use mathlib.Core.Option.{Option, some}
 use mathlib.Core.List.{List, _∷_}
-use lib.ListN.{length, take}
-use lib.Dec.{leb}
-use Rattle.base.specs.Choice.{isNone}
+use lib.ListN.{length, take, getD}
+use lib.Dec.{leb, ltb}
+use Rattle.base.specs.Choice.{pick, isNone}
 use Rattle.model.specs.Tree.{Tree, canon, nodes, depth}
 use Rattle.model.specs.Table.{width, rowOf}
 use Rattle.model.specs.Edit.{replace}
-use Rattle.model.specs.Decode.{decode₁}
 use Rattle.model.specs.Limits.{maxDepth, maxNodes, maxCanonical, Syntax, NotOwn, NoNode}
 use Rattle.model.specs.Answers.{Outcome, Check, when, judged, the, roomChecks, ownTree, filled, unchanged}
 use Rattle.plan.specs.declared.Sizes.{Sizes}
@@ -51,23 +50,26 @@ pub record Small (s : Sizes) : Type 0 where
 
 -- ---- the node
 
--- node k of a sheet's tree t, which stands from `start` to `end` and has n nodes
-pub record AtNode (canonical : List ℕ) (len count start end n : ℕ) (t : Tree) (k : ℕ) : Type 0 where
-  pub is : decode₁ (take len canonical) ≡ some t
-  pub lent : len ≤ length canonical
+-- node k of a tree t that fits, of len octets and count nodes, which stands from `start` to `end` and has n nodes
+pub record AtNode (len : ℕ) (table : List ℕ) (count start end n : ℕ) (t : Tree) (k : ℕ) : Type 0 where
+  pub long : len ≡ length (canon t)
   pub short : len ≤ maxCanonical
+  pub shallow : depth t ≤ maxDepth
   pub counted : count ≡ nodes t
   pub few : count ≤ maxNodes
   pub inside : k < nodes t
   pub begins : start ≡ (rowOf t k) .start
   pub ends : end ≡ (rowOf t k) .end
   pub has : n ≡ (rowOf t k) .count
+  pub recorded : width * count ≤ length table
+  pub counts : (j : ℕ) → j < count → getD table (j * 8 + 3) 0 ≡ (rowOf t j) .count
 
 pub record Entered (canonical : List ℕ) (len : ℕ) (table : List ℕ) (count node start end n : ℕ) : Type 0 where
   pub tree : Tree
   pub own : ownTree canonical len table count ≡ some tree
-  pub at : AtNode canonical len count start end n tree node
-  pub recorded : width * count ≤ length table
+  pub is : take len canonical ≡ canon tree
+  pub lent : len ≤ length canonical
+  pub at : AtNode len table count start end n tree node
 
 -- row 7 or 8 applies, whatever is put in
 pub record Refusing (canonical : List ℕ) (len : ℕ) (table : List ℕ) (count node number : ℕ) : Type 0 where
@@ -79,14 +81,33 @@ Finds canonical len table count node (Unfound k) = Refusing canonical len table 
 
 -- ---- the sizes of the tree with the node replaced
 
-pub record Resizable (canonical : List ℕ) (len count start end n : ℕ) (text : Sizes) : Type 0 where
+-- the records before a node are there
+pub record Recorded (room node : ℕ) : Type 0 where
+  pub few : node ≤ maxNodes
+  pub fits : width * node ≤ room
+
+-- of n records from record j on, those that count node k among theirs, onto a number of them
+unfoldable pub levels : List ℕ → ℕ → ℕ → ℕ → ℕ → ℕ
+levels table k zero j level = level
+levels table k (suc n) j level = levels table k n (suc j) (pick (ltb (k - j) (getD table (j * 8 + 3) 0)) (level + 1) level)
+
+pub record Levels (table : List ℕ) (node level : ℕ) : Type 0 where
+  pub is : level ≡ levels table node node 0 0
+  pub few : level ≤ node
+
+pub record Resizable (table : List ℕ) (len count node start end n : ℕ) (text : Sizes) : Type 0 where
   pub tree : Tree
-  pub node : ℕ
-  pub at : AtNode canonical len count start end n tree node
+  pub at : AtNode len table count start end n tree node
   pub small : Small text
 
-pub record Resized (canonical : List ℕ) (len count start end n : ℕ) (text to : Sizes) : Type 0 where
-  pub is : (t : Tree) (k : ℕ) → AtNode canonical len count start end n t k → (u : Tree) → Sized u text → Sized (replace t k u) to
+-- as long and of as many nodes as a tree, and too deep where it is
+pub record Weighed (t : Tree) (s : Sizes) : Type 0 where
+  pub long : s .len ≡ length (canon t)
+  pub counted : s .nodes ≡ nodes t
+  pub deep : ltb maxDepth (s .depth) ≡ ltb maxDepth (depth t)
+
+pub record Resized (table : List ℕ) (len count node start end n : ℕ) (text to : Sizes) : Type 0 where
+  pub is : (t : Tree) → AtNode len table count start end n t node → (u : Tree) → Sized u text → Weighed (replace t node u) to
 
 -- ---- the plan
 

@@ -3,7 +3,7 @@
 ghost use mathlib.Core.Path.{_≡_};
 ghost use Prim.Native.Nat.{_+_, _*_, _≤_};
 ghost use lib.ListN.{length, getD};
-ghost use Rattle.plan.specs.Planned.{Small, Finds, Resizable, Resized, Plans};
+ghost use Rattle.plan.specs.Planned.{Small, Finds, Recorded, Levels, Resizable, Resized, Plans};
 
 // The canonical length, the node count and the depth of a tree.
 pub struct Sizes {
@@ -55,25 +55,41 @@ fn find(canonical: &[u8], length: usize, table: &[u32], nodes: usize, node: usiz
     }
 }
 
-// The sizes of the tree with the node replaced by one of the sizes given.
+// How many lists are around a node: of the records before its own, those that count it among their nodes.
+fn level(table: &[u32], node: usize) -> usize
+    requires { ⌜ Recorded (length (now table)) node ⌝ }
+    ensures { λ r. ⌜ Levels (now (table .entry)) node r ⌝ }
+{
+    let mut level: usize = 0;
+    let mut j: usize = 0;
+    while j < node {
+        if lookup::number(table, j, 3) > node - j {
+            level += 1;
+        }
+        j += 1;
+    }
+    level
+}
+
+// The sizes of the tree with the node replaced by one of the sizes given. The old tree fits, so that the new one is too deep
+// only where the lists around the node and the text's together are: the depth told is theirs.
 fn resize(
-    canonical: &[u8],
+    table: &[u32],
     length: usize,
     nodes: usize,
+    node: usize,
     start: usize,
     end: usize,
     count: usize,
     text: Sizes,
 ) -> Sizes
-    requires { ⌜ Resizable (now canonical) length nodes start end count text ⌝ }
-    ensures { λ r. ⌜ Resized (now (canonical .entry)) length nodes start end count text r ⌝ }
+    requires { ⌜ Resizable (now table) length nodes node start end count text ⌝ }
+    ensures { λ r. ⌜ Resized (now (table .entry)) length nodes node start end count text r ⌝ }
 {
-    let part = &canonical[..length];
-    let around = outside::outside(part, start, end);
     Sizes {
         len: length - (end - start) + text.len,
         nodes: nodes - count + text.nodes,
-        depth: walk::larger(around.deepest, around.level + text.depth),
+        depth: level(table, node) + text.depth,
     }
 }
 
@@ -91,7 +107,7 @@ pub fn judge(
 {
     match find(canonical, length, table, nodes, node) {
         Found::Node { start, end, count } => {
-            let to = resize(canonical, length, nodes, start, end, count, text);
+            let to = resize(table, length, nodes, node, start, end, count, text);
             let row = reader::room(to.len, to.nodes, to.depth, canonical.len(), table.len());
             if row > 0 {
                 return Plan::Misfit { number: row };

@@ -1,54 +1,20 @@
-use Prim.Native.Nat.{_-_}
 use native.Mathlib.Omega.{arith}
-use Rattle.moves.proofs.Cells.{Lowering, down-start, down-on, down-long, down-end}
+use Rattle.moves.proofs.Cells.{down-rest}
+use borrow.Author.Needs.{needs}
 use Rattle.moves.proofs.move_down.Statement.{statement}
 use Rattle.moves.proofs.move_down.Tie as tie
 
-abbrev Inv-loop : tie.InvT-loop
-Inv-loop buf₀ from to delta j₀ buf j = Lowering buf₀ from to delta buf j
+lower-blocks-requires : tie.Need-lower-blocks-requires
+lower-blocks-requires c κs = search needs
 
-abbrev μ-loop : tie.MeasureT-loop
-μ-loop buf₀ from to delta j₀ buf j = to - j
+lower-requires : tie.Need-lower-requires
+lower-requires c κs = search needs
 
-loop-holds : tie.Need-loop-holds Inv-loop μ-loop
-loop-holds c = search (down-start, arith)
+same-length : tie.Need-same-length
+same-length c = search needs
 
-slice-read-buf : tie.Need-slice-read-buf Inv-loop μ-loop
-slice-read-buf c = omega arith
-
-sub-buf : tie.Need-sub-buf Inv-loop μ-loop
-sub-buf c = omega arith
-
-slice-write-buf : tie.Need-slice-write-buf Inv-loop μ-loop
-slice-write-buf c = omega arith
-
-add-j : tie.Need-add-j Inv-loop μ-loop
-add-j c = omega arith
-
-loop-less : tie.Need-loop-less Inv-loop μ-loop
-loop-less c = omega arith
-
-loop-again : tie.Need-loop-again Inv-loop μ-loop
-loop-again c = search (down-on, arith)
-
-same-length : tie.Need-same-length Inv-loop μ-loop
-same-length c = search (down-long, arith)
-
-returns : tie.Need-returns Inv-loop μ-loop
-returns c = search (down-end, arith)
+returns : tie.Need-returns
+returns c = search (down-rest, arith)
 
 pub move-down-spec : {M : Type 1} → statement M
-move-down-spec =
-    tie.close
-    (tie.spec
-    Inv-loop
-    μ-loop
-    loop-holds
-    slice-read-buf
-    sub-buf
-    slice-write-buf
-    add-j
-    loop-less
-    loop-again
-    same-length
-    returns)
+move-down-spec = tie.close (tie.spec lower-blocks-requires lower-requires same-length returns)

@@ -1,0 +1,11 @@
+-- The lists around a node, counted in a table, for the depth of a corrected tree (01, "4 to 6 speak of the corrected tree").
+use Prim.Native.Nat.{ℕ, suc, _+_}
+use mathlib.Core.List.{List, [], _∷_}
+use lib.Dec.{ltb}
+use Rattle.base.specs.Choice.{pick}
+use Rattle.model.specs.Table.{Row}
+
+-- of rows that are numbered from i on, how many count node k among theirs
+unfoldable pub holders : List Row → ℕ → ℕ → ℕ
+holders [] i k = 0
+holders (r ∷ rs) i k = pick (ltb k (i + r .count)) 1 0 + holders rs (suc i) k

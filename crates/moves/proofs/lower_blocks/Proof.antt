@@ -1,0 +1,56 @@
+use Prim.Native.Nat.{_-_}
+use borrow.Author.Needs.{needs}
+use native.Mathlib.Omega.{arith}
+use Rattle.moves.specs.Moved.{Lowering}
+use Rattle.moves.proofs.Cells.{down-start, down-block, down-long}
+use Rattle.moves.proofs.lower_blocks.Statement.{statement}
+use Rattle.moves.proofs.lower_blocks.Tie as tie
+
+abbrev Inv-loop : tie.InvT-loop
+Inv-loop buf₀ from to delta j₀ buf j = Lowering buf₀ from to delta buf j
+
+abbrev μ-loop : tie.MeasureT-loop
+μ-loop buf₀ from to delta j₀ buf j = to - j
+
+loop-holds : tie.Need-loop-holds Inv-loop μ-loop
+loop-holds c = search (down-start, arith)
+
+sub-loop : tie.Need-sub-loop Inv-loop μ-loop
+sub-loop c = omega arith
+
+sub-move-block : tie.Need-sub-move-block Inv-loop μ-loop
+sub-move-block c = omega arith
+
+move-block-requires : tie.Need-move-block-requires Inv-loop μ-loop
+move-block-requires c κs = search needs
+
+add-j : tie.Need-add-j Inv-loop μ-loop
+add-j c = omega arith
+
+loop-less : tie.Need-loop-less Inv-loop μ-loop
+loop-less c = omega arith
+
+loop-again : tie.Need-loop-again Inv-loop μ-loop
+loop-again c = search (down-block, arith)
+
+same-length : tie.Need-same-length Inv-loop μ-loop
+same-length c = search (down-long, arith)
+
+returns : tie.Need-returns Inv-loop μ-loop
+returns c = search needs
+
+pub lower-blocks-spec : {M : Type 1} → statement M
+lower-blocks-spec =
+    tie.close
+    (tie.spec
+    Inv-loop
+    μ-loop
+    loop-holds
+    sub-loop
+    sub-move-block
+    move-block-requires
+    add-j
+    loop-less
+    loop-again
+    same-length
+    returns)

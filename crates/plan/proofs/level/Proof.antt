@@ -1,0 +1,55 @@
+use mathlib.Core.Logic.{⊎-elim}
+use native.Mathlib.Omega.{arith}
+use Rattle.plan.proofs.Levelling.{Levelling, level-held, level-aside, level-start, level-record, level-end}
+use Prim.Native.Nat.{_-_}
+use Rattle.plan.proofs.level.Statement.{statement}
+use Rattle.plan.proofs.level.Tie as tie
+
+abbrev Inv-loop : tie.InvT-loop
+Inv-loop table node level₀ j₀ level j = Levelling table node level j
+
+abbrev μ-loop : tie.MeasureT-loop
+μ-loop table node level₀ j₀ level j = node - j
+
+loop-holds : tie.Need-loop-holds Inv-loop μ-loop
+loop-holds c = search (level-start, arith)
+
+number-requires : tie.Need-number-requires Inv-loop μ-loop
+number-requires c κs = search (level-record, arith)
+
+sub-if1 : tie.Need-sub-if1 Inv-loop μ-loop
+sub-if1 c = omega arith
+
+add-level : tie.Need-add-level Inv-loop μ-loop
+add-level c = omega (arith, c .before .before .before .loop .inv .few)
+
+add-j : tie.Need-add-j Inv-loop μ-loop
+add-j c = omega arith
+
+loop-less : tie.Need-loop-less Inv-loop μ-loop
+loop-less c = omega arith
+
+loop-again : tie.Need-loop-again Inv-loop μ-loop
+loop-again c =
+    ⊎-elim
+    (λ p. rw (p .1) (level-held _ _ _ _ (c .before .before .before .loop .inv) (c .before .before .loop-test .taken) _ (c .before .number .ensures) (p .0 .taken)))
+    (λ p. rw (p .1) (level-aside _ _ _ _ (c .before .before .before .loop .inv) (c .before .before .loop-test .taken) _ (c .before .number .ensures) (p .0 .left)))
+    (c .if1 .came)
+
+returns : tie.Need-returns Inv-loop μ-loop
+returns c = search (level-end, arith)
+
+pub level-spec : {M : Type 1} → statement M
+level-spec =
+    tie.close
+    (tie.spec
+    Inv-loop
+    μ-loop
+    loop-holds
+    number-requires
+    sub-if1
+    add-level
+    add-j
+    loop-less
+    loop-again
+    returns)
