@@ -1,0 +1,63 @@
+//! `compare SEED COUNT`: the fixed cases and COUNT random ones of the seed, each
+//! answered by the library and by the reference program. Answers and all lent
+//! buffers must be the same. What differs is shown whole; the exit status is 1
+//! where anything does.
+
+mod library;
+
+use std::collections::BTreeMap;
+use std::env;
+use std::process::ExitCode;
+
+use reference::corpus::case::Case;
+use reference::corpus::explain::explain;
+use reference::corpus::files::cases;
+use reference::corpus::run::{run, Outcome};
+
+/// Differences shown whole; the rest are only counted.
+const SHOWN: u64 = 5;
+
+fn main() -> ExitCode {
+    let arguments: Vec<String> = env::args().skip(1).collect();
+    let numbers: Option<Vec<u64>> = arguments.iter().map(|word| word.parse().ok()).collect();
+    match numbers.as_deref() {
+        Some([seed, count]) => compare(*seed, *count),
+        _ => {
+            eprintln!("usage: compare SEED COUNT");
+            ExitCode::from(2)
+        }
+    }
+}
+
+fn compare(seed: u64, count: u64) -> ExitCode {
+    let mut tally: BTreeMap<(&'static str, u32), u64> = BTreeMap::new();
+    let mut differences = 0;
+    for (number, case) in (0..).zip(cases(seed, count)) {
+        let expected = run(&case);
+        *tally.entry((case.name(), expected.answer)).or_default() += 1;
+        for (way, answered) in library::answers(&case) {
+            if answered != expected {
+                differences += 1;
+                if differences <= SHOWN {
+                    show(number, &case, way, &answered);
+                }
+            }
+        }
+    }
+    for ((entry, answer), cases) in &tally {
+        println!("{entry} {answer}: {cases} cases");
+    }
+    println!(
+        "{} cases, {differences} differences",
+        tally.values().sum::<u64>()
+    );
+    ExitCode::from(u8::from(differences > 0))
+}
+
+fn show(number: u64, case: &Case, way: &str, answered: &Outcome) {
+    print!("{}", explain(number, case));
+    print!(
+        "the library, {way}\n  {}",
+        answered.line(number, case.name())
+    );
+}

@@ -1,0 +1,65 @@
+/* Reads a text, shows a node, replaces it and writes the result in form 3:
+ *
+ *     correct TEXT NODE REPLACEMENT
+ *
+ * Both texts are advanced S-expressions. Build and run: see Makefile. */
+#include <stdio.h>
+#include <stdlib.h>
+#include <string.h>
+
+#include "etglavino.h"
+
+static uint8_t canonical[ETG_MOST_CANONICAL];
+static uint32_t table[ETG_MOST_NODES * ETG_RECORD];
+static uint8_t out[2 * ETG_MOST_CANONICAL];
+
+static void show(const char *name, const uint8_t *octets, size_t count)
+{
+    printf("%s: ", name);
+    fwrite(octets, 1, count, stdout);
+    putchar('\n');
+}
+
+static int refused(const char *step, uint32_t number)
+{
+    printf("%s: refused %u\n", step, (unsigned)number);
+    return 1;
+}
+
+int main(int argc, char **argv)
+{
+    size_t length, nodes, node, start, end, written;
+    uint32_t number;
+
+    if (argc != 4) {
+        fprintf(stderr, "usage: correct TEXT NODE REPLACEMENT\n");
+        return 2;
+    }
+    node = (size_t)strtoul(argv[2], NULL, 10);
+
+    number = etg_read(ETG_ADVANCED, (const uint8_t *)argv[1], strlen(argv[1]),
+                      canonical, sizeof canonical,
+                      table, sizeof table / sizeof *table, &length, &nodes);
+    if (number != ETG_ACCEPTED)
+        return refused("read", number);
+    show("sheet", canonical, length);
+
+    if (etg_data(canonical, sizeof canonical, length,
+                 table, sizeof table / sizeof *table, nodes, node, &start, &end))
+        show("node", canonical + start, end - start);
+
+    number = etg_replace(ETG_ADVANCED, (const uint8_t *)argv[3], strlen(argv[3]),
+                         canonical, sizeof canonical,
+                         table, sizeof table / sizeof *table,
+                         length, nodes, node, &length, &nodes);
+    if (number != ETG_ACCEPTED)
+        return refused("replace", number);
+    show("corrected", canonical, length);
+
+    number = etg_write(ETG_ADVANCED, canonical, sizeof canonical, length,
+                       out, sizeof out, &written);
+    if (number != ETG_ACCEPTED)
+        return refused("write", number);
+    show("written", out, written);
+    return 0;
+}

@@ -1,0 +1,89 @@
+//! The C interface, as `include/etglavino.h` declares it.
+
+/// What `etg_hint` and `etg_data` are, over a table of `T`.
+pub type Look<T> = unsafe extern "C" fn(
+    canonical: *const u8,
+    canonical_room: usize,
+    length: usize,
+    table: *const T,
+    table_room: usize,
+    nodes: usize,
+    node: usize,
+    start: *mut usize,
+    end: *mut usize,
+) -> u32;
+
+extern "C" {
+    pub fn etg_read(
+        form: u32,
+        source: *const u8,
+        source_len: usize,
+        canonical: *mut u8,
+        canonical_room: usize,
+        table: *mut u32,
+        table_room: usize,
+        length: *mut usize,
+        nodes: *mut usize,
+    ) -> u32;
+
+    pub fn etg_write(
+        form: u32,
+        canonical: *const u8,
+        canonical_room: usize,
+        length: usize,
+        out: *mut u8,
+        out_room: usize,
+        written: *mut usize,
+    ) -> u32;
+
+    pub fn etg_replace(
+        form: u32,
+        text: *const u8,
+        text_len: usize,
+        canonical: *mut u8,
+        canonical_room: usize,
+        table: *mut u32,
+        table_room: usize,
+        length: usize,
+        nodes: usize,
+        node: usize,
+        new_length: *mut usize,
+        new_nodes: *mut usize,
+    ) -> u32;
+
+    pub fn etg_same(
+        a: *const u8,
+        a_room: usize,
+        a_length: usize,
+        b: *const u8,
+        b_room: usize,
+        b_length: usize,
+        default_hint: *const u8,
+        default_len: usize,
+        same: *mut u32,
+    ) -> u32;
+
+    pub fn etg_hint(
+        canonical: *const u8,
+        canonical_room: usize,
+        length: usize,
+        table: *const u32,
+        table_room: usize,
+        nodes: usize,
+        node: usize,
+        start: *mut usize,
+        end: *mut usize,
+    ) -> u32;
+
+    pub fn etg_data(
+        canonical: *const u8,
+        canonical_room: usize,
+        length: usize,
+        table: *const u32,
+        table_room: usize,
+        nodes: usize,
+        node: usize,
+        start: *mut usize,
+        end: *mut usize,
+    ) -> u32;
+}

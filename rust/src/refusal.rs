@@ -1,0 +1,67 @@
+//! Why something was refused.
+
+use std::fmt;
+
+/// Why something was refused, by the number that every interface of the
+/// library gives it.
+#[derive(Clone, Copy, Debug, PartialEq, Eq, Hash)]
+#[repr(u32)]
+pub enum Refusal {
+    /// 1: the form is not 1, 2 or 3.
+    NoForm = 1,
+    /// 2: the source has over 32,768 octets.
+    Source = 2,
+    /// 3: the source is not in the form's language.
+    Syntax = 3,
+    /// 4: lists nest over 32 deep.
+    Depth = 4,
+    /// 5: over 4,096 nodes, or more than records are lent.
+    Nodes = 5,
+    /// 6: over 16,384 canonical octets, or a result over the lent room.
+    Size = 6,
+    /// 7: the octets are not one tree's canonical form that fits, or the table
+    /// is not their own, or a length or count is beyond what is lent.
+    NotOwn = 7,
+    /// 8: there is no node of that number.
+    NoNode = 8,
+}
+
+impl Refusal {
+    /// The number.
+    pub const fn number(self) -> u32 {
+        self as u32
+    }
+
+    pub(crate) fn check<T>(number: u32, answer: T) -> Result<T, Refusal> {
+        Err(match number {
+            0 => return Ok(answer),
+            1 => Refusal::NoForm,
+            2 => Refusal::Source,
+            3 => Refusal::Syntax,
+            4 => Refusal::Depth,
+            5 => Refusal::Nodes,
+            6 => Refusal::Size,
+            7 => Refusal::NotOwn,
+            8 => Refusal::NoNode,
+            _ => unreachable!("the library gives no other number"),
+        })
+    }
+}
+
+impl fmt::Display for Refusal {
+    fn fmt(&self, f: &mut fmt::Formatter<'_>) -> fmt::Result {
+        let why = match self {
+            Refusal::NoForm => "the form is not 1, 2 or 3",
+            Refusal::Source => "the source has over 32,768 octets",
+            Refusal::Syntax => "the source is not in the form's language",
+            Refusal::Depth => "lists nest over 32 deep",
+            Refusal::Nodes => "over 4,096 nodes, or more than records are lent",
+            Refusal::Size => "over 16,384 canonical octets, or a result over the lent room",
+            Refusal::NotOwn => "not one tree's canonical form with its own table",
+            Refusal::NoNode => "there is no node of that number",
+        };
+        write!(f, "refused {}: {why}", self.number())
+    }
+}
+
+impl std::error::Error for Refusal {}
