@@ -1,4 +1,3 @@
 pub mod Replacing
 pub mod Written
-pub mod Braces
 pub mod Entry

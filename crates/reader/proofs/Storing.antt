@@ -3,23 +3,21 @@ use Prim.Native.Nat.{ℕ, _+_, _≤_, _<_}
 use native.Mathlib.Omega.{arith}
 use mathlib.Core.Path.{_≡_, refl, sym, ap, ap₂, _∙_, subst}
 use mathlib.Core.Option.{Option, some}
-use mathlib.Core.List.{List, [], _++_, append-nil}
+use mathlib.Core.Bool.{Bool}
+use mathlib.Core.List.{List, _++_}
 use lib.ListN.{length, take, drop}
 use lib.Seq.{take-at, sets, length-sets}
 use Rattle.base.proofs.Stores.{sets-all}
-use Rattle.model.specs.Answers.{the, fits, Outcome, filled}
-use Rattle.model.specs.Compare.{same}
-use Rattle.model.specs.Decode.{decode₁, decode₃}
+use Rattle.model.specs.Answers.{the, Outcome, filled}
+use Rattle.model.specs.Decode.{decode₁}
 use Rattle.model.specs.Limits.{Accepted}
-use Rattle.model.specs.Strings.{number}
 use Rattle.model.specs.Table.{tableOf}
 use Rattle.model.specs.Tree.{Tree, canon, nodes, depth}
-use Rattle.model.proofs.Exact.{canon-sound, canon-complete}
-use Rattle.walk.specs.Count.{count}
+use Rattle.model.proofs.Exact.{canon-complete}
 use Rattle.walk.specs.Extent.{Wholly, Measures}
 use Rattle.walk.proofs.Tabled.{table-length}
 use Rattle.scan.specs.Writes.{Wrote}
-use Rattle.emitter.specs.Emitted.{Emittable}
+use Rattle.texts.specs.Texts.{decodeBy, Puttable}
 use Rattle.answers.specs.Cases.{outcome, Refuses}
 use Rattle.reader.specs.Stored.{roomVerdict, readTree, Finishable, Finished}
 use Rattle.reader.proofs.Rooms.{Lodged, roomy, tree-none, tree-refused, tree-accepted, settled-front}
@@ -95,52 +93,23 @@ module _ (o : Option Tree) (canonical table : List ℕ) (x : Extent) (m : Measur
                   → _≡_ {A = Outcome} (record { number = Accepted; octets = a; count = b; canonical = c; table = d }) (record { number = Accepted; octets = a′; count = b′; canonical = c′; table = d′ })
               same-outcome p q r s = λ i. record { number = Accepted; octets = p i; count = q i; canonical = r i; table = s i }
 
--- ---- form 1: the text is copied
-module _ (source canonical table : List ℕ) (x : Extent) (m : Measures (decode₁ source) x) (len count deep : ℕ) (e : x ≡ extent.Whole len count deep) (n : ℕ) (h : n ≡ roomVerdict deep count len (length canonical) (length table)) (k : n ≤ 0) where
-  abbrev whole : Wholly (decode₁ source) len count deep
-  whole = measured (decode₁ source) canonical table x m len count deep e
+-- ---- the text's canonical octets are put
+module _ (b : Bool) (source canonical table : List ℕ) (short : length source ≤ 32768) (x : Extent) (m : Measures (decodeBy b source) x) (len count deep : ℕ) (e : x ≡ extent.Whole len count deep) (n : ℕ) (h : n ≡ roomVerdict deep count len (length canonical) (length table)) (k : n ≤ 0) where
+  abbrev meant : Wholly (decodeBy b source) len count deep
+  meant = measured (decodeBy b source) canonical table x m len count deep e
 
-  source-is : source ≡ canon (whole .tree)
-  source-is = canon-sound source (whole .tree) (whole .is)
+  pub put-room : Puttable b source len 0 (length canonical)
+  put-room =
+      let f : Lodged deep count len (length canonical) (length table) = fitting-room (decodeBy b source) canonical table x m len count deep e n h k in
+      record { tree = meant .tree; is = meant .is; long = meant .long; fits = omega (arith, f .lent); near = omega arith; short = short }
 
-  pub copy-room : (0 + len ≤ length source) × (0 + len ≤ length canonical)
-  copy-room =
-      let f : Lodged deep count len (length canonical) (length table) = fitting-room (decode₁ source) canonical table x m len count deep e n h k in
-      (omega (arith, whole .long, ap length source-is), omega (arith, f .lent))
-
-  copied : take len (drop 0 source) ≡ canon (whole .tree)
-  copied = ap₂ take (whole .long ∙ ap length (sym source-is)) refl ∙ take-all source ∙ source-is
-    where
-      take-all : (l : List ℕ) → take (length l) l ≡ l
-      take-all l = ap (take (length l)) (sym (append-nil l)) ∙ take-at l [] (length l) refl
-
-  module _ (canonical′ : List ℕ) (p : ℕ) (w : Wrote (take len (drop 0 source)) 0 canonical canonical′ p) where
-    as-tree : Wrote (canon (whole .tree)) 0 canonical canonical′ p
-    as-tree = subst (λ (y : List ℕ). Wrote y 0 canonical canonical′ p) copied w
-
-    pub copy-finishable : Finishable canonical′ len count (length table)
-    copy-finishable = store-finishable (decode₁ source) canonical table x m len count deep e n h k canonical′ p as-tree
-
-    pub copy-accepted : (table′ : List ℕ) (r : Reading) → Finished canonical′ len count table table′ r → outcome r canonical′ table′ ≡ readTree (decode₁ source) canonical table
-    copy-accepted table′ r f = store-accepted (decode₁ source) canonical table x m len count deep e n h k canonical′ p as-tree table′ r f
-
--- ---- form 3: the lexemes are written
-module _ (source canonical table : List ℕ) (short : length source ≤ 32768) (x : Extent) (m : Measures (decode₃ source) x) (len count deep : ℕ) (e : x ≡ extent.Whole len count deep) (n : ℕ) (h : n ≡ roomVerdict deep count len (length canonical) (length table)) (k : n ≤ 0) where
-  abbrev meant : Wholly (decode₃ source) len count deep
-  meant = measured (decode₃ source) canonical table x m len count deep e
-
-  pub emit-room : Emittable source 0 (length canonical)
-  emit-room =
-      let f : Lodged deep count len (length canonical) (length table) = fitting-room (decode₃ source) canonical table x m len count deep e n h k in
-      record { tree = meant .tree; is = meant .is; fits = omega (arith, meant .long, f .lent); near = omega arith; short = short }
-
-  module _ (canonical′ : List ℕ) (p : ℕ) (w : Wrote (canon (the (decode₃ source))) 0 canonical canonical′ p) where
+  module _ (canonical′ : List ℕ) (p : ℕ) (w : Wrote (canon (the (decodeBy b source))) 0 canonical canonical′ p) where
     as-meant : Wrote (canon (meant .tree)) 0 canonical canonical′ p
     unfolding the
     as-meant = subst (λ (y : Option Tree). Wrote (canon (the y)) 0 canonical canonical′ p) (meant .is) w
 
-    pub emit-finishable : Finishable canonical′ len count (length table)
-    emit-finishable = store-finishable (decode₃ source) canonical table x m len count deep e n h k canonical′ p as-meant
+    pub put-finishable : Finishable canonical′ len count (length table)
+    put-finishable = store-finishable (decodeBy b source) canonical table x m len count deep e n h k canonical′ p as-meant
 
-    pub emit-accepted : (table′ : List ℕ) (r : Reading) → Finished canonical′ len count table table′ r → outcome r canonical′ table′ ≡ readTree (decode₃ source) canonical table
-    emit-accepted table′ r f = store-accepted (decode₃ source) canonical table x m len count deep e n h k canonical′ p as-meant table′ r f
+    pub put-accepted : (table′ : List ℕ) (r : Reading) → Finished canonical′ len count table table′ r → outcome r canonical′ table′ ≡ readTree (decodeBy b source) canonical table
+    put-accepted table′ r f = store-accepted (decodeBy b source) canonical table x m len count deep e n h k canonical′ p as-meant table′ r f

@@ -1,9 +1,9 @@
 -- Reading by steps: what is judged of a tree's sizes, and what a text's tree, if it has one, gives.
-use Prim.Native.Nat.{ℕ, _*_, _/_, _≤_, _<_}
+use Prim.Native.Nat.{ℕ, _*_, _/_, _≤_}
 use mathlib.Core.Path.{_≡_}
 use mathlib.Core.Option.{Option, some}
 use mathlib.Core.List.{List, _∷_}
-use lib.ListN.{length, take, getD}
+use lib.ListN.{length, take}
 use lib.Seq.{sets}
 use lib.Dec.{ltb}
 use Rattle.base.specs.Choice.{pick, isNone}
@@ -45,9 +45,3 @@ pub record Finishable (canonical : List ℕ) (len count numbers : ℕ) : Type 0 
 pub record Finished (canonical : List ℕ) (len count : ℕ) (table table′ : List ℕ) (r : Reading) : Type 0 where
   pub wrote : table′ ≡ sets table 0 (tableOf (the (decode₁ (take len canonical))))
   pub tells : (c t : List ℕ) → outcome r c t ≡ record { number = Accepted; octets = len; count = count; canonical = c; table = t }
-
--- a text that begins with a brace
-pub record Braced (source : List ℕ) : Type 0 where
-  pub more : 0 < length source
-  pub first : getD source 0 0 ≡ 123
-  pub short : length source ≤ 32768

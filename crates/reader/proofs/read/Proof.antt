@@ -1,38 +1,18 @@
 use native.Mathlib.Omega.{arith}
-use Rattle.reader.proofs.Entry.{read-low, read-high, read-long, read-1, read-2, read-3}
+use Rattle.reader.proofs.Entry.{read-refused, read-braced, read-text}
+use Rattle.texts.proofs.Opened.{opened-brace, taken-short}
 use borrow.Author.Needs.{needs}
 use Rattle.reader.proofs.read.Statement.{statement}
 use Rattle.reader.proofs.read.Tie as tie
+
+row-requires : tie.Need-row-requires
+row-requires c κs = search needs
 
 refused-requires : tie.Need-refused-requires
 refused-requires c κs = search needs
 
 returns : tie.Need-returns
-returns c = search (read-low, arith)
-
-refused-requires-2 : tie.Need-refused-requires-2
-refused-requires-2 c κs = search needs
-
-returns-2 : tie.Need-returns-2
-returns-2 c = search (read-high, arith)
-
-refused-requires-3 : tie.Need-refused-requires-3
-refused-requires-3 c κs = search needs
-
-returns-3 : tie.Need-returns-3
-returns-3 c = search (read-long, arith)
-
-read-canonical-requires : tie.Need-read-canonical-requires
-read-canonical-requires c κs = search needs
-
-same-length : tie.Need-same-length
-same-length c = search needs
-
-same-length-2 : tie.Need-same-length-2
-same-length-2 c = search needs
-
-returns-4 : tie.Need-returns-4
-returns-4 c = search (read-1, arith)
+returns c = search (read-refused, arith)
 
 classes-requires : tie.Need-classes-requires
 classes-requires c κs = search needs
@@ -40,11 +20,23 @@ classes-requires c κs = search needs
 letters-requires : tie.Need-letters-requires
 letters-requires c κs = search needs
 
-read-basic-requires : tie.Need-read-basic-requires
-read-basic-requires c κs = search needs
+braced-requires : tie.Need-braced-requires
+braced-requires c κs = search needs
 
-read-advanced-requires : tie.Need-read-advanced-requires
-read-advanced-requires c κs = search needs
+read-braced-requires : tie.Need-read-braced-requires
+read-braced-requires c κs = (search needs, (search needs, search (opened-brace, arith)))
+
+read-text-requires : tie.Need-read-text-requires
+read-text-requires c κs = (search needs, (search needs, search (taken-short, arith)))
+
+same-length : tie.Need-same-length
+same-length c = search needs
+
+same-length-2 : tie.Need-same-length-2
+same-length-2 c = search needs
+
+returns-2 : tie.Need-returns-2
+returns-2 c = search (read-braced, arith)
 
 same-length-3 : tie.Need-same-length-3
 same-length-3 c = search needs
@@ -52,39 +44,24 @@ same-length-3 c = search needs
 same-length-4 : tie.Need-same-length-4
 same-length-4 c = search needs
 
-returns-5 : tie.Need-returns-5
-returns-5 c = search (read-2, arith)
-
-same-length-5 : tie.Need-same-length-5
-same-length-5 c = search needs
-
-same-length-6 : tie.Need-same-length-6
-same-length-6 c = search needs
-
-returns-6 : tie.Need-returns-6
-returns-6 c = search (read-3, arith)
+returns-3 : tie.Need-returns-3
+returns-3 c = search (read-text, arith)
 
 pub read-spec : {M : Type 1} → statement M
 read-spec =
     tie.close
     (tie.spec
+    row-requires
     refused-requires
     returns
-    refused-requires-2
-    returns-2
-    refused-requires-3
-    returns-3
-    read-canonical-requires
-    same-length
-    same-length-2
-    returns-4
     classes-requires
     letters-requires
-    read-basic-requires
-    read-advanced-requires
+    braced-requires
+    read-braced-requires
+    read-text-requires
+    same-length
+    same-length-2
+    returns-2
     same-length-3
     same-length-4
-    returns-5
-    same-length-5
-    same-length-6
-    returns-6)
+    returns-3)

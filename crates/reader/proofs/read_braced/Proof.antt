@@ -1,38 +1,30 @@
 use native.Mathlib.Omega.{arith}
-use Rattle.reader.proofs.Braces.{brace-start, brace-more, brace-room, brace-part, brace-read, brace-not}
+use Rattle.reader.proofs.Entry.{braced-read, braced-none}
+use Rattle.texts.proofs.Opened.{within-lent, within-part, within-short}
 use borrow.Author.Needs.{needs}
 use Rattle.reader.proofs.read_braced.Statement.{statement}
 use Rattle.reader.proofs.read_braced.Tie as tie
 
-base-size-requires : tie.Need-base-size-requires
-base-size-requires c κs = (search needs, (search needs, search (brace-start, arith)))
+unbrace-requires : tie.Need-unbrace-requires
+unbrace-requires c κs = search needs
 
 enum-known-len : tie.Need-enum-known-len
 enum-known-len c = search needs
 
-refused-requires : tie.Need-refused-requires
-refused-requires c κs = search needs
+array-share-prefix-decoded : tie.Need-array-share-prefix-decoded
+array-share-prefix-decoded c = search (within-lent, arith)
 
-returns : tie.Need-returns
-returns c = search (brace-more, arith)
+slice-aggregate-part : tie.Need-slice-aggregate-part
+slice-aggregate-part c = search (within-part, arith)
 
-slice-aggregate-base-put : tie.Need-slice-aggregate-base-put
-slice-aggregate-base-put c = search needs
-
-base-put-requires : tie.Need-base-put-requires
-base-put-requires c κs = (search needs, (search needs, brace-room _ (c .before .before .before .before .before .before .before .before .before .pre .1 .1) _ (c .before .before .before .before .before .base-size .ensures) _ _ _ _ (c .before .before .before .len .given .1) _ (search needs)))
-
-slice-aggregate-read-decoded : tie.Need-slice-aggregate-read-decoded
-slice-aggregate-read-decoded c = search needs
-
-read-decoded-requires : tie.Need-read-decoded-requires
-read-decoded-requires c κs = brace-part _ (c .before .before .before .before .before .before .before .before .before .before .before .before .before .before .pre .1 .1) _ (c .before .before .before .before .before .before .before .before .before .before .base-size .ensures) _ _ _ _ (c .before .before .before .before .before .before .before .before .len .given .1) (c .before .before .before .before .before .before .if1 .left) _ _ (search needs) _ (c .before .before .before .before .base-put .ensures)
+read-text-requires : tie.Need-read-text-requires
+read-text-requires c κs = (search needs, (search needs, search (within-short, arith)))
 
 enum-told : tie.Need-enum-told
 enum-told c = search needs
 
-refused-requires-2 : tie.Need-refused-requires-2
-refused-requires-2 c κs = search needs
+refused-requires : tie.Need-refused-requires
+refused-requires c κs = search needs
 
 same-length : tie.Need-same-length
 same-length c = search needs
@@ -40,27 +32,24 @@ same-length c = search needs
 same-length-2 : tie.Need-same-length-2
 same-length-2 c = search needs
 
-returns-2 : tie.Need-returns-2
-returns-2 c = brace-read _ (c .before .before .before .before .before .before .before .before .before .before .before .before .before .before .before .before .before .before .before .pre .1 .1) _ (c .before .before .before .before .before .before .before .before .before .before .before .before .before .before .before .base-size .ensures) _ _ _ _ (c .before .before .before .before .before .before .before .before .before .before .before .before .before .len .given .1) (c .before .before .before .before .before .before .before .before .before .before .before .if1 .left) _ _ (search needs) _ (c .before .before .before .before .before .before .before .before .before .base-put .ensures) _ _ _ _ _ (c .before .before .before .before .read-decoded .ensures)
+returns : tie.Need-returns
+returns c = search (braced-read, arith)
 
-returns-3 : tie.Need-returns-3
-returns-3 c = search (brace-not, arith)
+returns-2 : tie.Need-returns-2
+returns-2 c = search (braced-none, arith)
 
 pub read-braced-spec : {M : Type 1} → statement M
 read-braced-spec =
     tie.close
     (tie.spec
-    base-size-requires
+    unbrace-requires
     enum-known-len
-    refused-requires
-    returns
-    slice-aggregate-base-put
-    base-put-requires
-    slice-aggregate-read-decoded
-    read-decoded-requires
+    array-share-prefix-decoded
+    slice-aggregate-part
+    read-text-requires
     enum-told
-    refused-requires-2
+    refused-requires
     same-length
     same-length-2
-    returns-2
-    returns-3)
+    returns
+    returns-2)

@@ -1,0 +1,4 @@
+pub mod Braces
+pub mod Forms
+pub mod Rows
+pub mod Opened
