@@ -31,6 +31,7 @@ reference hint NODE DEFAULT         canonical form on standard input, the node's
 reference data NODE                 canonical form on standard input, the node's data out
 reference corpus SEED COUNT DIRECTORY
                                     writes the files cases and expected
+reference vectors DIRECTORY         writes the corpus of crates/vectors, the files stdin and stdout
 reference explain FILE N            shows case N of a cases file
 reference help                      this page
 
@@ -53,6 +54,7 @@ pub fn run(arguments: &[OsString]) -> Outcome {
         (Some("hint"), [node, default]) => hint(node, default),
         (Some("data"), [node]) => data(node),
         (Some("corpus"), [seed, count, directory]) => corpus(seed, count, directory),
+        (Some("vectors"), [directory]) => vectors(directory),
         (Some("explain"), [file, number]) => explain(file, number),
         (Some("help"), []) => Ok(Answer::Output(HELP.into())),
         _ => Err(format!(
@@ -199,7 +201,18 @@ fn data(node: &OsStr) -> Outcome {
 fn corpus(seed: &OsStr, count: &OsStr, directory: &OsStr) -> Outcome {
     let seed = number(seed, "SEED")?;
     let count = number(count, "COUNT")?;
-    let summary = files::write_to(seed, count, Path::new(directory))
+    written(
+        directory,
+        files::write_to(seed, count, Path::new(directory)),
+    )
+}
+
+fn vectors(directory: &OsStr) -> Outcome {
+    written(directory, files::write_vectors(Path::new(directory)))
+}
+
+fn written(directory: &OsStr, summary: io::Result<files::Summary>) -> Outcome {
+    let summary = summary
         .map_err(|error| format!("cannot write to {}: {error}", directory.to_string_lossy()))?;
     let mut lines = String::new();
     for ((entry, answer), count) in summary {

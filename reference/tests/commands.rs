@@ -143,7 +143,8 @@ fn help() {
     assert_eq!(output.status.code(), Some(0));
     let page = String::from_utf8(output.stdout).unwrap();
     let commands = [
-        "read", "table", "write", "replace", "same", "hint", "data", "corpus", "explain", "help",
+        "read", "table", "write", "replace", "same", "hint", "data", "corpus", "vectors",
+        "explain", "help",
     ];
     for command in commands {
         assert!(page.contains(&format!("reference {command}")), "{command}");
@@ -185,6 +186,7 @@ fn bad_usage() {
         &["data"],
         &["data", "1", "2"],
         &["corpus", "1", "2"],
+        &["vectors"],
         &["corpus", "x", "2", "nowhere"],
         &["corpus", "1", "2", "/dev/null/directory"],
         &["explain", "no/such/file", "0"],

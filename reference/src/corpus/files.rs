@@ -9,6 +9,11 @@ use super::case::Case;
 use super::run::run;
 use super::{fixed, random, wire};
 
+/// The seed of the corpus that is committed.
+pub const SEED: u64 = 9_804;
+/// How many random cases it has.
+pub const COUNT: u64 = 5_000;
+
 /// How many cases of each entry gave each answer. A comparison's answer is
 /// counted with its yes or no.
 pub type Summary = BTreeMap<(&'static str, String), u64>;
@@ -49,9 +54,21 @@ fn answer(case: &Case, answer: u32, value: u64) -> String {
 
 /// Writes a corpus into a directory, which is made if it is not there.
 pub fn write_to(seed: u64, count: u64, directory: &Path) -> io::Result<Summary> {
+    write_as(seed, count, directory, ["cases", "expected"])
+}
+
+/// Writes the corpus that the proved library is tested with into the directory
+/// of its test program, as that program's input and the output it must have.
+pub fn write_vectors(directory: &Path) -> io::Result<Summary> {
+    write_as(SEED, COUNT, directory, ["stdin", "stdout"])
+}
+
+fn write_as(seed: u64, count: u64, directory: &Path, names: [&str; 2]) -> io::Result<Summary> {
     std::fs::create_dir_all(directory)?;
-    let mut cases = BufWriter::new(File::create(directory.join("cases"))?);
-    let mut expected = BufWriter::new(File::create(directory.join("expected"))?);
+    let [mut cases, mut expected] = [
+        BufWriter::new(File::create(directory.join(names[0]))?),
+        BufWriter::new(File::create(directory.join(names[1]))?),
+    ];
     let summary = write(seed, count, &mut cases, &mut expected)?;
     cases.flush()?;
     expected.flush()?;

@@ -11,6 +11,8 @@ pub const TEXTS: &[Known] = &[
         b"(snicker \"abc\" (#03# |YWJj|))",
         Ok(b"(7:snicker3:abc(1:\x033:abc))"),
     ),
+    (3, b"\"snicker\"", Ok(b"7:snicker")),
+    (3, b"#03#", Ok(b"1:\x03")),
     (3, b"abc", Ok(b"3:abc")),
     (3, b"\"abc\"", Ok(b"3:abc")),
     (3, b"#616263#", Ok(b"3:abc")),

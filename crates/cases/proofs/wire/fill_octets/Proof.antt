@@ -1,0 +1,53 @@
+use Prim.Native.Nat.{_-_}
+use native.Mathlib.Omega.{arith}
+use borrow.Author.Needs.{needs}
+use lib.ListN.{length, length-set}
+use Rattle.cases.specs.Wire.{lentOctet}
+use Rattle.cases.proofs.Fills.{Filling, fill-start, fill-on, fill-long, fill-end}
+use Rattle.cases.proofs.wire.fill_octets.Statement.{statement}
+use Rattle.cases.proofs.wire.fill_octets.Tie as tie
+
+abbrev Inv-loop : tie.InvT-loop
+Inv-loop given fill room₀ i₀ room i = Filling (lentOctet given fill) room₀ room i
+
+abbrev μ-loop : tie.MeasureT-loop
+μ-loop given fill room₀ i₀ room i = length room - i
+
+loop-holds : tie.Need-loop-holds Inv-loop μ-loop
+loop-holds c = search (fill-start, arith)
+
+lent-octet-requires : tie.Need-lent-octet-requires Inv-loop μ-loop
+lent-octet-requires c κs = search needs
+
+slice-write-room : tie.Need-slice-write-room Inv-loop μ-loop
+slice-write-room c = search needs
+
+add-i : tie.Need-add-i Inv-loop μ-loop
+add-i c = search needs
+
+loop-less : tie.Need-loop-less Inv-loop μ-loop
+loop-less c = simp length-set (omega arith)
+
+loop-again : tie.Need-loop-again Inv-loop μ-loop
+loop-again c = search (fill-on, arith)
+
+same-length : tie.Need-same-length Inv-loop μ-loop
+same-length c = search (fill-long, arith)
+
+returns : tie.Need-returns Inv-loop μ-loop
+returns c = search (fill-end, arith)
+
+pub fill-octets-spec : {M : Type 1} → statement M
+fill-octets-spec =
+    tie.close
+    (tie.spec
+    Inv-loop
+    μ-loop
+    loop-holds
+    lent-octet-requires
+    slice-write-room
+    add-i
+    loop-less
+    loop-again
+    same-length
+    returns)
