@@ -15,16 +15,19 @@ use Rattle.answers.specs.declared.Comparing.{Comparing}
 use Rattle.answers.specs.declared.Comparing.the-variants as comparing
 use Rattle.answers.specs.declared.Place.{Place}
 use Rattle.answers.specs.declared.Place.the-variants as place
-use Rattle.etglavino_c.specs.Pointers.{outcomeOf, outputOf, flag, compared, comparedOf, shown, shownOf}
+use Rattle.etglavino_c.specs.Pointers.{outcomeOf, HandsReading, outputOf, flag, compared, comparedOf, shown, shownOf, HandsPlace}
 
-module _ (r : Reading) (canonical table : List ℕ) (o : Outcome) (e : outcome r canonical table ≡ o) where
-  pub read-accepted : (len count : ℕ) → r ≡ reading.Accepted len count → outcomeOf 0 len count canonical table ≡ o
+module _ (r : Reading) where
+  pub hand-accepted : (len count : ℕ) → r ≡ reading.Accepted len count → HandsReading r 0 len count
   unfolding outcome
-  read-accepted len count q = sym (ap (λ (r : Reading). outcome r canonical table) q) ∙ e
+  hand-accepted len count q = record { is = λ canonical table. sym (ap (λ (r : Reading). outcome r canonical table) q) }
 
-  pub read-refused : (f : Refusal) → r ≡ reading.Refused f → outcomeOf (f .number) 0 0 canonical table ≡ o
+  pub hand-refused : (f : Refusal) → r ≡ reading.Refused f → HandsReading r (f .number) 0 0
   unfolding outcome
-  read-refused f q = sym (ap (λ (r : Reading). outcome r canonical table) q) ∙ e
+  hand-refused f q = record { is = λ canonical table. sym (ap (λ (r : Reading). outcome r canonical table) q) }
+
+  pub read-handed : (canonical table : List ℕ) (o : Outcome) → outcome r canonical table ≡ o → (n len count : ℕ) → HandsReading r n len count → outcomeOf n len count canonical table ≡ o
+  read-handed canonical table o e n len count h = h .is canonical table ∙ e
 
 module _ (r : Writing) (out : List ℕ) (o : Output) (e : output r out ≡ o) where
   pub write-accepted : (len : ℕ) → r ≡ writing.Accepted len → outputOf 0 len out ≡ o
@@ -48,11 +51,14 @@ module _ (r : Comparing) (o : Comparison) (e : told r ≡ o) where
   unfolding told comparedOf flag
   same-refused f q = sym (ap (λ (r : Comparing). comparedOf (told r)) q) ∙ ap comparedOf e
 
-module _ (r : Place) (o : Option Part) (e : placed r ≡ o) where
-  pub shown-part : (s t : ℕ) → r ≡ place.Part s t → shown 1 s t ≡ shownOf o
+module _ (r : Place) where
+  pub hand-part : (s t : ℕ) → r ≡ place.Part s t → HandsPlace r 1 s t
   unfolding placed shownOf
-  shown-part s t q = sym (ap (λ (r : Place). shownOf (placed r)) q) ∙ ap shownOf e
+  hand-part s t q = sym (ap (λ (r : Place). shownOf (placed r)) q)
 
-  pub shown-none : r ≡ place.NoPart → shown 0 0 0 ≡ shownOf o
+  pub hand-none : r ≡ place.NoPart → HandsPlace r 0 0 0
   unfolding placed shownOf
-  shown-none q = sym (ap (λ (r : Place). shownOf (placed r)) q) ∙ ap shownOf e
+  hand-none q = sym (ap (λ (r : Place). shownOf (placed r)) q)
+
+  pub place-handed : (o : Option Part) → placed r ≡ o → (n s t : ℕ) → HandsPlace r n s t → shown n s t ≡ shownOf o
+  place-handed o e n s t h = h ∙ ap shownOf e

@@ -1,13 +1,21 @@
 -- What a C entry answers: 01's number is returned, and what is asked for goes out through pointers.
 use Prim.Native.Nat.{ℕ}
+use mathlib.Core.Path.{_≡_}
 use mathlib.Core.Bool.{Bool, true, false}
 use mathlib.Core.Option.{Option, none, some}
 use mathlib.Core.List.{List}
 use Rattle.model.specs.Answers.{Outcome, Output, Comparison, Part}
+use Rattle.answers.specs.Cases.{outcome, placed}
+use Rattle.answers.specs.declared.Reading.{Reading}
+use Rattle.answers.specs.declared.Place.{Place}
 
 -- the number, the length and the node count, with both lent buffers
 abbrev pub outcomeOf : ℕ → ℕ → ℕ → List ℕ → List ℕ → Outcome
 outcomeOf n len count canonical table = record { number = n; octets = len; count = count; canonical = canonical; table = table }
+
+-- an answer of reading or replacing, handed out
+pub record HandsReading (answer : Reading) (n len count : ℕ) : Type 0 where
+  pub is : (canonical table : List ℕ) → outcomeOf n len count canonical table ≡ outcome answer canonical table
 
 -- the number and the length, with the lent output
 abbrev pub outputOf : ℕ → ℕ → List ℕ → Output
@@ -41,3 +49,7 @@ shown t s e = record { there = t; start = s; end = e }
 unfoldable pub shownOf : Option Part → Shown
 shownOf none = shown 0 0 0
 shownOf (some p) = shown 1 (p .start) (p .end)
+
+-- a place handed out
+abbrev pub HandsPlace : Place → ℕ → ℕ → ℕ → Type 0
+HandsPlace place t s e = shown t s e ≡ shownOf (placed place)

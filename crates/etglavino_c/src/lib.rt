@@ -2,24 +2,17 @@
 // 0 in a refusal. include/etglavino.h tells a C program how to call them.
 ghost use mathlib.Core.Path.{_≡_};
 ghost use Rattle.model.specs.Answers.{reading, replacing, writing, comparing, hintPart, dataPart};
-ghost use Rattle.etglavino_c.specs.Pointers.{outcomeOf, outputOf, compared, comparedOf, shown, shownOf};
+ghost use Rattle.etglavino_c.specs.Pointers.{outcomeOf, HandsReading, outputOf, compared, comparedOf, shown, shownOf, HandsPlace};
 use answers::Comparing;
 use answers::Place;
 use answers::Reading;
 use answers::Writing;
 
-#[no_mangle]
-pub extern "C" fn etg_read(
-    form: u32,
-    source: &[u8],
-    canonical: &mut [u8],
-    table: &mut [u32],
-    length: &mut usize,
-    nodes: &mut usize,
-) -> u32
-    ensures { λ r. ⌜ outcomeOf r (now (length .exit)) (now (nodes .exit)) (now (canonical .exit)) (now (table .exit)) ≡ reading form (now (source .entry)) (now (canonical .entry)) (now (table .entry)) ⌝ }
+// An answer of reading or replacing.
+fn hand_reading(answer: Reading, length: &mut usize, nodes: &mut usize) -> u32
+    ensures { λ r. ⌜ HandsReading answer r (now (length .exit)) (now (nodes .exit)) ⌝ }
 {
-    match etglavino::read(form, source, canonical, table) {
+    match answer {
         Reading::Accepted {
             length: len,
             nodes: count,
@@ -34,6 +27,42 @@ pub extern "C" fn etg_read(
             refusal.number
         }
     }
+}
+
+// A place: 1, where it starts and where it ends; or 0.
+fn hand_place(place: Place, start: &mut usize, end: &mut usize) -> u32
+    ensures { λ r. ⌜ HandsPlace place r (now (start .exit)) (now (end .exit)) ⌝ }
+{
+    match place {
+        Place::Part {
+            start: from,
+            end: to,
+        } => {
+            *start = from;
+            *end = to;
+            1
+        }
+        Place::NoPart => {
+            *start = 0;
+            *end = 0;
+            0
+        }
+    }
+}
+
+#[no_mangle]
+pub extern "C" fn etg_read(
+    form: u32,
+    source: &[u8],
+    canonical: &mut [u8],
+    table: &mut [u32],
+    length: &mut usize,
+    nodes: &mut usize,
+) -> u32
+    ensures { λ r. ⌜ outcomeOf r (now (length .exit)) (now (nodes .exit)) (now (canonical .exit)) (now (table .exit)) ≡ reading form (now (source .entry)) (now (canonical .entry)) (now (table .entry)) ⌝ }
+{
+    let answer = etglavino::read(form, source, canonical, table);
+    hand_reading(answer, length, nodes)
 }
 
 #[no_mangle]
@@ -72,21 +101,8 @@ pub extern "C" fn etg_replace(
 ) -> u32
     ensures { λ r. ⌜ outcomeOf r (now («new_length» .exit)) (now («new_nodes» .exit)) (now (canonical .exit)) (now (table .exit)) ≡ replacing form (now (text .entry)) (now (canonical .entry)) (now (table .entry)) length nodes node ⌝ }
 {
-    match etglavino::replace(form, text, canonical, table, length, nodes, node) {
-        Reading::Accepted {
-            length: len,
-            nodes: count,
-        } => {
-            *new_length = len;
-            *new_nodes = count;
-            0
-        }
-        Reading::Refused { refusal } => {
-            *new_length = 0;
-            *new_nodes = 0;
-            refusal.number
-        }
-    }
+    let answer = etglavino::replace(form, text, canonical, table, length, nodes, node);
+    hand_reading(answer, new_length, new_nodes)
 }
 
 #[no_mangle]
@@ -128,21 +144,8 @@ pub extern "C" fn etg_hint(
 ) -> u32
     ensures { λ r. ⌜ shown r (now (start .exit)) (now (end .exit)) ≡ shownOf (hintPart (now (canonical .entry)) length (now (table .entry)) nodes node) ⌝ }
 {
-    match etglavino::hint_place(canonical, length, table, nodes, node) {
-        Place::Part {
-            start: from,
-            end: to,
-        } => {
-            *start = from;
-            *end = to;
-            1
-        }
-        Place::NoPart => {
-            *start = 0;
-            *end = 0;
-            0
-        }
-    }
+    let place = etglavino::hint_place(canonical, length, table, nodes, node);
+    hand_place(place, start, end)
 }
 
 #[no_mangle]
@@ -157,19 +160,6 @@ pub extern "C" fn etg_data(
 ) -> u32
     ensures { λ r. ⌜ shown r (now (start .exit)) (now (end .exit)) ≡ shownOf (dataPart (now (canonical .entry)) length (now (table .entry)) nodes node) ⌝ }
 {
-    match etglavino::data_place(canonical, length, table, nodes, node) {
-        Place::Part {
-            start: from,
-            end: to,
-        } => {
-            *start = from;
-            *end = to;
-            1
-        }
-        Place::NoPart => {
-            *start = 0;
-            *end = 0;
-            0
-        }
-    }
+    let place = etglavino::data_place(canonical, length, table, nodes, node);
+    hand_place(place, start, end)
 }

@@ -1,5 +1,5 @@
 use native.Mathlib.Omega.{arith}
-use Rattle.etglavino_c.proofs.Handed.{shown-part, shown-none}
+use Rattle.etglavino_c.proofs.Handed.{place-handed}
 use borrow.Author.Needs.{needs}
 use Rattle.etglavino_c.proofs.etg_hint.Statement.{statement}
 use Rattle.etglavino_c.proofs.etg_hint.Tie as tie
@@ -7,18 +7,11 @@ use Rattle.etglavino_c.proofs.etg_hint.Tie as tie
 hint-place-requires : tie.Need-hint-place-requires
 hint-place-requires c κs = search needs
 
-enum-known-from : tie.Need-enum-known-from
-enum-known-from c = search needs
-
-enum-told : tie.Need-enum-told
-enum-told c = search needs
+hand-place-requires : tie.Need-hand-place-requires
+hand-place-requires c κs = search needs
 
 returns : tie.Need-returns
-returns c = search (shown-part, arith)
-
-returns-2 : tie.Need-returns-2
-returns-2 c = search (shown-none, arith)
+returns c = search (place-handed, arith)
 
 pub etg-hint-spec : {M : Type 1} → statement M
-etg-hint-spec =
-    tie.close (tie.spec hint-place-requires enum-known-from enum-told returns returns-2)
+etg-hint-spec = tie.close (tie.spec hint-place-requires hand-place-requires returns)

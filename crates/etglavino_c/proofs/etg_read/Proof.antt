@@ -1,5 +1,5 @@
 use native.Mathlib.Omega.{arith}
-use Rattle.etglavino_c.proofs.Handed.{read-accepted, read-refused}
+use Rattle.etglavino_c.proofs.Handed.{read-handed}
 use borrow.Author.Needs.{needs}
 use Rattle.etglavino_c.proofs.etg_read.Statement.{statement}
 use Rattle.etglavino_c.proofs.etg_read.Tie as tie
@@ -7,11 +7,8 @@ use Rattle.etglavino_c.proofs.etg_read.Tie as tie
 read-requires : tie.Need-read-requires
 read-requires c κs = search needs
 
-enum-known-len : tie.Need-enum-known-len
-enum-known-len c = search needs
-
-enum-known-refusal : tie.Need-enum-known-refusal
-enum-known-refusal c = search needs
+hand-reading-requires : tie.Need-hand-reading-requires
+hand-reading-requires c κs = search needs
 
 same-length : tie.Need-same-length
 same-length c = search needs
@@ -20,27 +17,8 @@ same-length-2 : tie.Need-same-length-2
 same-length-2 c = search needs
 
 returns : tie.Need-returns
-returns c = search (read-accepted, arith)
-
-same-length-3 : tie.Need-same-length-3
-same-length-3 c = search needs
-
-same-length-4 : tie.Need-same-length-4
-same-length-4 c = search needs
-
-returns-2 : tie.Need-returns-2
-returns-2 c = search (read-refused, arith)
+returns c = search (read-handed, arith)
 
 pub etg-read-spec : {M : Type 1} → statement M
 etg-read-spec =
-    tie.close
-    (tie.spec
-    read-requires
-    enum-known-len
-    enum-known-refusal
-    same-length
-    same-length-2
-    returns
-    same-length-3
-    same-length-4
-    returns-2)
+    tie.close (tie.spec read-requires hand-reading-requires same-length same-length-2 returns)
