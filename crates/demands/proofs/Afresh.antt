@@ -10,13 +10,12 @@ use lib.Seq.{take-append-seam, take-at}
 use Rattle.model.specs.Answers.{noForm, settled, Outcome, filled, reading, replacing}
 use Rattle.model.specs.Decode.{decode}
 use Rattle.model.specs.Edit.{replace}
-use Rattle.model.specs.Limits.{maxDepth, maxNodes, maxCanonical}
-use Rattle.model.specs.Table.{width, tableOf, records}
-use Rattle.model.specs.Tree.{Tree, canon, nodes, depth}
+use Rattle.model.specs.Table.{width, tableOf}
+use Rattle.model.specs.Tree.{Tree, canon, nodes}
 use Rattle.model.proofs.Exact.{canon-complete}
 use Rattle.walk.proofs.Tabled.{table-length}
-use Rattle.write.proofs.RoundTrip.{reads}
-use Rattle.demands.specs.Conditions.{Conditions, SameResult}
+use Rattle.demands.proofs.Read.{reads}
+use Rattle.demands.specs.Conditions.{Room, Conditions, SameResult}
 use Rattle.demands.proofs.Refused.{accepted, conditions}
 
 -- what stands in the front of lent space that a tree was put in, whatever stood there before
@@ -41,10 +40,9 @@ same-tree t a b c d l m n o =
     }
 
 -- a canonical form that fits, read in form 1
-reads-canonical : (t : Tree) (canonical table : List ℕ) → depth t ≤ maxDepth → nodes t ≤ maxNodes → nodes t ≤ records table
-    → length (canon t) ≤ maxCanonical → length (canon t) ≤ length canonical → reading 1 (canon t) canonical table ≡ filled t 0 0 canonical table
+reads-canonical : (t : Tree) (canonical table : List ℕ) → Room t canonical table → reading 1 (canon t) canonical table ≡ filled t 0 0 canonical table
 unfolding decode noForm
-reads-canonical t canonical table a b b′ l l′ = reads 1 (canon t) canonical table t refl (omega arith) (canon-complete t) a b b′ l l′
+reads-canonical t canonical table r = reads 1 (canon t) canonical table t refl (omega (arith, r .small)) (canon-complete t) r
 
 module _ (form : ℕ) (text canonical table : List ℕ) (len count node : ℕ) (e : replacing form text canonical table len count node .number ≡ 0) where
   abbrev answer : Outcome
@@ -72,5 +70,11 @@ module _ (form : ℕ) (text canonical table : List ℕ) (len count node : ℕ) (
   afresh canonical′ table′ h k =
       let f : reading 1 (take (answer .octets) (answer .canonical)) canonical′ table′ ≡ filled now 0 0 canonical′ table′
       = ap (λ (s : List ℕ). reading 1 s canonical′ table′) corrected-sheet
-      ∙ reads-canonical now canonical′ table′ (c .shallow) (c .few) (subst (λ (n : ℕ). nodes now ≤ n / width) (sym k) (c .recorded)) (c .small) (omega (arith, c .roomy)) in
+      ∙ reads-canonical now canonical′ table′ (record {
+        shallow = c .room .shallow;
+        few = c .room .few;
+        recorded = subst (λ (n : ℕ). nodes now ≤ n / width) (sym k) (c .room .recorded);
+        small = c .room .small;
+        roomy = omega (arith, c .room .roomy);
+      }) in
       subst (λ (o : Outcome). SameResult answer o) (sym f) (subst (λ (o : Outcome). SameResult o (filled now 0 0 canonical′ table′)) (sym filled-now) (same-tree now len count 0 0 canonical table canonical′ table′))

@@ -1,4 +1,7 @@
 pub mod Rows
+pub mod Rooms
+pub mod Read
+pub mod RoundTrip
 pub mod Refused
 pub mod Afresh
 pub mod Records

@@ -4,7 +4,12 @@ use native.Mathlib.Omega.{arith}
 use mathlib.Core.Path.{_≡_, refl, sym, ap, _∙_}
 use mathlib.Core.Bool.{Bool, true, false}
 use mathlib.Core.List.{List, [], _∷_, _++_}
-use Rattle.model.specs.Answers.{Check, when, verdict}
+use mathlib.Core.Option.{Option, none, some}
+use Rattle.base.specs.Choice.{isNone}
+use Rattle.base.proofs.Cases.{by-bool, by-eq, picked, unpicked, untrue}
+use Rattle.model.specs.Answers.{Check, when, verdict, judged}
+use Rattle.model.specs.Tree.{Tree}
+use Rattle.model.proofs.Judging.{judged-accepted, judged-refused, verdict-past}
 use Rattle.demands.specs.Conditions.{Quiet, no-check, not-applying, First}
 
 further : (m n : ℕ) (cs : List Check) → First cs n → First (when m false ∷ cs) n
@@ -33,3 +38,39 @@ given-quiet (c ∷ before) after n (not-applying q) = given-quiet before after n
 
 pub first-given : (cs : List Check) (n : ℕ) → First cs n → verdict cs ≡ n
 first-given cs n f = ap verdict (f .is) ∙ given-quiet (f .before) (f .after) n (f .quiet)
+
+-- ---- an answer by a list of checks
+module _ {A : Type 0} (number : A → ℕ) (cs : List Check) (accepted : A) (refused : ℕ → A) (numbered : (n : ℕ) → number (refused n) ≡ n) where
+  pub judged-by : (n : ℕ) → 0 < n → First cs n → judged cs accepted refused ≡ refused n
+  judged-by n h f = judged-refused cs accepted refused n (first-given cs n f) h
+
+  pub judged-for : number accepted ≡ 0 → (n : ℕ) → 0 < n → number (judged cs accepted refused) ≡ n → First cs n
+  judged-for a n h e =
+      by-eq (verdict cs) 0
+      (λ z. let y : 0 ≡ n = sym a ∙ sym (ap number (judged-accepted cs accepted refused z)) ∙ e in absurd (omega arith))
+      (λ z. given-first cs n h (sym (numbered (verdict cs)) ∙ sym (ap number (judged-refused cs accepted refused (verdict cs) refl (omega arith))) ∙ e))
+
+  pub no-row : number (judged cs accepted refused) ≡ 0 → verdict cs ≡ 0
+  no-row e =
+      by-eq (verdict cs) 0 (λ z. z)
+      (λ n. absurd (n (sym (ap number (judged-refused cs accepted refused (verdict cs) refl (omega arith)) ∙ numbered (verdict cs)) ∙ e)))
+
+-- ---- no check applies
+pub not-this : (n : ℕ) (t : Bool) (cs : List Check) → 0 < n → verdict (when n t ∷ cs) ≡ 0 → (t ≡ false) × (verdict cs ≡ 0)
+unfolding verdict
+not-this n t cs h e =
+    by-bool t
+    (λ y. let z : n ≡ 0 = sym (picked _ _ y) ∙ e in absurd (omega arith))
+    (λ y. (y, sym (unpicked _ _ y) ∙ e))
+
+pub past : (n : ℕ) (t : Bool) (cs : List Check) → t ≡ false → verdict cs ≡ 0 → verdict (when n t ∷ cs) ≡ 0
+past n t cs e f = verdict-past n t cs e ∙ f
+
+pub none-applies : verdict [] ≡ 0
+unfolding verdict
+none-applies = refl
+
+pub there : {G : Type 0} (o : Option Tree) → isNone o ≡ false → ((t : Tree) → o ≡ some t → G) → G
+unfolding isNone
+there none e g = untrue (sym e)
+there (some t) e g = g t refl

@@ -1,4 +1,4 @@
--- The conditions of demand 3, in 01's words for them, and the first row of a list of checks that applies.
+-- The conditions of demands 2 and 3, in 01's words for them, and the first row of a list of checks that applies.
 use Prim.Native.Nat.{ℕ, _*_, _≤_, _<_}
 use mathlib.Core.Path.{_≡_}
 use mathlib.Core.Bool.{true, false}
@@ -8,9 +8,26 @@ use lib.ListN.{length, take, drop}
 use Rattle.model.specs.Answers.{Check, when, noForm, ownTree, Outcome}
 use Rattle.model.specs.Decode.{decode}
 use Rattle.model.specs.Edit.{replace}
+use Rattle.model.specs.Grammar.{Language}
 use Rattle.model.specs.Limits.{maxSource, maxDepth, maxNodes, maxCanonical}
 use Rattle.model.specs.Table.{width, records}
 use Rattle.model.specs.Tree.{Tree, canon, nodes, depth}
+
+-- 01, "the limits and the room lent are rows 4 to 6"
+pub record Room (t : Tree) (canonical table : List ℕ) : Type 0 where
+  pub shallow : depth t ≤ maxDepth
+  pub few : nodes t ≤ maxNodes
+  pub recorded : nodes t ≤ records table
+  pub small : length (canon t) ≤ maxCanonical
+  pub roomy : length (canon t) ≤ length canonical
+
+-- demand 2, "document 01's reading of RFC 9804 allows it in the form named (canonical, basic, advanced) and text and tree fit
+-- the limits and the room lent"
+pub record Allowed (form : ℕ) (source canonical table : List ℕ) : Type 0 where
+  pub tree : Tree
+  pub language : Language form source tree
+  pub short : length source ≤ maxSource
+  pub room : Room tree canonical table
 
 -- demand 3, "every sheet with its own table, every entry in it and every valid replacement text within the limit for texts,
 -- where the corrected tree fits the limits and the room lent"
@@ -26,11 +43,7 @@ pub record Conditions (form : ℕ) (text canonical table : List ℕ) (len count 
   -- 01, "an entry is a node, told by its number, and row 8 says that it is missing"
   pub present : node < count
   -- 01, "the limits and the room lent are rows 4 to 6, for the corrected tree"
-  pub shallow : depth (replace old node new) ≤ maxDepth
-  pub few : nodes (replace old node new) ≤ maxNodes
-  pub recorded : nodes (replace old node new) ≤ records table
-  pub small : length (canon (replace old node new)) ≤ maxCanonical
-  pub roomy : length (canon (replace old node new)) ≤ length canonical
+  pub room : Room (replace old node new) canonical table
 
 -- none of the checks applies
 pub data Quiet : List Check → Type 0 where
