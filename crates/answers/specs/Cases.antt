@@ -1,12 +1,10 @@
 -- 01's number and values for each case of an answer.
 use Prim.Native.Nat.{ℕ}
 use mathlib.Core.Path.{_≡_}
-use mathlib.Core.Bool.{false}
 use mathlib.Core.Option.{Option, none, some}
 use mathlib.Core.List.{List}
 use Rattle.model.specs.Limits.{Accepted}
 use Rattle.model.specs.Answers.{Outcome, unchanged, Output, unwritten, Comparison, uncompared, part}
-use Rattle.answers.specs.declared.Refusal.{Refusal}
 use Rattle.answers.specs.declared.Reading.{Reading}
 use Rattle.answers.specs.declared.Reading.the-variants as reading
 use Rattle.answers.specs.declared.Writing.{Writing}

@@ -3,7 +3,7 @@ use Prim.Native.Nat.{ℕ, _+_, _≤_}
 use mathlib.Core.Path.{_≡_}
 use mathlib.Core.List.{List}
 use lib.ListN.{length, take, drop}
-use Rattle.model.specs.Strings.{Read, got, refused, afterLength, verbatimOf}
+use Rattle.model.specs.Strings.{got, refused, afterLength, verbatimOf}
 use Rattle.model.specs.Lexemes.{opening, closing, atom, hinting, closeStrict, strictLexeme}
 use Rattle.model.specs.Table.{bodyStart, bodyEnd}
 use Rattle.canonical.specs.declared.Span.{Span}

@@ -12,7 +12,7 @@ use Rattle.model.specs.Tree.{Tree, canon, nodes}
 use Rattle.lookup.proofs.Sheets.{Own, own-of}
 use Rattle.edits.specs.Node.{holds}
 use Rattle.edits.specs.Moves.{Grows}
-use Rattle.edits.proofs.Demand.{entry-in, replace-length, replace-nodes, entry-nodes, octet-before-stays, octet-after-moves, record-stays, record-grows}
+use Rattle.edits.proofs.Demand.{entry-in, replace-length, replace-nodes, octet-before-stays, octet-after-moves, record-stays, record-grows}
 use Rattle.demands.specs.Conditions.{Conditions, recordAt}
 use Rattle.demands.proofs.Refused.{conditions}
 use Rattle.demands.proofs.Afresh.{filled-now, corrected-sheet, corrected-table}

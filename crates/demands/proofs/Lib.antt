@@ -1,7 +1,9 @@
 pub mod Rows
 pub mod Rooms
 pub mod Read
+pub mod Written
 pub mod RoundTrip
+pub mod Shown
 pub mod Refused
 pub mod Afresh
 pub mod Records

@@ -1,6 +1,6 @@
 -- The lists around a node are the earlier nodes that count it among theirs; and they alone decide whether a tree that fits
 -- gets too deep when the node is replaced.
-use Prim.Native.Nat.{ℕ, zero, suc, _+_, _≤_, _<_, max}
+use Prim.Native.Nat.{ℕ, zero, suc, _+_, _≤_, _<_}
 use native.Mathlib.Omega.{arith}
 use native.Mathlib.Nat.{add-zero, zero-add}
 use mathlib.Core.Path.{_≡_, refl, sym, ap, ap₂, _∙_}
@@ -16,7 +16,7 @@ use Rattle.model.specs.Table.{Row, plainRow, rows}
 use Rattle.model.specs.Tree.{Tree, canon, nodes, nodess, depth, canons}
 use Rattle.walk.proofs.Tabled.{rows-length}
 use Rattle.edits.specs.Levels.{holders}
-use Rattle.edits.specs.Place.{number, past, Place, here, down, level, lead, beyond, outer}
+use Rattle.edits.specs.Place.{number, past, Place, here, down, level, lead, beyond}
 use Rattle.edits.proofs.Find.{nodes-pos}
 use Rattle.edits.proofs.Rows.{lead-length}
 use Rattle.edits.proofs.Sides.{rows-before}

@@ -10,7 +10,7 @@ use borrow.Author.Tests.{lt-ltb, le-ltb}
 use Rattle.base.proofs.Cases.{by-le}
 use Rattle.edits.specs.Place.{before, number, past, Place, here, down, fill, after, lead, trail, moved, grown, around, kept}
 use Rattle.model.specs.Table.{Row, rows, rowss}
-use Rattle.model.specs.Tree.{Tree, plain, hinted, list, Forest, nil, cons, verbatim, canon, canons, nodes, nodess}
+use Rattle.model.specs.Tree.{Tree, plain, hinted, list, Forest, nil, cons, verbatim, canon, canons, nodess}
 use Rattle.walk.proofs.Tabled.{rows-length, rowss-length}
 use Rattle.edits.proofs.Fill.{fill-rows}
 

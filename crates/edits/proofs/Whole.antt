@@ -84,16 +84,19 @@ head-row (plain d) at rest = record { start = refl; end = refl; count = refl }
 head-row (hinted h d) at rest = record { start = refl; end = simp length-append (omega arith); count = refl }
 head-row (list f) at rest = record { start = refl; end = refl; count = refl }
 
-pub row-at : (t : Tree) (p : Place) (x : Tree) → one t ≡ fill p (one x) → HeadRow x (length (before p)) (rowOf t (number p))
-row-at t p x e =
-    let a = lead p 0 (length (canons (one x))) (nodess (one x)) in
-    let b = trail p (length (before p) + length (canons (one x))) in
-    let i : number p ≡ length a + 0 = omega (arith, lead-length p 0 (length (canons (one x))) (nodess (one x))) in
-    let q : rowOf t (number p) ≡ getD (rows x (length (before p)) ++ b) 0 (plainRow 0 0 0)
-    = ap₂ (λ (l : List Row) (m : ℕ). getD l m (plainRow 0 0 0)) (rows-at t p (one x) e) i
-    ∙ getD-append-add a (rowss (one x) (length (before p)) ++ b) 0 (plainRow 0 0 0)
-    ∙ ap (λ (l : List Row). getD (l ++ b) 0 (plainRow 0 0 0)) (rowss-one x (length (before p))) in
-    subst (HeadRow x (length (before p))) (sym q) (head-row x (length (before p)) b)
+module _ (t : Tree) (p : Place) (x : Tree) (e : one t ≡ fill p (one x)) where
+  -- the first of its own rows
+  pub row-first : rowOf t (number p) ≡ getD (rows x (length (before p)) ++ trail p (length (before p) + length (canons (one x)))) 0 (plainRow 0 0 0)
+  row-first =
+      let a = lead p 0 (length (canons (one x))) (nodess (one x)) in
+      let b = trail p (length (before p) + length (canons (one x))) in
+      let i : number p ≡ length a + 0 = omega (arith, lead-length p 0 (length (canons (one x))) (nodess (one x))) in
+      ap₂ (λ (l : List Row) (m : ℕ). getD l m (plainRow 0 0 0)) (rows-at t p (one x) e) i
+      ∙ getD-append-add a (rowss (one x) (length (before p)) ++ b) 0 (plainRow 0 0 0)
+      ∙ ap (λ (l : List Row). getD (l ++ b) 0 (plainRow 0 0 0)) (rowss-one x (length (before p)))
+
+  pub row-at : HeadRow x (length (before p)) (rowOf t (number p))
+  row-at = subst (HeadRow x (length (before p))) (sym row-first) (head-row x (length (before p)) (trail p (length (before p) + length (canons (one x)))))
 
 -- ---- a replacement in a tree is one in the forest of that tree alone
 replace-across : (t : Tree) (k : ℕ) (u : Tree) → k < nodes t → one (replace t k u) ≡ across (λ (x : Tree). one u) (one t) k

@@ -1,7 +1,7 @@
 -- What every entry answers, and what every lent buffer holds afterwards: for all inputs, refused ones too.
 -- 01 calls the canonical octets of a tree, in lent space, a sheet; a node is an entry of it; replacing is correcting.
 use Prim.Native.Nat.{ℕ, zero, suc, _*_, _-_, max}
-use mathlib.Core.Bool.{Bool, true, false}
+use mathlib.Core.Bool.{Bool, false}
 use mathlib.Core.Option.{Option, none, some}
 use mathlib.Core.List.{List, [], _∷_, _++_}
 use lib.ListN.{length, take, drop, replicate}

@@ -1,6 +1,6 @@
 -- The three forms decoded: lexemes below, their nesting above. No limit of depth, nodes or octets plays a part.
 use Prim.Native.Nat.{ℕ}
-use mathlib.Core.Bool.{Bool, true, false}
+use mathlib.Core.Bool.{true, false}
 use mathlib.Core.Option.{Option, none, some}
 use mathlib.Core.List.{List, [], _∷_}
 use lib.Dec.{eqb}

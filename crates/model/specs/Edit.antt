@@ -1,7 +1,6 @@
 -- A node of a tree, by its number, gives way to a forest (01, "The corrected tree is the sheet's tree with the node of that
 -- number replaced by the text's tree").
 use Prim.Native.Nat.{ℕ, zero, suc, _-_}
-use mathlib.Core.Bool.{Bool, true, false}
 use lib.Dec.{ltb}
 use Rattle.base.specs.Choice.{pick}
 use Rattle.model.specs.Tree.{Tree, plain, hinted, list, Forest, nil, cons, nodes}

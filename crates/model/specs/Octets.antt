@@ -1,6 +1,6 @@
 -- What an octet is to the grammar: RFC 9804's ranges, with the values of digits, letters and escapes.
 use Prim.Native.Nat.{ℕ, _+_, _-_}
-use mathlib.Core.Bool.{Bool, true, false}
+use mathlib.Core.Bool.{Bool, true}
 use mathlib.Core.List.{List, [], _∷_}
 use lib.Dec.{eqb}
 use Rattle.base.specs.Choice.{pick, either, among, member}

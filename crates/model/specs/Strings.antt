@@ -1,7 +1,7 @@
 -- Simple strings decoded. Each function reads what the grammar's rule of its kind names; the laws (proofs/Exact) say that
 -- the two agree.
 use Prim.Native.Nat.{ℕ, zero, suc, _+_, _*_, _-_}
-use mathlib.Core.Bool.{Bool, true, false}
+use mathlib.Core.Bool.{true, false}
 use mathlib.Core.Option.{Option, none, some}
 use mathlib.Core.List.{List, [], _∷_, _++_}
 use lib.ListN.{length, take, drop}

@@ -1,6 +1,6 @@
 -- Trees, their canonical octets and their sizes. Octets are numbers; an octet string is a list of them.
 use Prim.Native.Nat.{ℕ, zero, suc, _+_, _/_, _%_, _<_, max}
-use mathlib.Core.Bool.{Bool, true, false}
+use mathlib.Core.Bool.{true, false}
 use mathlib.Core.List.{List, [], _∷_, _++_}
 use lib.ListN.{length}
 use lib.Dec.{ltb}

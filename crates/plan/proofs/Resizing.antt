@@ -1,7 +1,7 @@
 -- The sizes of the tree with a node replaced.
-use Prim.Native.Nat.{ℕ, _+_, _-_, _≤_, _<_}
+use Prim.Native.Nat.{ℕ, _+_, _-_, _≤_}
 use native.Mathlib.Omega.{arith}
-use mathlib.Core.Path.{_≡_, refl, sym, ap, ap₂, _∙_}
+use mathlib.Core.Path.{_≡_, sym, ap₂, _∙_}
 use mathlib.Core.List.{List}
 use lib.ListN.{length}
 use lib.Dec.{ltb}
@@ -9,7 +9,7 @@ use Rattle.model.specs.Edit.{replace}
 use Rattle.model.specs.Tree.{Tree, plain, hinted, list, Forest, nil, cons, canon, nodes, nodess, depth, depths}
 use Rattle.edits.proofs.Demand.{entry-in, replace-length, replace-nodes}
 use Rattle.edits.proofs.Levels.{level-holders, replace-deep}
-use Rattle.plan.specs.Planned.{Sized, AtNode, Levels, Resizable, Weighed, Resized}
+use Rattle.plan.specs.Planned.{Sized, AtNode, Levels, Resizable, Resized}
 use Rattle.plan.specs.declared.Sizes.{Sizes}
 use Rattle.plan.proofs.Levelling.{levels-holders}
 

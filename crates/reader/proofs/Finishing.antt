@@ -13,7 +13,6 @@ use Rattle.walk.specs.Count.{count}
 use Rattle.index.specs.Indexed.{Indexable}
 use Rattle.answers.specs.Cases.{outcome}
 use Rattle.reader.specs.Stored.{Finishable, Finished}
-use Rattle.answers.specs.declared.Reading.{Reading}
 use Rattle.answers.specs.declared.Reading.the-variants as reading
 
 module _ (canonical : List ℕ) (len count numbers : ℕ) (g : Finishable canonical len count numbers) where

@@ -5,7 +5,7 @@ use mathlib.Core.Path.{_≡_, refl, sym, ap, ap₂, _∙_, subst}
 use mathlib.Core.Option.{Option, none, some}
 use mathlib.Core.List.{List, [], _∷_, _++_}
 use lib.ListN.{length, take, drop, getD, length-drop, drop-of-length-le}
-use lib.Seq.{take-at, sets, length-take-le, length-sets}
+use lib.Seq.{take-at, sets, length-sets}
 use Rattle.base.specs.Choice.{chain}
 use Rattle.base.proofs.Stores.{sets-all}
 use Rattle.model.specs.Decode.{decode₁, unbrace, decode₂}
@@ -21,7 +21,7 @@ use Rattle.scan.specs.Writes.{Wrote}
 use Rattle.scan.proofs.Places.{one-here}
 use Rattle.base64.specs.Steps.{Closing}
 use Rattle.base64.proofs.Marks.{brace}
-use Rattle.texts.specs.Texts.{Braced, Within, Unbraces}
+use Rattle.texts.specs.Texts.{Braced, Unbraces}
 use Rattle.texts.specs.declared.Unbraced.the-variants.{Octets, NoOctets}
 use Rattle.scan.specs.declared.Simple.{Simple}
 use Rattle.scan.specs.declared.Simple.the-variants.{Is, Not}

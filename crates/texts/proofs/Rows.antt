@@ -1,13 +1,13 @@
 -- Rows 1 and 2, whatever is judged after them.
 use Prim.Native.Nat.{ℕ, zero, suc, _≤_, _<_}
 use native.Mathlib.Omega.{arith}
-use mathlib.Core.Path.{_≡_, refl, sym, ap, _∙_}
-use mathlib.Core.Bool.{Bool, true, false}
+use mathlib.Core.Path.{_≡_, sym, ap, _∙_}
+use mathlib.Core.Bool.{true, false}
 use mathlib.Core.List.{List, _∷_}
 use lib.ListN.{length}
 use lib.Dec.{ltb}
 use borrow.Author.Tests.{lt-ltb, le-ltb, ltb-false}
-use Rattle.base.specs.Choice.{pick, isNone, not, among}
+use Rattle.base.specs.Choice.{isNone, not, among}
 use Rattle.base.proofs.Cases.{by-bool, picked, unpicked, not-false, among-in, among-low, among-high, among-true}
 use Rattle.model.specs.Answers.{Check, when, verdict, judged, noForm, textChecks}
 use Rattle.model.specs.Decode.{decode}

@@ -3,15 +3,13 @@ use Prim.Native.Nat.{ℕ, zero, suc, _≤_, _<_}
 use native.Mathlib.Omega.{arith}
 use mathlib.Core.Path.{_≡_, refl, sym, ap, _∙_}
 use mathlib.Core.Bool.{Bool, true, false}
-use mathlib.Core.Option.{Option, none, some}
+use mathlib.Core.Option.{none}
 use mathlib.Core.List.{List}
 use lib.ListN.{length}
 use lib.Dec.{ltb}
-use borrow.Author.Tests.{eq-eqb, ne-eqb}
 use Rattle.base.specs.Choice.{pick, not, isNone}
 use Rattle.base.proofs.Cases.{picked, unpicked, among-in, among-low, among-high}
-use Rattle.model.specs.Answers.{when, verdict, judged, noForm, sheetTree, settled, unwritten, written, writingChecks, writing}
-use Rattle.model.specs.Tree.{Tree}
+use Rattle.model.specs.Answers.{verdict, judged, noForm, sheetTree, settled, unwritten, written, writingChecks, writing}
 use Rattle.model.proofs.Judging.{judged-refused, verdict-here, verdict-past}
 use Rattle.lookup.proofs.Sheets.{tree-of, none-of}
 use Rattle.answers.specs.Cases.{RefusesWriting, output}

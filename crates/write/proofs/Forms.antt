@@ -7,7 +7,7 @@ use mathlib.Core.List.{List}
 use lib.ListN.{length, take, drop}
 use borrow.Author.Tests.{lt-ltb, le-ltb}
 use Rattle.base.proofs.Cases.{picked, unpicked}
-use Rattle.model.specs.Answers.{the, settled, sheetTree, written}
+use Rattle.model.specs.Answers.{the, settled, written}
 use Rattle.model.specs.Decode.{decode₁}
 use Rattle.model.specs.Tree.{Tree, canon}
 use Rattle.model.specs.Write.{advanced, basic}
