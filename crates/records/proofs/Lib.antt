@@ -1,0 +1,15 @@
+pub mod Spelled
+pub mod Facts
+pub mod Local
+pub mod Sizes
+pub mod Tables
+pub mod Follows
+pub mod Through
+pub mod Shared
+pub mod Owning
+pub mod Replacing
+pub mod Showing
+pub mod Placing
+pub mod Counting
+pub mod Flattening
+pub mod Filling

@@ -1,0 +1,45 @@
+-- The types that the walks name: an answer's and a place's, as MIR spells them, those of lent slices, and the flat table's.
+use mathlib.Core.List.{[], _∷_}
+use package.mir.Syntax.{Lifetime, Mutability, Ty, w8, w32, w64, tyInt, tyRef, tyArray, tyEnum, tyStruct, tcons, tnil, ttcons, ttnil}
+use denote.RattleType.{RattleType}
+use denote.Memory.{pointee}
+use denote.Slice.{sliceTy}
+use denote.Builtin.{u32}
+use denote.Array.{Array}
+use Rattle.records.proofs.Record as T
+
+abbrev pub word : Ty
+word = tyInt w64
+
+-- `answers::Reading`, spelled out: comparing two tables of declared types costs much
+abbrev pub answerTy : Ty
+answerTy =
+    tyEnum (97 ∷ 110 ∷ 115 ∷ 119 ∷ 101 ∷ 114 ∷ 115 ∷ 58 ∷ 58 ∷ 82 ∷ 101 ∷ 97 ∷ 100 ∷ 105 ∷ 110 ∷ 103 ∷ [])
+    (ttcons (tcons word (tcons word tnil)) (ttcons (tcons (tyStruct (97 ∷ 110 ∷ 115 ∷ 119 ∷ 101 ∷ 114 ∷ 115 ∷ 58 ∷ 58 ∷ 82 ∷ 101 ∷ 102 ∷ 117 ∷ 115 ∷ 97 ∷ 108 ∷ []) (tcons (tyInt w32) tnil)) tnil) ttnil))
+
+-- `answers::Place`
+abbrev pub placeTy : Ty
+placeTy = tyEnum (97 ∷ 110 ∷ 115 ∷ 119 ∷ 101 ∷ 114 ∷ 115 ∷ 58 ∷ 58 ∷ 80 ∷ 108 ∷ 97 ∷ 99 ∷ 101 ∷ []) (ttcons (tcons word (tcons word tnil)) (ttcons tnil ttnil))
+
+-- what points to an octet, to a record, and to the flat table; and slices of octets and of records
+abbrev pub toByte : Lifetime → Mutability → Ty
+toByte ℓ μ = tyRef ℓ μ (tyInt w8)
+
+abbrev pub toRecord : Lifetime → Mutability → Ty
+toRecord ℓ μ = tyRef ℓ μ (pointee (T.the-row .written))
+
+abbrev pub bytes : Lifetime → Mutability → Ty
+bytes ℓ μ = sliceTy (toByte ℓ μ)
+
+abbrev pub recs : Lifetime → Mutability → Ty
+recs ℓ μ = sliceTy (toRecord ℓ μ)
+
+-- the flat table
+abbrev pub Flat : RattleType
+Flat = Array u32 32768
+
+abbrev pub flatTy : Ty
+flatTy = tyArray (tyInt w32) 32768
+
+abbrev pub toFlat : Lifetime → Mutability → Ty
+toFlat ℓ μ = tyRef ℓ μ flatTy

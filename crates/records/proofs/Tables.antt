@@ -1,0 +1,131 @@
+-- Tables of records as plain numbers: how many there are, that they settle the records, and what filling and flattening do to them.
+use mathlib.Core.Path.{_≡_, refl, sym, _∙_, ap}
+use mathlib.Core.List.{List, [], _∷_, _++_, head-eq-of-cons-eq, tail-eq-of-cons-eq, cons-ne-nil, append-assoc}
+use Prim.Native.Nat.{ℕ, zero, suc, _+_, _*_, _<_, _≤_}
+use native.Mathlib.Nat.{add-zero, zero-add, suc-add, add-suc}
+use native.Mathlib.Omega.{arith}
+use lib.ListN.{length, take, drop, getD, set, length-drop}
+use lib.Seq.{sets, drop-drop, take-add, getD-drop, length-take-le}
+use Rattle.base.proofs.Stores.{sets-all}
+use Rattle.records.specs.declared.Record.{Record}
+use Rattle.records.specs.Numbers.{eight, numbers}
+use Rattle.records.specs.Flat.{nil, spelled, written, filled, flattened}
+use Rattle.records.proofs.Facts.{length-filled}
+
+pub length-numbers : (xs : List Record) → length (numbers xs) ≡ 8 * length xs
+unfolding numbers
+length-numbers [] = refl
+length-numbers (x ∷ xs) = omega (arith, length-numbers xs)
+
+-- the numbers settle every record
+pub numbers-one : (xs ys : List Record) → numbers xs ≡ numbers ys → xs ≡ ys
+unfolding numbers
+numbers-one [] [] e = refl
+numbers-one [] (y ∷ ys) e = absurd (cons-ne-nil _ _ (sym e))
+numbers-one (x ∷ xs) [] e = absurd (cons-ne-nil _ _ e)
+numbers-one (x ∷ xs) (y ∷ ys) e =
+    let e₁ = tail-eq-of-cons-eq e in
+    let e₂ = tail-eq-of-cons-eq e₁ in
+    let e₃ = tail-eq-of-cons-eq e₂ in
+    let e₄ = tail-eq-of-cons-eq e₃ in
+    let e₅ = tail-eq-of-cons-eq e₄ in
+    let e₆ = tail-eq-of-cons-eq e₅ in
+    let e₇ = tail-eq-of-cons-eq e₆ in
+    λ t. record {
+      kind = head-eq-of-cons-eq e t;
+      start = head-eq-of-cons-eq e₁ t;
+      end = head-eq-of-cons-eq e₂ t;
+      nodes = head-eq-of-cons-eq e₃ t;
+      «hint_start» = head-eq-of-cons-eq e₄ t;
+      «hint_end» = head-eq-of-cons-eq e₅ t;
+      «data_start» = head-eq-of-cons-eq e₆ t;
+      «data_end» = head-eq-of-cons-eq e₇ t;
+    } ∷ numbers-one xs ys (tail-eq-of-cons-eq e₇) t
+
+-- ---- one record
+
+set-over : (p l : List ℕ) (v i : ℕ) → set (p ++ l) (length p + i) v ≡ p ++ set l i v
+set-over [] l v i = ap (λ (k : ℕ). set l k v) (zero-add i)
+set-over (a ∷ p) l v i = ap (λ (k : ℕ). set (a ∷ (p ++ l)) k v) (suc-add (length p) i) ∙ ap (λ (k : List ℕ). a ∷ k) (set-over p l v i)
+
+sets-over : (p l vs : List ℕ) (i : ℕ) → sets (p ++ l) (length p + i) vs ≡ p ++ sets l i vs
+sets-over p l [] i = refl
+sets-over p l (v ∷ vs) i = ap (λ (k : List ℕ). sets k (suc (length p + i)) vs) (set-over p l v i) ∙ ap (λ (k : ℕ). sets (p ++ set l i v) k vs) (sym (add-suc (length p) i)) ∙ sets-over p (set l i v) vs (suc i)
+
+eight-more : (m : ℕ) → 8 * suc m ≡ suc (suc (suc (suc (suc (suc (suc (suc (8 * m))))))))
+eight-more m = omega arith
+
+sets-eight : (r : Record) (l vs : List ℕ) (m : ℕ) → sets (eight r ++ l) (8 * suc m) vs ≡ eight r ++ sets l (8 * m) vs
+sets-eight r l vs m = ap (λ (k : ℕ). sets (eight r ++ l) k vs) (omega arith) ∙ sets-over (eight r) l vs (8 * m)
+
+pub numbers-set : (xs : List Record) (i : ℕ) (r : Record) → i < length xs → numbers (set xs i r) ≡ sets (numbers xs) (8 * i) (eight r)
+unfolding numbers
+numbers-set [] i r l = absurd (omega arith)
+numbers-set (x ∷ xs) zero r l = refl
+numbers-set (x ∷ xs) (suc i) r l = ap (λ (k : List ℕ). eight x ++ k) (numbers-set xs i r (omega arith)) ∙ sym (sets-eight x (numbers xs) (eight r) i)
+
+front-8 : (l : List ℕ) → 8 ≤ length l
+    → take 8 l ≡ getD l 0 0 ∷ getD l 1 0 ∷ getD l 2 0 ∷ getD l 3 0 ∷ getD l 4 0 ∷ getD l 5 0 ∷ getD l 6 0 ∷ getD l 7 0 ∷ []
+front-8 [] h = absurd (omega arith)
+front-8 (a ∷ []) h = absurd (omega arith)
+front-8 (a ∷ b ∷ []) h = absurd (omega arith)
+front-8 (a ∷ b ∷ c ∷ []) h = absurd (omega arith)
+front-8 (a ∷ b ∷ c ∷ d ∷ []) h = absurd (omega arith)
+front-8 (a ∷ b ∷ c ∷ d ∷ e ∷ []) h = absurd (omega arith)
+front-8 (a ∷ b ∷ c ∷ d ∷ e ∷ f ∷ []) h = absurd (omega arith)
+front-8 (a ∷ b ∷ c ∷ d ∷ e ∷ f ∷ g ∷ []) h = absurd (omega arith)
+front-8 (a ∷ b ∷ c ∷ d ∷ e ∷ f ∷ g ∷ h ∷ l) _ = refl
+
+pub eight-spelled : (flat : List ℕ) (i : ℕ) → 8 * i + 8 ≤ length flat → take 8 (drop (8 * i) flat) ≡ eight (spelled flat i)
+unfolding spelled
+eight-spelled flat i h =
+    front-8 (drop (8 * i) flat) (omega (arith, length-drop (8 * i) flat))
+    ∙ (λ t. (at 0 ∙ ap (λ (k : ℕ). getD flat k 0) (add-zero (8 * i))) t ∷ at 1 t ∷ at 2 t ∷ at 3 t ∷ at 4 t ∷ at 5 t ∷ at 6 t ∷ at 7 t ∷ [])
+  where
+    at : (j : ℕ) → getD (drop (8 * i) flat) j 0 ≡ getD flat (8 * i + j) 0
+    at j = getD-drop (8 * i) flat j 0
+
+pub eight-numbers : (xs : List Record) (i : ℕ) → i < length xs → take 8 (drop (8 * i) (numbers xs)) ≡ eight (getD xs i nil)
+unfolding numbers
+eight-numbers [] i l = absurd (omega arith)
+eight-numbers (x ∷ xs) zero l = refl
+eight-numbers (x ∷ xs) (suc i) l = rw (eight-more i, eight-numbers xs i (omega arith))
+
+-- ---- n of them
+
+-- eight more of f, in a table that has the first 8 * k of them
+next-eight : (f n : List ℕ) (k : ℕ) → 8 * k + 8 ≤ length f → 8 * k + 8 ≤ length n
+    → sets (take (8 * k) f ++ drop (8 * k) n) (8 * k) (take 8 (drop (8 * k) f)) ≡ take (8 * suc k) f ++ drop (8 * suc k) n
+next-eight f n k h h′ =
+    let p : List ℕ = take (8 * k) f in
+    let v : List ℕ = take 8 (drop (8 * k) f) in
+    let d : List ℕ = drop (8 * k) n in
+    let lp : length p ≡ 8 * k = length-take-le (8 * k) f (omega arith) in
+    let lv : length v ≡ 8 = length-take-le 8 (drop (8 * k) f) (omega (arith, length-drop (8 * k) f)) in
+    let here : 8 * k ≡ length p + 0 = omega (arith, lp) in
+    let all : sets d 0 v ≡ v ++ drop (length v) d = sets-all d v (omega (arith, lv, length-drop (8 * k) n)) in
+    let rest : drop (length v) d ≡ drop (8 * k + 8) n = ap (λ (j : ℕ). drop j d) lv ∙ drop-drop 8 (8 * k) n in
+    let more : 8 * suc k ≡ 8 * k + 8 = omega arith in
+    ap (λ (j : ℕ). sets (p ++ d) j v) here
+    ∙ sets-over p d v 0
+    ∙ ap (λ (l : List ℕ). p ++ l) (all ∙ ap (λ (l : List ℕ). v ++ l) rest)
+    ∙ sym (append-assoc p v (drop (8 * k + 8) n))
+    ∙ ap (λ (l : List ℕ). l ++ drop (8 * k + 8) n) (sym (take-add (8 * k) 8 f))
+    ∙ ap (λ (j : ℕ). take j f ++ drop j n) (sym more)
+
+pub numbers-filled : (f : List ℕ) (n : ℕ) (xs : List Record) → n ≤ length xs → 8 * n ≤ length f → numbers (filled f n xs) ≡ take (8 * n) f ++ drop (8 * n) (numbers xs)
+unfolding filled
+numbers-filled f zero xs h l = refl
+numbers-filled f (suc n) xs h l =
+    numbers-set (filled f n xs) n (spelled f n) (omega (arith, length-filled f n xs))
+    ∙ ap (λ (v : List ℕ). sets (numbers (filled f n xs)) (8 * n) v) (sym (eight-spelled f n (omega arith)))
+    ∙ ap (λ (k : List ℕ). sets k (8 * n) (take 8 (drop (8 * n) f))) (numbers-filled f n xs (omega arith) (omega arith))
+    ∙ next-eight f (numbers xs) n (omega arith) (omega (arith, length-numbers xs))
+
+pub flattened-is : (xs : List Record) (n : ℕ) (f : List ℕ) → n ≤ length xs → 8 * n ≤ length f → flattened xs n f ≡ take (8 * n) (numbers xs) ++ drop (8 * n) f
+unfolding flattened written
+flattened-is xs zero f h l = refl
+flattened-is xs (suc n) f h l =
+    ap (λ (v : List ℕ). sets (flattened xs n f) (8 * n) v) (sym (eight-numbers xs n (omega arith)))
+    ∙ ap (λ (k : List ℕ). sets k (8 * n) (take 8 (drop (8 * n) (numbers xs)))) (flattened-is xs n f (omega arith) (omega arith))
+    ∙ next-eight (numbers xs) f n (omega (arith, length-numbers xs)) (omega arith)

@@ -1,0 +1,221 @@
+// The node table as a lent slice of records. Reading, replacing and showing work over a flat copy of it, eight numbers to a
+// record; the functions that take records are few and thin.
+mod flat;
+
+ghost use mathlib.Core.Path.{_≡_};
+ghost use Prim.Native.Nat.{_<_};
+ghost use lib.ListN.{length};
+ghost use mathlib.Core.List.{[]};
+ghost use Rattle.model.specs.Answers.{reading, replacing, hintPart, dataPart, hintShown, dataShown, shownOr};
+ghost use Rattle.answers.specs.Cases.{outcome, placed};
+ghost use Rattle.records.specs.Numbers.{numbers};
+ghost use Rattle.records.specs.Flat.{spelled, written, filled, flattened, touched, held, placeOf, Fills, Inside};
+use answers::Place;
+use answers::Reading;
+
+#[repr(C)]
+pub struct Record {
+    pub kind: u32,
+    pub start: u32,
+    pub end: u32,
+    pub nodes: u32,
+    pub hint_start: u32,
+    pub hint_end: u32,
+    pub data_start: u32,
+    pub data_end: u32,
+}
+
+// The record that the eight numbers from `8 * i` on spell.
+fn decode(flat: &[u32; 32768], i: usize) -> Record
+    requires { ⌜ i < 4096 ⌝ }
+    ensures { λ r. ⌜ r ≡ spelled (now (flat .entry)) i ⌝ }
+{
+    let at = 8 * i;
+    Record {
+        kind: flat[at],
+        start: flat[at + 1],
+        end: flat[at + 2],
+        nodes: flat[at + 3],
+        hint_start: flat[at + 4],
+        hint_end: flat[at + 5],
+        data_start: flat[at + 6],
+        data_end: flat[at + 7],
+    }
+}
+
+// Eight numbers, from `8 * i` on, spell `r`.
+fn encode(flat: &mut [u32; 32768], i: usize, r: Record)
+    requires { ⌜ i < 4096 ⌝ }
+    ensures { λ _. ⌜ now (flat .exit) ≡ written (now (flat .entry)) i r ⌝ }
+{
+    let at = 8 * i;
+    flat[at] = r.kind;
+    flat[at + 1] = r.start;
+    flat[at + 2] = r.end;
+    flat[at + 3] = r.nodes;
+    flat[at + 4] = r.hint_start;
+    flat[at + 5] = r.hint_end;
+    flat[at + 6] = r.data_start;
+    flat[at + 7] = r.data_end;
+}
+
+// The records that an answer touches become those that `flat` spells.
+fn fill(records: &mut [Record], flat: &[u32; 32768], r: Reading, old: usize)
+    requires { ⌜ Fills r old (length (now records)) ⌝ }
+    ensures { λ _. ⌜ now (records .exit) ≡ filled (now (flat .entry)) (touched r old) (now (records .entry)) ⌝ }
+{
+    let n = flat::touched_by(r, old);
+    let mut i: usize = 0;
+    while i < n {
+        let r = decode(flat, i);
+        records[i] = r;
+        i += 1;
+    }
+}
+
+// The records in use are spelled out in `flat`.
+fn flatten(records: &[Record], flat: &mut [u32; 32768], nodes: usize)
+    ensures { λ _. ⌜ now (flat .exit) ≡ flattened (now (records .entry)) (held (length (now (records .entry))) nodes) (now (flat .entry)) ⌝ }
+{
+    let n = flat::held_of(records.len(), nodes);
+    let mut i: usize = 0;
+    while i < n {
+        let r = records[i];
+        encode(flat, i, r);
+        i += 1;
+    }
+}
+
+// A text of the form named (1 canonical, 2 basic, 3 advanced) into canonical octets and the records of its nodes. In a
+// refusal both lent buffers hold what they held; in an acceptance what lies past the octets and the records stays.
+pub fn read(form: u32, source: &[u8], canonical: &mut [u8], records: &mut [Record]) -> Reading
+    ensures { λ r. ⌜ outcome r (now (canonical .exit)) (numbers (now (records .exit))) ≡ reading form (now (source .entry)) (now (canonical .entry)) (numbers (now (records .entry))) ⌝ }
+{
+    let mut flat: [u32; 32768] = [0; 32768];
+    let r = flat::read(form, source, canonical, &mut flat, records.len());
+    fill(records, &flat, r, 0);
+    r
+}
+
+// A node of the sheet with this length, node count and records gives way to the tree of a text of the form named. In a
+// refusal both lent buffers hold what they held; in an acceptance what lies past the old and the new octets and records
+// stays, and what lies between the new ones and larger old ones is zeroed.
+pub fn replace(
+    form: u32,
+    text: &[u8],
+    canonical: &mut [u8],
+    records: &mut [Record],
+    length: usize,
+    nodes: usize,
+    node: usize,
+) -> Reading
+    ensures { λ r. ⌜ outcome r (now (canonical .exit)) (numbers (now (records .exit))) ≡ replacing form (now (text .entry)) (now (canonical .entry)) (numbers (now (records .entry))) length nodes node ⌝ }
+{
+    let mut flat: [u32; 32768] = [0; 32768];
+    flatten(records, &mut flat, nodes);
+    let r = flat::replace(
+        form,
+        text,
+        canonical,
+        &mut flat,
+        records.len(),
+        length,
+        nodes,
+        node,
+    );
+    fill(records, &flat, r, nodes);
+    r
+}
+
+// The same by the records.
+fn place(
+    canonical: &[u8],
+    length: usize,
+    records: &[Record],
+    nodes: usize,
+    node: usize,
+    hinted: bool,
+) -> Place
+    ensures { λ r. ⌜ placed r ≡ placeOf hinted (now (canonical .entry)) length (numbers (now (records .entry))) nodes node ⌝ }
+{
+    let mut flat: [u32; 32768] = [0; 32768];
+    flatten(records, &mut flat, nodes);
+    flat::place(canonical, length, &flat, records.len(), nodes, node, hinted)
+}
+
+// Where a node's hint stands, if it is a string with a hint.
+pub fn hint_place(
+    canonical: &[u8],
+    length: usize,
+    records: &[Record],
+    nodes: usize,
+    node: usize,
+) -> Place
+    ensures { λ r. ⌜ placed r ≡ hintPart (now (canonical .entry)) length (numbers (now (records .entry))) nodes node ⌝ }
+{
+    place(canonical, length, records, nodes, node, true)
+}
+
+// Where a node's data stands.
+pub fn data_place(
+    canonical: &[u8],
+    length: usize,
+    records: &[Record],
+    nodes: usize,
+    node: usize,
+) -> Place
+    ensures { λ r. ⌜ placed r ≡ dataPart (now (canonical .entry)) length (numbers (now (records .entry))) nodes node ⌝ }
+{
+    place(canonical, length, records, nodes, node, false)
+}
+
+// The part of the sheet at a place, else what is given.
+fn shown_or<'a>(canonical: &'a [u8], p: Place, other: &'a [u8]) -> &'a [u8]
+    requires { ⌜ Inside p (length (now canonical)) ⌝ }
+    ensures { λ r. ⌜ now r ≡ shownOr (placed p) (now (canonical .entry)) (now (other .entry)) ⌝ }
+{
+    match p {
+        Place::Part { start, end } => &canonical[start..end],
+        Place::NoPart => other,
+    }
+}
+
+// The part of the sheet at a place, else an empty part.
+fn shown<'a>(canonical: &'a [u8], p: Place) -> &'a [u8]
+    requires { ⌜ Inside p (length (now canonical)) ⌝ }
+    ensures { λ r. ⌜ now r ≡ shownOr (placed p) (now (canonical .entry)) [] ⌝ }
+{
+    match p {
+        Place::Part { start, end } => &canonical[start..end],
+        Place::NoPart => &canonical[0..0],
+    }
+}
+
+// A node's hint: the part of the sheet that holds it, else the default.
+pub fn hint<'a>(
+    canonical: &'a [u8],
+    length: usize,
+    records: &[Record],
+    nodes: usize,
+    node: usize,
+    default_hint: &'a [u8],
+) -> &'a [u8]
+    ensures { λ r. ⌜ now r ≡ hintShown (now (canonical .entry)) length (numbers (now (records .entry))) nodes node (now («default_hint» .entry)) ⌝ }
+{
+    let p = place(canonical, length, records, nodes, node, true);
+    shown_or(canonical, p, default_hint)
+}
+
+// A node's data: the part of the sheet that holds it, else an empty part.
+pub fn data<'a>(
+    canonical: &'a [u8],
+    length: usize,
+    records: &[Record],
+    nodes: usize,
+    node: usize,
+) -> &'a [u8]
+    ensures { λ r. ⌜ now r ≡ dataShown (now (canonical .entry)) length (numbers (now (records .entry))) nodes node ⌝ }
+{
+    let p = place(canonical, length, records, nodes, node, false);
+    shown(canonical, p)
+}
