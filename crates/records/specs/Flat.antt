@@ -48,20 +48,21 @@ unfoldable pub flattened : List Record → ℕ → List ℕ → List ℕ
 flattened xs zero flat = flat
 flattened xs (suc n) flat = written (flattened xs n flat) n (getD xs n nil)
 
--- how many numbers stand for a table of `room` records: one more than 4,096 is never used
+-- how many numbers stand for a table of `room` records. 01, "it has at most 4,096 nodes": more records are never used
 unfoldable pub part : ℕ → ℕ
 part room = width * min room maxNodes
 
--- how many records of `room` can be looked at, where `nodes` are in use
+-- how many records of `room` are looked at, where `nodes` are said to be in use: none past those lent, or past 4,096
 unfoldable pub held : ℕ → ℕ → ℕ
 held room nodes = min (min room nodes) maxNodes
 
--- how many records may differ after an answer, where `old` were in use
+-- how many records an answer may change, where `old` were in use. 01, "it sets octets between the new and a larger old length to 0, and
+-- records likewise; past both, nothing changes", and in a refusal "all lent space is unchanged"
 unfoldable pub touched : Reading → ℕ → ℕ
 touched (reading.Accepted len count) old = max old count
 touched (reading.Refused f) old = 0
 
--- they are there
+-- those are lent, and the flat table has them
 pub record Fills (r : Reading) (old room : ℕ) : Type 0 where
   pub lent : touched r old ≤ room
   pub few : touched r old ≤ maxNodes

@@ -118,7 +118,7 @@ fn place_part(
     }
 }
 
-// The same by the part of the flat table that stands for `room` records.
+// Where it stands by the part of the flat table that stands for `room` records.
 pub fn place(
     canonical: &[u8],
     len: usize,

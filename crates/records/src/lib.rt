@@ -13,6 +13,7 @@ ghost use Rattle.records.specs.Flat.{spelled, written, filled, flattened
 use answers::Place;
 use answers::Reading;
 
+// A node's record: its eight numbers, in document 01's order.
 #[repr(C)]
 pub struct Record {
     pub kind: u32,
@@ -78,11 +79,11 @@ fn flatten(records: &[Record], flat: &mut [u32; 32768], nodes: usize)
     ensures { λ _. ⌜ now (flat .exit) ≡ flattened (now (records .entry)) (held (length (now (records .entry))) nodes) (now (flat .entry)) ⌝ }
 {
     let n = flat::held_of(records.len(), nodes);
-    let mut i: usize = 0;
-    while i < n {
-        let r = records[i];
-        encode(flat, i, r);
-        i += 1;
+    let mut k: usize = 0;
+    while k < n {
+        let r = records[k];
+        encode(flat, k, r);
+        k += 1;
     }
 }
 
@@ -127,7 +128,7 @@ pub fn replace(
     r
 }
 
-// The same by the records.
+// Where a node's hint, or its data, stands by the records.
 fn place(
     canonical: &[u8],
     length: usize,
