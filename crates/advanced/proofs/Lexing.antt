@@ -52,7 +52,7 @@ module _ (src : List ℕ) (i : ℕ) (r : Simple) (w : Tells src (simple (drop i 
   again kind len body next e =
       let t : Reads src (simple (drop i src)) kind len body next = told kind len body next e in
       record {
-        rest = drop next src;
+        rest = t .left;
         reads = t .again;
         size = t .size;
         inside = omega (arith, t .ahead, t .within);

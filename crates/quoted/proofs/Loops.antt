@@ -1,17 +1,20 @@
 -- The loops over pieces of a quoted string.
 use Prim.Native.Nat.{ℕ, _+_, _-_, _≤_, _<_}
 use native.Mathlib.Omega.{arith}
-use mathlib.Core.Path.{_≡_, refl, sym, subst}
-use mathlib.Core.List.{List, [], _∷_}
-use lib.ListN.{length, take, drop, set}
+use mathlib.Core.Path.{_≡_, refl, sym, ap, _∙_, subst}
+use mathlib.Core.List.{List, [], _∷_, append-nil}
+use lib.ListN.{length, take, drop, getD, set, length-drop}
+use borrow.Author.Tests.{le-leb}
+use Rattle.base.proofs.Cases.{picked}
 use lib.Seq.{sets}
-use Rattle.model.specs.Strings.{refused, marked}
+use Rattle.model.specs.Strings.{got, refused, bind, first, marked}
 use Rattle.scan.specs.Marks.{Stretch, Chunk, Last}
 use Rattle.scan.specs.Strings.{bodyOf, octetsOf, Tells}
 use Rattle.scan.specs.Writes.{Wrote}
-use Rattle.scan.proofs.Passing.{Passed, passed-by, passed-on, passed-last, passed-bad, Writing, stretch-room, write-room, write-by, write-on, write-end, write-never}
+use Rattle.scan.proofs.Passing.{Passed, passed-none, passed-by, passed-on, passed-last, passed-bad, Writing, stretch-room, write-room, write-by, write-on, write-end, write-never}
 use Rattle.scan.proofs.Places.{part-length}
 use Rattle.quoted.specs.Pieces.{Quotes}
+use Rattle.quoted.proofs.PieceSteps.{piece-quote}
 use Rattle.scan.specs.declared.Simple.the-variants.{Is, Not}
 use Rattle.quoted.specs.declared.escapes.Piece.{Piece}
 use Rattle.quoted.specs.declared.escapes.Piece.the-variants.{One, Gone, Quote, NoPiece}
@@ -79,6 +82,30 @@ module _ (src : List ℕ) (i j : ℕ) (s : Stretch (marked 34) src i (take (j - 
 
       pub put-none : r ≡ NoPiece → Wrote (octetsOf (marked 34 (drop at src))) pos out₀ out' o'
       put-none e = write-never (marked 34) src at pos out₀ out' j o' wrote (to-none e)
+
+-- ---- octets that stand for themselves, from the start on
+module _ (src : List ℕ) (at j : ℕ) (s : Stretch (marked 34) src at (take (j - at) (drop at src)) j) where
+  pub passed-plain : Passed (marked 34) src at j (j - at)
+  passed-plain =
+      let l : length (take (j - at) (drop at src)) ≡ j - at = part-length src at j (s .on) (s .within) in
+      let z : 0 + (j - at) ≡ j - at = omega arith in
+      rw (l, z) at (passed-by (marked 34) src at at 0 (passed-none (marked 34) src at (omega (arith, s .on, s .within))) _ j s)
+
+  -- and then the closing mark
+  pub plain-whole : j < length src → getD src j 0 ≡ 34 → Tells src (marked 34 (drop at src)) (Is 0 (j - at) at (j + 1))
+  unfolding Tells bind bodyOf first Quotes
+  plain-whole h e =
+      let l : j - at ≤ length (drop at src) = omega (arith, s .on, s .within, length-drop at src) in
+      let c : Last (marked 34) src j [] (j + 1) = piece-quote src j h e in
+      record {
+        octets = take (j - at) (drop at src);
+        reads = s .more ∙ rw (c .ends) (ap (λ (d : List ℕ). got d (drop (j + 1) src)) (append-nil (take (j - at) (drop at src))));
+        left = drop (j - at) (drop at src);
+        again = picked _ _ (le-leb (j - at) (length (drop at src)) l);
+        size = part-length src at j (s .on) (s .within);
+        ahead = omega (arith, s .on);
+        within = omega arith;
+      }
 
 -- room for a run
 pub run-room : (src : List ℕ) (i j at pos : ℕ) (out₀ out : List ℕ) (o : ℕ) → Stretch (marked 34) src i (take (j - i) (drop i src)) j → Writing (marked 34) src at pos out₀ out i o → o + (j - i) ≤ length out

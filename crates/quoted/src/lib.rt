@@ -57,14 +57,14 @@ fn plain_end(classes: &[u8; 256], src: &[u8], at: usize) -> usize
     i
 }
 
-// How many octets there are.
-pub fn quoted_size(classes: &[u8; 256], src: &[u8], at: usize) -> Simple
+// How many octets there are, where those up to `from` stand for themselves.
+fn escaped_size(classes: &[u8; 256], src: &[u8], at: usize, from: usize) -> Simple
     requires { ⌜ Classed (now classes) ⌝ }
-    requires { ⌜ at ≤ length (now src) ⌝ }
+    requires { ⌜ Stretch (marked 34) (now src) at (take (from - at) (drop at (now src))) from ⌝ }
     ensures { λ r. ⌜ Tells (now (src .entry)) (marked 34 (drop at (now (src .entry)))) r ⌝ }
 {
-    let mut n: usize = 0;
-    let mut i = at;
+    let mut n: usize = from - at;
+    let mut i = from;
     loop {
         let j = plain_end(classes, src, i);
         n += j - i;
@@ -89,6 +89,26 @@ pub fn quoted_size(classes: &[u8; 256], src: &[u8], at: usize) -> Simple
             }
         }
     }
+}
+
+// How many octets there are. Where nothing is escaped they are written as they stand.
+pub fn quoted_size(classes: &[u8; 256], src: &[u8], at: usize) -> Simple
+    requires { ⌜ Classed (now classes) ⌝ }
+    requires { ⌜ at ≤ length (now src) ⌝ }
+    ensures { λ r. ⌜ Tells (now (src .entry)) (marked 34 (drop at (now (src .entry)))) r ⌝ }
+{
+    let end = plain_end(classes, src, at);
+    if end < src.len() {
+        if src[end] == 34 {
+            return Simple::Is {
+                kind: 0,
+                len: end - at,
+                body: at,
+                next: end + 1,
+            };
+        }
+    }
+    escaped_size(classes, src, at, end)
 }
 
 // The octets, written; the place after them.

@@ -77,6 +77,7 @@ module _ (f : List ℕ → Read (List ℕ)) (src : List ℕ) (at i n : ℕ) (p :
       record {
         octets = p .octets ++ g;
         reads = e;
+        left = drop next src;
         again = z _ ∙ e;
         size = length-append (p .octets) g ∙ ap (λ (x : ℕ). x + length g) (p .count);
         ahead = omega (arith, p .from, c .on);

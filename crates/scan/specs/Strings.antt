@@ -26,7 +26,9 @@ octetsOf refused = []
 pub record Reads (src : List ℕ) (x : Read (List ℕ)) (kind len body next : ℕ) : Type 0 where
   pub octets : List ℕ
   pub reads : x ≡ got octets (drop next src)
-  pub again : bodyOf kind len (drop body src) ≡ got octets (drop next src)
+  -- read again from its body on, by its kind
+  pub left : List ℕ
+  pub again : bodyOf kind len (drop body src) ≡ got octets left
   pub size : length octets ≡ len
   pub ahead : body ≤ next
   pub within : next ≤ length src

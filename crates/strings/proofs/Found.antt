@@ -66,6 +66,7 @@ module _ (src : List ℕ) (at n : ℕ) where
           record {
             octets = take n (drop (at + 1) src);
             reads = verbatim ∙ f;
+            left = drop (at + 1 + n) src;
             again = f;
             size = length-take-le n (drop (at + 1) src) l;
             ahead = omega arith;
@@ -93,6 +94,7 @@ module _ (src : List ℕ) (at n : ℕ) where
             record {
               octets = t .octets;
               reads = marks ∙ rw (t .reads) (picked _ _ (eq-eqb _ _ (t .size ∙ q)));
+              left = t .left;
               again = t .again;
               size = t .size;
               ahead = t .ahead;
@@ -130,7 +132,6 @@ module _ (src : List ℕ) (at : ℕ) where
     unfolding Tells simple bind bodyOf first
     simple-token end p q r =
         let z : end - at ≡ suc (end - (at + 1)) = omega (arith, r .from) in
-        let y : at + (end - at) ≡ end = omega (arith, r .from) in
         let l : end - at ≤ length (drop at src) = omega (arith, r .within, length-drop at src) in
         let t : take (end - at) (drop at src) ≡ getD src at 0 ∷ take (end - (at + 1)) (drop (at + 1) src) = ap₂ take z (one-here src at h) in
         record {
@@ -140,7 +141,8 @@ module _ (src : List ℕ) (at : ℕ) where
               ∙ unpicked _ _ (k .digit ∙ lt-leb 18 c (omega arith))
               ∙ picked _ _ (k .tokenStart ∙ among-in 14 17 c p q)
               ∙ rw (r .reads) (ap (λ (d : List ℕ). got d (drop end src)) (sym t));
-          again = picked _ _ (le-leb _ _ l) ∙ ap (got (take (end - at) (drop at src))) (drop-drop (end - at) at src ∙ ap (λ (n : ℕ). drop n src) y);
+          left = drop (end - at) (drop at src);
+          again = picked _ _ (le-leb _ _ l);
           size = length-take-le (end - at) (drop at src) l;
           ahead = omega (arith, r .from);
           within = r .within;

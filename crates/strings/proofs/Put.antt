@@ -93,4 +93,4 @@ pub found-ready : (src : List ℕ) (at : ℕ) (r : Simple) → Tells src (simple
 unfolding Tells
 found-ready src at r w kind len body next e pos room h k =
     let t : Reads src (simple (drop at src)) kind len body next = subst (Tells src (simple (drop at src))) e w in
-    record { octets = t .octets; rest = drop next src; reads = t .again; inside = omega (arith, t .ahead, t .within); fits = omega (arith, t .size) }
+    record { octets = t .octets; rest = t .left; reads = t .again; inside = omega (arith, t .ahead, t .within); fits = omega (arith, t .size) }

@@ -1,86 +1,38 @@
-use Rattle.model.specs.Strings.{marked}
-use Rattle.quoted.proofs.Loops.{one-less, gone-less, quoted-one, quoted-gone, quoted-last, quoted-bad}
-use Rattle.scan.proofs.Passing.{Passed, passed-none}
-use borrow.Author.Needs.{needs}
 use native.Mathlib.Omega.{arith}
-use lib.ListN.{length}
-use Prim.Native.Nat.{_-_}
+use Rattle.quoted.proofs.Loops.{plain-whole}
+use borrow.Author.Needs.{needs}
 use Rattle.quoted.proofs.quoted_size.Statement.{statement}
 use Rattle.quoted.proofs.quoted_size.Tie as tie
 
-abbrev Inv-loop : tie.InvT-loop
-Inv-loop classes src at n₀ i₀ n i = Passed (marked 34) src at i n
-
-abbrev μ-loop : tie.MeasureT-loop
-μ-loop classes src at n₀ i₀ n i = length src - i
-
-loop-holds : tie.Need-loop-holds Inv-loop μ-loop
-loop-holds c = search passed-none
-
-plain-end-requires : tie.Need-plain-end-requires Inv-loop μ-loop
+plain-end-requires : tie.Need-plain-end-requires
 plain-end-requires c κs = search needs
 
-sub-n : tie.Need-sub-n Inv-loop μ-loop
-sub-n c = search needs
+shared-slice-read-if2 : tie.Need-shared-slice-read-if2
+shared-slice-read-if2 c = search needs
 
-add-n : tie.Need-add-n Inv-loop μ-loop
-add-n c = search needs
+sub-t10 : tie.Need-sub-t10
+sub-t10 c = search needs
 
-piece-at-requires : tie.Need-piece-at-requires Inv-loop μ-loop
-piece-at-requires c κs = search needs
+add-t11 : tie.Need-add-t11
+add-t11 c = search needs
 
-enum-known-next : tie.Need-enum-known-next Inv-loop μ-loop
-enum-known-next c = search needs
+returns : tie.Need-returns
+returns c = search (plain-whole, arith)
 
-add-n-2 : tie.Need-add-n-2 Inv-loop μ-loop
-add-n-2 c = search needs
+escaped-size-requires : tie.Need-escaped-size-requires
+escaped-size-requires c κs = search needs
 
-loop-less : tie.Need-loop-less Inv-loop μ-loop
-loop-less c = search (one-less, arith)
-
-loop-again : tie.Need-loop-again Inv-loop μ-loop
-loop-again c = search (quoted-one, arith)
-
-enum-known-next-2 : tie.Need-enum-known-next-2 Inv-loop μ-loop
-enum-known-next-2 c = search needs
-
-loop-less-2 : tie.Need-loop-less-2 Inv-loop μ-loop
-loop-less-2 c = search (gone-less, arith)
-
-loop-again-2 : tie.Need-loop-again-2 Inv-loop μ-loop
-loop-again-2 c = search (quoted-gone, arith)
-
-enum-known-next-3 : tie.Need-enum-known-next-3 Inv-loop μ-loop
-enum-known-next-3 c = search needs
-
-returns : tie.Need-returns Inv-loop μ-loop
-returns c = search (quoted-last, arith)
-
-enum-told : tie.Need-enum-told Inv-loop μ-loop
-enum-told c = search needs
-
-returns-2 : tie.Need-returns-2 Inv-loop μ-loop
-returns-2 c = search (quoted-bad, arith)
+returns-2 : tie.Need-returns-2
+returns-2 c = search needs
 
 pub quoted-size-spec : {M : Type 1} → statement M
 quoted-size-spec =
     tie.close
     (tie.spec
-    Inv-loop
-    μ-loop
-    loop-holds
     plain-end-requires
-    sub-n
-    add-n
-    piece-at-requires
-    enum-known-next
-    add-n-2
-    loop-less
-    loop-again
-    enum-known-next-2
-    loop-less-2
-    loop-again-2
-    enum-known-next-3
+    shared-slice-read-if2
+    sub-t10
+    add-t11
     returns
-    enum-told
+    escaped-size-requires
     returns-2)
