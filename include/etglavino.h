@@ -2,7 +2,7 @@
  *
  * Build the library with `rt staticlib etglavino_c`; link
  * target/staticlib/libetglavino_c.a. It needs nothing but the C library's
- * memset, allocates nothing, keeps nothing between calls and never fails
+ * memcpy and memset, allocates nothing, keeps nothing between calls and never fails
  * otherwise than by the number that it returns.
  *
  * What a caller lends
@@ -79,7 +79,7 @@ uint32_t etg_read(uint32_t form,
  *
  * Refusals: 1, 7, 6. On acceptance `*written` tells how many octets were
  * written; output past them stays as it was. A sheet's output takes at most
- * twice its length. */
+ * twice its length and two octets more. */
 uint32_t etg_write(uint32_t form,
                    const uint8_t *canonical, size_t canonical_room, size_t length,
                    uint8_t *out, size_t out_room,

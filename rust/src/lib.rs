@@ -21,8 +21,10 @@
 //! ```
 
 mod ffi;
+mod form;
 mod refusal;
 
+pub use form::Form;
 pub use refusal::Refusal;
 
 /// Most octets of a source.
@@ -35,18 +37,6 @@ pub const MAX_NODES: usize = 4_096;
 pub const MAX_DEPTH: usize = 32;
 /// Numbers to a record of the flat table.
 pub const RECORD: usize = 8;
-
-/// How a text is spelled.
-#[derive(Clone, Copy, Debug, PartialEq, Eq, Hash)]
-#[repr(u32)]
-pub enum Form {
-    /// Lengths and octets, one way for each tree.
-    Canonical = 1,
-    /// Canonical, or base-64 of it in braces.
-    Basic = 2,
-    /// What people write.
-    Advanced = 3,
-}
 
 /// How much of the lent octets and of the lent table is a sheet's.
 #[derive(Clone, Copy, Debug, Default, PartialEq, Eq, Hash)]
@@ -103,8 +93,8 @@ pub fn read_form(
 }
 
 /// Writes the sheet in the first `length` octets; how many octets went out.
-/// What lies past them stays. Twice the length is room enough, whatever the
-/// form.
+/// What lies past them stays. Twice the length and two octets more are room
+/// enough, whatever the form.
 ///
 /// # Errors
 ///
@@ -118,7 +108,7 @@ pub fn write(
     write_form(form as u32, canonical, length, out)
 }
 
-/// [`write`] with the form as a number.
+/// [`write()`] with the form as a number.
 ///
 /// # Errors
 ///

@@ -8,9 +8,9 @@ use std::fmt;
 #[repr(u32)]
 pub enum Refusal {
     /// 1: the form is not 1, 2 or 3.
-    NoForm = 1,
+    Form = 1,
     /// 2: the source has over 32,768 octets.
-    Source = 2,
+    SourceSize = 2,
     /// 3: the source is not in the form's language.
     Syntax = 3,
     /// 4: lists nest over 32 deep.
@@ -32,11 +32,25 @@ impl Refusal {
         self as u32
     }
 
+    /// What is wrong, in a sentence without capital and full stop.
+    pub const fn sentence(self) -> &'static str {
+        match self {
+            Refusal::Form => "the form is not 1, 2 or 3",
+            Refusal::SourceSize => "the source has over 32,768 octets",
+            Refusal::Syntax => "the source is not in the form's language",
+            Refusal::Depth => "lists nest over 32 deep",
+            Refusal::Nodes => "over 4,096 nodes, or more than records are lent",
+            Refusal::Size => "over 16,384 canonical octets, or a result over the lent room",
+            Refusal::NotOwn => "not one tree's canonical form with its own table",
+            Refusal::NoNode => "there is no node of that number",
+        }
+    }
+
     pub(crate) fn check<T>(number: u32, answer: T) -> Result<T, Refusal> {
         Err(match number {
             0 => return Ok(answer),
-            1 => Refusal::NoForm,
-            2 => Refusal::Source,
+            1 => Refusal::Form,
+            2 => Refusal::SourceSize,
             3 => Refusal::Syntax,
             4 => Refusal::Depth,
             5 => Refusal::Nodes,
@@ -50,17 +64,7 @@ impl Refusal {
 
 impl fmt::Display for Refusal {
     fn fmt(&self, f: &mut fmt::Formatter<'_>) -> fmt::Result {
-        let why = match self {
-            Refusal::NoForm => "the form is not 1, 2 or 3",
-            Refusal::Source => "the source has over 32,768 octets",
-            Refusal::Syntax => "the source is not in the form's language",
-            Refusal::Depth => "lists nest over 32 deep",
-            Refusal::Nodes => "over 4,096 nodes, or more than records are lent",
-            Refusal::Size => "over 16,384 canonical octets, or a result over the lent room",
-            Refusal::NotOwn => "not one tree's canonical form with its own table",
-            Refusal::NoNode => "there is no node of that number",
-        };
-        write!(f, "refused {}: {why}", self.number())
+        write!(f, "refused {}: {}", self.number(), self.sentence())
     }
 }
 

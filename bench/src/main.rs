@@ -1,0 +1,42 @@
+//! Times the library's entries and prints tables: nanoseconds an octet, the best
+//! and the median of many rounds.
+//!
+//! `bench READER TEXT TIMES` only reads, for a profiler: READER is `library` or
+//! `plain`, TEXT a name of the first table.
+
+mod entries;
+mod readers;
+
+use std::env;
+use std::process::ExitCode;
+
+use bench::clock::ROUNDS;
+use bench::gcrypt::Gcrypt;
+
+fn main() -> ExitCode {
+    let arguments: Vec<String> = env::args().skip(1).collect();
+    let done = match &arguments[..] {
+        [] => {
+            tables();
+            true
+        }
+        [reader, text, times] => readers::repeat(reader, text, times).is_some(),
+        _ => false,
+    };
+    if !done {
+        eprintln!("usage: bench [library|plain TEXT TIMES]");
+    }
+    ExitCode::from(if done { 0 } else { 2 })
+}
+
+fn tables() {
+    let gcrypt = Gcrypt::find();
+    println!("Nanoseconds an octet, best / median of {ROUNDS} rounds. Lent buffers are as the");
+    println!("call before left them, except where it says that they are cleared first.");
+    match &gcrypt {
+        Some(found) => println!("libgcrypt is {}.", found.version),
+        None => println!("libgcrypt is not installed."),
+    }
+    readers::table(gcrypt.as_ref());
+    entries::table();
+}

@@ -1,0 +1,43 @@
+"""S-expressions (RFC 9804) read, written, replaced and compared by a library
+whose every answer is proved.
+
+A text comes in one of three forms and becomes a `Sheet`: the canonical octets
+of a tree, with a record for each of its nodes.
+
+    >>> from etglavino import Form, read
+    >>> sheet = read(Form.ADVANCED, b'(abc [x]"")')
+    >>> sheet.canonical
+    b'(3:abc[1:x]0:)'
+    >>> sheet.hint(2), sheet.data(1)
+    (b'x', b'abc')
+    >>> sheet.replace(Form.ADVANCED, b'"hi"', 1).write(Form.ADVANCED)
+    b'(hi [x]"")'
+
+Whatever is bad raises `Refusal`, which has a number and a sentence.
+
+The library is found in this repository's target folder and built by `rt` where
+it is missing; or it is in the folder that the environment variable
+ETGLAVINO_LIB names. A C compiler makes a shared object of it, once.
+"""
+
+from ._entries import MAX_CANONICAL, MAX_DEPTH, MAX_NODES, MAX_SOURCE
+from ._entries import Form, Octets, Refusal
+from ._library import LibraryMissing
+from ._sheet import Node, Sheet, read, replace, same, write
+
+__all__ = [
+    "MAX_CANONICAL",
+    "MAX_DEPTH",
+    "MAX_NODES",
+    "MAX_SOURCE",
+    "Form",
+    "LibraryMissing",
+    "Node",
+    "Octets",
+    "Refusal",
+    "Sheet",
+    "read",
+    "replace",
+    "same",
+    "write",
+]

@@ -1,0 +1,177 @@
+"""The library's functions over Python's values: octets and a table of numbers
+come in, octets and a table go out, a refusal is raised."""
+
+from __future__ import annotations
+
+import ctypes
+from collections.abc import Sequence
+from enum import IntEnum
+from typing import Any, Union
+
+from ._library import load
+
+MAX_SOURCE = 32_768
+"""Most octets of a source."""
+MAX_CANONICAL = 16_384
+"""Most octets of a canonical form."""
+MAX_NODES = 4_096
+"""Most nodes of a tree."""
+MAX_DEPTH = 32
+"""How deep lists may nest; an outermost list is 1."""
+RECORD = 8
+"""Numbers to a node."""
+
+Octets = Union[bytes, bytearray, memoryview]
+"""What is taken where octets are asked for."""
+
+Table = ctypes.Array[ctypes.c_uint32]
+"""Eight numbers to a node, as the library is lent them."""
+
+
+class Form(IntEnum):
+    """How a text is spelled."""
+
+    CANONICAL = 1
+    """Lengths and octets, one way for each tree."""
+    BASIC = 2
+    """Canonical, or base-64 of it in braces."""
+    ADVANCED = 3
+    """What people write."""
+
+
+class Refusal(Exception):
+    """Something was refused. `number` is the one that every interface of the
+    library gives it, 1 to 8; `sentence` says what is wrong."""
+
+    SENTENCES = {
+        1: "the form is not 1, 2 or 3",
+        2: "the source has over 32,768 octets",
+        3: "the source is not in the form's language",
+        4: "lists nest over 32 deep",
+        5: "over 4,096 nodes",
+        6: "over 16,384 canonical octets",
+        7: "not one tree's canonical form with its own table",
+        8: "there is no node of that number",
+    }
+    """Sentences by number."""
+
+    def __init__(self, number: int) -> None:
+        super().__init__(number)
+        self.number = number
+        self.sentence = self.SENTENCES[number]
+
+    def __str__(self) -> str:
+        return f"refused {self.number}: {self.sentence}"
+
+
+def octets_of(value: Octets) -> bytes:
+    """A value's octets. A string or a number has none, and is a TypeError."""
+    return value if isinstance(value, bytes) else memoryview(value).tobytes()
+
+
+def table_of(numbers: Sequence[int]) -> Table:
+    """A table that the library can be lent."""
+    if not all(0 <= number < 2**32 for number in numbers):
+        raise ValueError("a number of a record is not in 0 to 2**32 - 1")
+    return (ctypes.c_uint32 * len(numbers))(*numbers)
+
+
+def read(form: int, source: bytes) -> tuple[bytes, Table]:
+    """Canonical octets of a text and their table."""
+    canonical, table = _room(3 * len(source))
+    length, nodes = ctypes.c_size_t(), ctypes.c_size_t()
+    number = load().etg_read(
+        _form(form), source, len(source), canonical, len(canonical),
+        table, len(table), length, nodes,
+    )  # fmt: skip
+    _check(number)
+    return _taken(canonical, length, table, nodes)
+
+
+def write(form: int, canonical: bytes) -> bytes:
+    """A sheet's text in a form."""
+    # Room enough in each: the two more are for braces around the smallest.
+    out = ctypes.create_string_buffer(2 * len(canonical) + 2)
+    written = ctypes.c_size_t()
+    number = load().etg_write(
+        _form(form), canonical, len(canonical), len(canonical), out, len(out), written
+    )
+    _check(number)
+    return out.raw[: written.value]
+
+
+def replace(
+    form: int, text: bytes, canonical: bytes, table: Table, node: int
+) -> tuple[bytes, Table]:
+    """Canonical octets and table with one node replaced by a text's tree."""
+    octets, numbers = _room(len(canonical) + 3 * len(text), len(canonical), len(table))
+    ctypes.memmove(octets, canonical, len(canonical))
+    ctypes.memmove(numbers, table, ctypes.sizeof(table))
+    length, nodes = ctypes.c_size_t(), ctypes.c_size_t()
+    number = load().etg_replace(
+        _form(form), text, len(text), octets, len(octets), numbers, len(numbers),
+        len(canonical), len(table) // RECORD, _count(node), length, nodes,
+    )  # fmt: skip
+    _check(number)
+    return _taken(octets, length, numbers, nodes)
+
+
+def same(a: bytes, b: bytes, default_hint: bytes) -> bool:
+    """Whether two sheets are the same, by shape, data and hints."""
+    answer = ctypes.c_uint32()
+    number = load().etg_same(
+        a, len(a), len(a), b, len(b), len(b), default_hint, len(default_hint), answer
+    )
+    _check(number)
+    return answer.value == 1
+
+
+def hint(canonical: bytes, table: Table, node: int) -> bytes | None:
+    """A node's hint, if it is a string with a hint."""
+    return _part(load().etg_hint, canonical, table, node)
+
+
+def data(canonical: bytes, table: Table, node: int) -> bytes | None:
+    """A node's data, if there is such a node."""
+    return _part(load().etg_data, canonical, table, node)
+
+
+def _part(look: Any, canonical: bytes, table: Table, node: int) -> bytes | None:
+    start, end = ctypes.c_size_t(), ctypes.c_size_t()
+    found = look(
+        canonical, len(canonical), len(canonical), table, len(table),
+        len(table) // RECORD, _count(node), start, end,
+    )  # fmt: skip
+    return canonical[start.value : end.value] if found else None
+
+
+def _room(octets: int, least: int = 0, numbers: int = 0) -> tuple[Any, Any]:
+    """Room for any tree that fits and takes at most so many octets, two of which
+    make a node at most, and for what is there already."""
+    fitting = min(octets, MAX_CANONICAL)
+    records = min(fitting // 2, MAX_NODES)
+    return (
+        ctypes.create_string_buffer(max(fitting, least)),
+        (ctypes.c_uint32 * max(RECORD * records, numbers))(),
+    )
+
+
+def _taken(canonical: Any, length: Any, table: Any, nodes: Any) -> tuple[bytes, Table]:
+    records = (ctypes.c_uint32 * (RECORD * nodes.value)).from_buffer_copy(table)
+    return canonical.raw[: length.value], records
+
+
+def _check(number: int) -> None:
+    if number != 0:
+        raise Refusal(number)
+
+
+def _form(form: int) -> int:
+    """What the C type can't hold is no form either."""
+    return form if form in (1, 2, 3) else 0
+
+
+def _count(node: int) -> int:
+    """What the C type can't hold is the number of no node."""
+    most: int = ctypes.c_size_t(-1).value
+    return node if 0 <= node <= most else most

@@ -1,0 +1,90 @@
+"""Finds the library's archive, or builds it with `rt`, and loads it as a shared
+object, which a C compiler makes of it."""
+
+from __future__ import annotations
+
+import ctypes
+import functools
+import hashlib
+import os
+import subprocess
+import tempfile
+from pathlib import Path
+
+ARCHIVE = "libetglavino_c.a"
+ROOT = Path(__file__).resolve().parents[2]
+
+
+class LibraryMissing(Exception):
+    """The library cannot be found, built or loaded; the text says why."""
+
+
+@functools.cache
+def load() -> ctypes.CDLL:
+    """The library, with its functions' types declared."""
+    shared = _shared_object(_archive())
+    try:
+        library = ctypes.CDLL(str(shared))
+    except OSError as error:
+        raise LibraryMissing(f"cannot load {shared}: {error}") from error
+    _declare(library)
+    return library
+
+
+def _archive() -> Path:
+    named = os.environ.get("ETGLAVINO_LIB")
+    archive = Path(named or ROOT / "target" / "staticlib") / ARCHIVE
+    if not named and not archive.is_file():
+        _run(["rt", "staticlib", "etglavino_c"], "install the Rattle kit")
+    if not archive.is_file():
+        raise LibraryMissing(f"there is no {archive}")
+    return archive
+
+
+def _shared_object(archive: Path) -> Path:
+    """The archive as a shared object. A digest of the archive is in its name,
+    so that another archive never meets an old one."""
+    digest = hashlib.sha256(archive.read_bytes()).hexdigest()[:16]
+    folder = ROOT / "target" / "python"
+    shared = folder / f"libetglavino_c-{digest}.so"
+    if not shared.is_file():
+        folder.mkdir(parents=True, exist_ok=True)
+        # Made aside and then renamed: another process may be at it as well.
+        with tempfile.TemporaryDirectory(dir=folder) as aside:
+            made = Path(aside) / shared.name
+            whole = ["-Wl,--whole-archive", str(archive), "-Wl,--no-whole-archive"]
+            compiler = os.environ.get("CC", "cc")
+            _run([compiler, "-shared", "-o", str(made), *whole], "install a C compiler")
+            made.replace(shared)
+    return shared
+
+
+def _run(command: list[str], advice: str) -> None:
+    try:
+        done = subprocess.run(command, cwd=ROOT, capture_output=True, text=True, check=False)
+    except OSError as error:
+        otherwise = f"or set ETGLAVINO_LIB to the folder that has {ARCHIVE}"
+        also = otherwise if command[0] == "rt" else "or set CC to one"
+        raise LibraryMissing(f"cannot run `{command[0]}`: {error}; {advice}, {also}") from error
+    if done.returncode != 0:
+        said = (done.stdout + done.stderr).strip()
+        raise LibraryMissing(f"`{' '.join(command)}` failed: {said}")
+
+
+def _declare(library: ctypes.CDLL) -> None:
+    """The types of include/etglavino.h."""
+    number, count, octets = ctypes.c_uint32, ctypes.c_size_t, ctypes.c_char_p
+    numbers, out = ctypes.POINTER(ctypes.c_uint32), ctypes.POINTER(ctypes.c_size_t)
+    sheet, table = [octets, count], [numbers, count]
+    functions = {
+        "etg_read": [number, *sheet, *sheet, *table, out, out],
+        "etg_write": [number, *sheet, count, *sheet, out],
+        "etg_replace": [number, *sheet, *sheet, *table, count, count, count, out, out],
+        "etg_same": [*sheet, count, *sheet, count, *sheet, numbers],
+        "etg_hint": [*sheet, count, *table, count, count, out, out],
+        "etg_data": [*sheet, count, *table, count, count, out, out],
+    }
+    for name, arguments in functions.items():
+        function = getattr(library, name)
+        function.argtypes = arguments
+        function.restype = number

@@ -1,0 +1,29 @@
+//! The three forms of a text.
+
+use crate::Refusal;
+
+/// How a text is spelled.
+#[derive(Clone, Copy, Debug, PartialEq, Eq, Hash)]
+#[repr(u32)]
+pub enum Form {
+    /// Lengths and octets, one way for each tree.
+    Canonical = 1,
+    /// Canonical, or base-64 of it in braces.
+    Basic = 2,
+    /// What people write.
+    Advanced = 3,
+}
+
+impl TryFrom<u32> for Form {
+    type Error = Refusal;
+
+    /// The form of a number that is 1, 2 or 3.
+    fn try_from(number: u32) -> Result<Form, Refusal> {
+        match number {
+            1 => Ok(Form::Canonical),
+            2 => Ok(Form::Basic),
+            3 => Ok(Form::Advanced),
+            _ => Err(Refusal::Form),
+        }
+    }
+}
