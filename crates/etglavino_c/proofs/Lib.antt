@@ -1,1 +1,4 @@
 pub mod Handed
+pub mod Addresses
+pub mod PlaceHanding
+pub mod ReadingHanding

@@ -3,10 +3,12 @@
 ghost use mathlib.Core.Path.{_≡_};
 ghost use Rattle.model.specs.Answers.{reading, replacing, writing, comparing, hintPart, dataPart};
 ghost use Rattle.etglavino_c.specs.Pointers.{outcomeOf, HandsReading, outputOf, compared, comparedOf, shown, shownOf, HandsPlace};
+ghost use Rattle.records.specs.Numbers.{numbers};
 use answers::Comparing;
 use answers::Place;
 use answers::Reading;
 use answers::Writing;
+use records::Record;
 
 // An answer of reading or replacing.
 fn hand_reading(answer: Reading, length: &mut usize, nodes: &mut usize) -> u32
@@ -161,5 +163,71 @@ pub extern "C" fn etg_data(
     ensures { λ r. ⌜ shown r (now (start .exit)) (now (end .exit)) ≡ shownOf (dataPart (now (canonical .entry)) length (now (table .entry)) nodes node) ⌝ }
 {
     let place = etglavino::data_place(canonical, length, table, nodes, node);
+    hand_place(place, start, end)
+}
+
+// The same with the table lent as records: `etg_read`, `etg_replace`, `etg_hint` and `etg_data` over `Record`.
+#[no_mangle]
+pub extern "C" fn etg_read_records(
+    form: u32,
+    source: &[u8],
+    canonical: &mut [u8],
+    records: &mut [Record],
+    length: &mut usize,
+    nodes: &mut usize,
+) -> u32
+    ensures { λ r. ⌜ outcomeOf r (now (length .exit)) (now (nodes .exit)) (now (canonical .exit)) (numbers (now (records .exit))) ≡ reading form (now (source .entry)) (now (canonical .entry)) (numbers (now (records .entry))) ⌝ }
+{
+    let answer = records::read(form, source, canonical, records);
+    hand_reading(answer, length, nodes)
+}
+
+#[no_mangle]
+pub extern "C" fn etg_replace_records(
+    form: u32,
+    text: &[u8],
+    canonical: &mut [u8],
+    records: &mut [Record],
+    length: usize,
+    nodes: usize,
+    node: usize,
+    new_length: &mut usize,
+    new_nodes: &mut usize,
+) -> u32
+    ensures { λ r. ⌜ outcomeOf r (now («new_length» .exit)) (now («new_nodes» .exit)) (now (canonical .exit)) (numbers (now (records .exit))) ≡ replacing form (now (text .entry)) (now (canonical .entry)) (numbers (now (records .entry))) length nodes node ⌝ }
+{
+    let answer = records::replace(form, text, canonical, records, length, nodes, node);
+    hand_reading(answer, new_length, new_nodes)
+}
+
+#[no_mangle]
+pub extern "C" fn etg_hint_records(
+    canonical: &[u8],
+    length: usize,
+    records: &[Record],
+    nodes: usize,
+    node: usize,
+    start: &mut usize,
+    end: &mut usize,
+) -> u32
+    ensures { λ r. ⌜ shown r (now (start .exit)) (now (end .exit)) ≡ shownOf (hintPart (now (canonical .entry)) length (numbers (now (records .entry))) nodes node) ⌝ }
+{
+    let place = records::hint_place(canonical, length, records, nodes, node);
+    hand_place(place, start, end)
+}
+
+#[no_mangle]
+pub extern "C" fn etg_data_records(
+    canonical: &[u8],
+    length: usize,
+    records: &[Record],
+    nodes: usize,
+    node: usize,
+    start: &mut usize,
+    end: &mut usize,
+) -> u32
+    ensures { λ r. ⌜ shown r (now (start .exit)) (now (end .exit)) ≡ shownOf (dataPart (now (canonical .entry)) length (numbers (now (records .entry))) nodes node) ⌝ }
+{
+    let place = records::data_place(canonical, length, records, nodes, node);
     hand_place(place, start, end)
 }
