@@ -45,38 +45,32 @@ pub fn table(gcrypt: Option<&Gcrypt>) {
 fn measure(text: &Text, gcrypt: Option<&Gcrypt>) {
     let source = &text.source[..];
     let mut copied = vec![0; MAX_SOURCE];
-    let (mut one, mut two, mut three, mut four) =
-        (Lent::new(), Lent::new(), Lent::new(), Lent::new());
+    let [mut one, mut two, mut three, mut four] = [(); 4].map(|()| Lent::new());
     let mut reader = Reader::new();
     let mut out = vec![0; 2 * MAX_SOURCE];
-    let told = gcrypt.map(|gcrypt| told(gcrypt, text));
+    let told = told(gcrypt, text);
     let figures = race(&mut [
         &mut || copied[..source.len()].copy_from_slice(black_box(source)),
         &mut || library(text, &mut one),
         &mut || plain_rust(text, &mut reader, &mut two),
         &mut || {
-            four.canonical.fill(0);
-            four.table.fill(0);
-            library(text, &mut four);
+            three.canonical.fill(0);
+            three.table.fill(0);
+            library(text, &mut three);
         },
         &mut || {
-            let lent = (&mut three.canonical, &mut three.table);
-            let answer = reference::entries::read(text.form, black_box(source), lent.0, lent.1);
+            let (canonical, table) = (&mut four.canonical, &mut four.table);
+            let answer = reference::entries::read(text.form, black_box(source), canonical, table);
             black_box(answer);
         },
         &mut || {
-            if let (Some(gcrypt), Some(None)) = (gcrypt, told) {
+            if let (Some(gcrypt), None) = (gcrypt, told) {
                 black_box(gcrypt.canonical(black_box(source), &mut out));
             }
         },
     ]);
     let [copy, library, plain, cleared, reference, gcrypt] = figures[..] else {
         unreachable!("one figure for each call");
-    };
-    let last = match told {
-        None => Cell::Word("not there"),
-        Some(Some(word)) => Cell::Word(word),
-        Some(None) => Cell::Time(gcrypt),
     };
     let cells = [
         Cell::Time(copy),
@@ -85,7 +79,7 @@ fn measure(text: &Text, gcrypt: Option<&Gcrypt>) {
         Cell::Ratio(library, plain),
         Cell::Time(cleared),
         Cell::Time(reference),
-        last,
+        told.map_or(Cell::Time(gcrypt), Cell::Word),
     ];
     row(text.name, source.len(), &cells);
 }
@@ -122,15 +116,16 @@ fn library(text: &Text, lent: &mut Lent) {
 }
 
 /// Why libgcrypt is not timed on a text, if it isn't.
-fn told(gcrypt: &Gcrypt, text: &Text) -> Option<&'static str> {
+fn told(gcrypt: Option<&Gcrypt>, text: &Text) -> Option<&'static str> {
     let mut lent = Lent::new();
     let source = &text.source;
     let answer = etglavino::read_form(text.form, source, &mut lent.canonical, &mut lent.table);
     let length = answer.expect("a text that fits").length;
     let mut out = vec![0; 2 * MAX_SOURCE];
-    match gcrypt.canonical(source, &mut out) {
-        None => Some("refuses it"),
-        Some(count) if out[..count] != lent.canonical[..length] => Some("answers otherwise"),
-        Some(_) => None,
+    match gcrypt.map(|gcrypt| gcrypt.canonical(source, &mut out)) {
+        None => Some("not there"),
+        Some(None) => Some("refuses it"),
+        Some(Some(count)) if out[..count] != lent.canonical[..length] => Some("answers otherwise"),
+        Some(Some(_)) => None,
     }
 }

@@ -6,7 +6,7 @@ from __future__ import annotations
 import ctypes
 from collections.abc import Sequence
 from enum import IntEnum
-from typing import Any, Union
+from typing import Any, ClassVar, Union
 
 from ._library import load
 
@@ -43,7 +43,7 @@ class Refusal(Exception):
     """Something was refused. `number` is the one that every interface of the
     library gives it, 1 to 8; `sentence` says what is wrong."""
 
-    SENTENCES = {
+    SENTENCES: ClassVar[dict[int, str]] = {
         1: "the form is not 1, 2 or 3",
         2: "the source has over 32,768 octets",
         3: "the source is not in the form's language",

@@ -70,6 +70,11 @@ class Replace(Case):
         self.assertEqual(len(sheet.nodes), 4_096)
         self.assertEqual(sheet.replace(1, b"3:abc", 1).nodes, LIST_NODES)
         self.assertEqual(read(1, LIST).replace(2, b"{KCk=}", 0).canonical, b"()")
+        # What a text grows by, in octets and in nodes.
+        sheet = read(1, b"(0:)").replace(3, b"(a b c)", 1)
+        self.assertEqual(sheet.canonical, b"((1:a1:b1:c))")
+        sheet = read(1, empties(3_000)).replace(1, b"(())", 1)
+        self.assertEqual(len(sheet.nodes), 3_002)
         sheet = read(1, LIST).replace(1, verbatim(16_369), 1)
         self.assertEqual(len(sheet.canonical), 16_384)
 

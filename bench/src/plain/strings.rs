@@ -28,15 +28,9 @@ pub fn simple(
         let end = (at + 1).checked_add(length?)?;
         return Some((end, put(source.get(at + 1..end)?, out)));
     }
-    if source[at] == b'"' {
-        // Most quoted strings have no escapes and can be taken as they stand.
-        let rest = &source[at + 1..];
-        let plain = rest.iter().position(|octet| !PLAIN[*octet as usize])?;
-        if rest[plain] == b'"' {
-            let octets = &rest[..plain];
-            let fits = length.is_none_or(|length| length == plain);
-            return fits.then(|| (at + plain + 2, put(octets, out)));
-        }
+    if let Some(octets) = unescaped(source, at) {
+        let fits = length.is_none_or(|length| length == octets.len());
+        return fits.then(|| (at + octets.len() + 2, put(octets, out)));
     }
     scratch.clear();
     let next = match source[at] {
@@ -47,6 +41,14 @@ pub fn simple(
     };
     let fits = length.is_none_or(|length| length == scratch.len());
     fits.then(|| (next, put(scratch, out)))
+}
+
+/// The octets of a quoted string without escapes, as most are: they can be taken
+/// as they stand.
+fn unescaped(source: &[u8], at: usize) -> Option<&[u8]> {
+    let rest = source[at..].strip_prefix(b"\"")?;
+    let end = rest.iter().position(|octet| !PLAIN[*octet as usize])?;
+    (rest[end] == b'"').then(|| &rest[..end])
 }
 
 /// Appends a string in canonical form; where its octets begin.
