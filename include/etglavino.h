@@ -2,8 +2,8 @@
  *
  * Build the library with `rt staticlib etglavino_c`; link
  * target/staticlib/libetglavino_c.a. It needs nothing but the C library's
- * memcpy and memset, allocates nothing, keeps nothing between calls and never fails
- * otherwise than by the number that it returns.
+ * memset and memcpy, allocates nothing, keeps nothing between calls and never
+ * fails otherwise than by the number that it returns.
  *
  * What a caller lends
  *   Pointers are never null: where a count is 0, any valid pointer will do.
@@ -20,11 +20,13 @@
  * begin: kind (0 string, 1 string with hint, 2 list), start, end (one past),
  * nodes in it counting itself, hint start and end, data start and end, all
  * offsets into the sheet. Without a hint both hint numbers are 0. A list's
- * data is what stands between its parentheses.
+ * data is what stands between its parentheses. A host keeps the table either
+ * flat, as numbers, or as records; each function that takes a table comes in
+ * both ways and gives the same answers.
  *
- * Refusals. Every function but etg_hint and etg_data returns one of these
- * numbers. In a refusal the values given out are 0, and every lent buffer
- * holds what it held.
+ * Refusals. Every function but those that find a hint or data returns one of
+ * these numbers. In a refusal the values given out are 0, and every lent
+ * buffer holds what it held.
  */
 #ifndef ETGLAVINO_H
 #define ETGLAVINO_H
@@ -44,8 +46,8 @@ enum {
 
 enum {
     ETG_ACCEPTED = 0,
-    ETG_NO_FORM = 1,    /* the form is not 1, 2 or 3 */
-    ETG_SOURCE = 2,     /* the source has over 32,768 octets */
+    ETG_FORM = 1,       /* the form is not 1, 2 or 3 */
+    ETG_SOURCE_SIZE = 2, /* the source has over 32,768 octets */
     ETG_SYNTAX = 3,     /* the source is not in the form's language */
     ETG_DEPTH = 4,      /* lists nest over 32 deep */
     ETG_NODES = 5,      /* over 4,096 nodes, or more than records are lent */
@@ -62,6 +64,11 @@ enum {
 #define ETG_MOST_CANONICAL 16384
 #define ETG_MOST_NODES 4096
 #define ETG_RECORD 8 /* numbers to a record */
+
+/* A node's record: the eight numbers of a flat table, in the same order. */
+struct etg_record {
+    uint32_t kind, start, end, nodes, hint_start, hint_end, data_start, data_end;
+};
 
 /* Reads `source` in `form` into canonical octets and their table.
  *
@@ -122,6 +129,40 @@ uint32_t etg_hint(const uint8_t *canonical, size_t canonical_room, size_t length
 uint32_t etg_data(const uint8_t *canonical, size_t canonical_room, size_t length,
                   const uint32_t *table, size_t table_room, size_t nodes, size_t node,
                   size_t *start, size_t *end);
+
+/* etg_read with the table lent as records.
+ *
+ * Refusals: as etg_read. `record_room` counts records. A refusal changes no
+ * record; on acceptance records past the count stay as they were. */
+uint32_t etg_read_records(uint32_t form,
+                          const uint8_t *source, size_t source_len,
+                          uint8_t *canonical, size_t canonical_room,
+                          struct etg_record *records, size_t record_room,
+                          size_t *length, size_t *nodes);
+
+/* etg_replace with the table lent as records.
+ *
+ * Refusals: as etg_replace. `record_room` counts records. A refusal changes no
+ * record. On acceptance records between the new count and a larger old one
+ * become all zeros; records past both stay as they were. */
+uint32_t etg_replace_records(uint32_t form,
+                             const uint8_t *text, size_t text_len,
+                             uint8_t *canonical, size_t canonical_room,
+                             struct etg_record *records, size_t record_room,
+                             size_t length, size_t nodes, size_t node,
+                             size_t *new_length, size_t *new_nodes);
+
+/* etg_hint with the table lent as records; `record_room` counts records. */
+uint32_t etg_hint_records(const uint8_t *canonical, size_t canonical_room, size_t length,
+                          const struct etg_record *records, size_t record_room,
+                          size_t nodes, size_t node,
+                          size_t *start, size_t *end);
+
+/* etg_data with the table lent as records; `record_room` counts records. */
+uint32_t etg_data_records(const uint8_t *canonical, size_t canonical_room, size_t length,
+                          const struct etg_record *records, size_t record_room,
+                          size_t nodes, size_t node,
+                          size_t *start, size_t *end);
 
 #ifdef __cplusplus
 }

@@ -1,13 +1,78 @@
 //! A case answered by the library. Every buffer is a heap block of just its
 //! size, so that a memory checker sees a step outside.
 
-use etglavino::{Extent, Refusal};
+use etglavino::{Extent, Record, Refusal, RECORD};
 use reference::corpus::case::{Canonical, Case, Lent, Pair};
 use reference::corpus::run::{Buffer, Outcome};
 
 /// What the library answers, by each of its ways to take the case.
 pub fn answers(case: &Case) -> Vec<(&'static str, Outcome)> {
-    vec![("flat", flat(case))]
+    let mut answers = vec![("flat", flat(case))];
+    answers.extend(records(case).map(|answer| ("records", answer)));
+    answers
+}
+
+/// With the table lent as records, where there is a table. Numbers too few for
+/// a record stay behind.
+fn records(case: &Case) -> Option<Outcome> {
+    Some(match case {
+        Case::Read {
+            form,
+            source,
+            canonical,
+            table,
+        } => {
+            let (mut octets, mut numbers) = (exact(canonical), exact(table));
+            let mut records = as_records(&numbers);
+            let answer =
+                etglavino::read_records_form(*form, &boxed(source), &mut octets, &mut records);
+            spell(&records, &mut numbers);
+            reading(answer, octets, numbers)
+        }
+        Case::Replace {
+            form,
+            text,
+            pair,
+            node,
+        } => {
+            let (mut octets, mut numbers) = (exact(&pair.canonical.lent), exact(&pair.table));
+            let mut records = as_records(&numbers);
+            let answer = etglavino::replace_records_form(
+                *form,
+                &boxed(text),
+                &mut octets,
+                &mut records,
+                extent(pair),
+                count(*node),
+            );
+            spell(&records, &mut numbers);
+            reading(answer, octets, numbers)
+        }
+        Case::Hint { pair, node, .. } => shown(etglavino::hint_records_part(
+            &exact(&pair.canonical.lent),
+            &as_records(&exact(&pair.table)),
+            extent(pair),
+            count(*node),
+        )),
+        Case::Data { pair, node } => shown(etglavino::data_records_part(
+            &exact(&pair.canonical.lent),
+            &as_records(&exact(&pair.table)),
+            extent(pair),
+            count(*node),
+        )),
+        Case::Write { .. } | Case::Same { .. } => return None,
+    })
+}
+
+fn as_records(numbers: &[u32]) -> Box<[Record]> {
+    let spelled = |eight| Record::from(<[u32; RECORD]>::try_from(eight).expect("eight numbers"));
+    numbers.chunks_exact(RECORD).map(spelled).collect()
+}
+
+fn spell(records: &[Record], numbers: &mut [u32]) {
+    for (eight, record) in numbers.chunks_exact_mut(RECORD).zip(records) {
+        eight.copy_from_slice(&<[u32; RECORD]>::from(*record));
+    }
 }
 
 fn flat(case: &Case) -> Outcome {

@@ -1,5 +1,36 @@
 //! The C interface, as `include/etglavino.h` declares it.
 
+use crate::Record;
+
+/// What `etg_read` is, over a table of `T`.
+pub type Read<T> = unsafe extern "C" fn(
+    form: u32,
+    source: *const u8,
+    source_len: usize,
+    canonical: *mut u8,
+    canonical_room: usize,
+    table: *mut T,
+    table_room: usize,
+    length: *mut usize,
+    nodes: *mut usize,
+) -> u32;
+
+/// What `etg_replace` is, over a table of `T`.
+pub type Replace<T> = unsafe extern "C" fn(
+    form: u32,
+    text: *const u8,
+    text_len: usize,
+    canonical: *mut u8,
+    canonical_room: usize,
+    table: *mut T,
+    table_room: usize,
+    length: usize,
+    nodes: usize,
+    node: usize,
+    new_length: *mut usize,
+    new_nodes: *mut usize,
+) -> u32;
+
 /// What `etg_hint` and `etg_data` are, over a table of `T`.
 pub type Look<T> = unsafe extern "C" fn(
     canonical: *const u8,
@@ -81,6 +112,57 @@ extern "C" {
         length: usize,
         table: *const u32,
         table_room: usize,
+        nodes: usize,
+        node: usize,
+        start: *mut usize,
+        end: *mut usize,
+    ) -> u32;
+
+    pub fn etg_read_records(
+        form: u32,
+        source: *const u8,
+        source_len: usize,
+        canonical: *mut u8,
+        canonical_room: usize,
+        records: *mut Record,
+        record_room: usize,
+        length: *mut usize,
+        nodes: *mut usize,
+    ) -> u32;
+
+    pub fn etg_replace_records(
+        form: u32,
+        text: *const u8,
+        text_len: usize,
+        canonical: *mut u8,
+        canonical_room: usize,
+        records: *mut Record,
+        record_room: usize,
+        length: usize,
+        nodes: usize,
+        node: usize,
+        new_length: *mut usize,
+        new_nodes: *mut usize,
+    ) -> u32;
+
+    pub fn etg_hint_records(
+        canonical: *const u8,
+        canonical_room: usize,
+        length: usize,
+        records: *const Record,
+        record_room: usize,
+        nodes: usize,
+        node: usize,
+        start: *mut usize,
+        end: *mut usize,
+    ) -> u32;
+
+    pub fn etg_data_records(
+        canonical: *const u8,
+        canonical_room: usize,
+        length: usize,
+        records: *const Record,
+        record_room: usize,
         nodes: usize,
         node: usize,
         start: *mut usize,

@@ -3,8 +3,9 @@
 //!
 //! Texts come in and go out in three [forms](Form). A tree's canonical octets
 //! in lent space, with their length, are a *sheet*; its node table has eight
-//! numbers to a node. Everything goes into slices that the caller lends;
-//! nothing is allocated. After an `Err` every lent slice holds what it held.
+//! numbers to a node, lent flat or as [`Record`]s. Everything goes into slices
+//! that the caller lends; nothing is allocated. After an `Err` every lent slice
+//! holds what it held.
 //!
 //! ```
 //! use etglavino::Form;
@@ -22,9 +23,15 @@
 
 mod ffi;
 mod form;
+mod records;
 mod refusal;
+mod table;
 
 pub use form::Form;
+pub use records::{
+    data_records, data_records_part, hint_records, hint_records_part, read_records,
+    read_records_form, replace_records, replace_records_form, Record,
+};
 pub use refusal::Refusal;
 
 /// Most octets of a source.
@@ -73,23 +80,7 @@ pub fn read_form(
     canonical: &mut [u8],
     table: &mut [u32],
 ) -> Result<Extent, Refusal> {
-    let mut extent = Extent::default();
-    // SAFETY: each pointer comes with its slice's own length; what is written
-    // to is borrowed mutably, so nothing overlaps.
-    let number = unsafe {
-        ffi::etg_read(
-            form,
-            source.as_ptr(),
-            source.len(),
-            canonical.as_mut_ptr(),
-            canonical.len(),
-            table.as_mut_ptr(),
-            table.len(),
-            &mut extent.length,
-            &mut extent.nodes,
-        )
-    };
-    Refusal::check(number, extent)
+    table::read(ffi::etg_read, form, source, canonical, table)
 }
 
 /// Writes the sheet in the first `length` octets; how many octets went out.
@@ -120,7 +111,7 @@ pub fn write_form(
     out: &mut [u8],
 ) -> Result<usize, Refusal> {
     let mut written = 0;
-    // SAFETY: as in `read_form`.
+    // SAFETY: as in `table::read`.
     let number = unsafe {
         ffi::etg_write(
             form,
@@ -168,25 +159,7 @@ pub fn replace_form(
     sheet: Extent,
     node: usize,
 ) -> Result<Extent, Refusal> {
-    let mut extent = Extent::default();
-    // SAFETY: as in `read_form`.
-    let number = unsafe {
-        ffi::etg_replace(
-            form,
-            text.as_ptr(),
-            text.len(),
-            canonical.as_mut_ptr(),
-            canonical.len(),
-            table.as_mut_ptr(),
-            table.len(),
-            sheet.length,
-            sheet.nodes,
-            node,
-            &mut extent.length,
-            &mut extent.nodes,
-        )
-    };
-    Refusal::check(number, extent)
+    table::replace(ffi::etg_replace, form, text, canonical, table, sheet, node)
 }
 
 /// Whether two sheets, each in the first octets of a slice, have the same
@@ -204,7 +177,7 @@ pub fn same(
     default_hint: &[u8],
 ) -> Result<bool, Refusal> {
     let mut same = 0;
-    // SAFETY: as in `read_form`.
+    // SAFETY: as in `table::read`.
     let number = unsafe {
         ffi::etg_same(
             a.as_ptr(),
@@ -243,7 +216,7 @@ pub fn hint_part(
     sheet: Extent,
     node: usize,
 ) -> Option<(usize, usize)> {
-    part(ffi::etg_hint, canonical, table, sheet, node)
+    table::part(ffi::etg_hint, canonical, table, sheet, node)
 }
 
 /// A node's data: a string's octets, or what stands between a list's
@@ -263,30 +236,5 @@ pub fn data_part(
     sheet: Extent,
     node: usize,
 ) -> Option<(usize, usize)> {
-    part(ffi::etg_data, canonical, table, sheet, node)
-}
-
-fn part(
-    look: ffi::Look<u32>,
-    canonical: &[u8],
-    table: &[u32],
-    sheet: Extent,
-    node: usize,
-) -> Option<(usize, usize)> {
-    let (mut start, mut end) = (0, 0);
-    // SAFETY: as in `read_form`.
-    let found = unsafe {
-        look(
-            canonical.as_ptr(),
-            canonical.len(),
-            sheet.length,
-            table.as_ptr(),
-            table.len(),
-            sheet.nodes,
-            node,
-            &mut start,
-            &mut end,
-        )
-    };
-    (found == 1).then_some((start, end))
+    table::part(ffi::etg_data, canonical, table, sheet, node)
 }
