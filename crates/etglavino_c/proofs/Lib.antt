@@ -1,4 +1,5 @@
 pub mod Handed
 pub mod Addresses
 pub mod PlaceHanding
+pub mod PlaceWalk
 pub mod ReadingHanding

@@ -1,7 +1,7 @@
 -- What the walks of `etg_hint_records` and `etg_data_records` share: what the place's function asks, what `hand_place` asks and leaves, and their end, from the place on.
 --     goes-place       the tokens, sheet and records: what `records::hint_place` asks, and `records::data_place`, whose signature is the same
 --     goes-hand        what `hand_place` asks.        Left, LastOf     what it leaves
---     ends             two addresses, the call of `hand_place`, and the return
+--     tail, ends       two addresses, the call of `hand_place`, and the return: the MIR, and its walk
 use mathlib.Core.Path.{refl}
 use Prim.Native.Nat.{ℕ, _<_, _^_}
 use mathlib.Core.List.{[], _∷_, List}
@@ -73,6 +73,10 @@ module _ {M : Type 1} (𝓤 : URA M) (H : Heap 𝓤) (A : Atoms 𝓤) (W : Given
       qed W ((‵ (flft κ₀ q₀) ⊛ ‵ (flft κ₁ q₁)) ∷ (‵ Can ⊛ ‵ Rec) ∷ []) ∵ split ! $ nothing ! $ move ! (2 ∷ 0 ∷ []) $ join ! $ move ! (1 ∷ 0 ∷ []) $ join ! $ move ! (1 ∷ []) $ split ! $
       nothing ! $ owned ! usize (Is usize) (uint-makes 𝓤 H A W w64) node _ (refl, node-fits) $ fjoin ! $ owned ! usize (Is usize) (uint-makes 𝓤 H A W w64) nodes _ (refl, nodes-fits) $ fjoin ! $ move ! (2 ∷ 0 ∷ []) $ fjoin ! $ owned ! usize (Is usize) (uint-makes 𝓤 H A W w64) len _ (refl, len-fits) $ fjoin ! $ move ! (1 ∷ 0 ∷ []) $ fjoin ! $ move ! (1 ∷ 0 ∷ []) $ join ! $ frame ! $ done !
 
+-- the MIR from the place on
+abbrev pub tail : Body
+tail = seq (address 9 6) (seq (address 10 7) (seq (call #hand (copy (place 8 []) ∷ copy (place 9 []) ∷ copy (place 10 []) ∷ []) (place 0 [])) return))
+
 -- the place p, whose machine value is u, is handed out
 module _ {M : Type 1} (𝓤 : URA M) (H : Heap 𝓤) (A : Atoms 𝓤) (W : Given 𝓤 H A) (mem : Memory → SProp 𝓤) (run : Routine → Fun 𝓤) (κ₂ κ₃ : Lft) (q₂ q₃ : Share) (p : Place) (u : Val) (start end : RefT ℕ) where
   abbrev to-hand : Handing 𝓤 H A mem run .Ghost
@@ -105,9 +109,6 @@ module _ {M : Type 1} (𝓤 : URA M) (H : Heap 𝓤) (A : Atoms 𝓤) (W : Given
     -- what is had of the parameters, the tokens, and the locals, the last first, each beside that it dies
     abbrev Mid : List (Item 𝓤)
     Mid = ‵ Start ∷ ‵ End ∷ ‵ (flft κ₀ q₀) ∷ ‵ (flft κ₁ q₁) ∷ ‵ (flft κ₂ q₂) ∷ ‵ (flft κ₃ q₃) ∷ ‵ (froom (toWord erased) l₁₀ 0) ∷ ‵ (fdies (toWord erased) l₁₀) ∷ ‵ (froom (toWord erased) l₉ 0) ∷ ‵ (fdies (toWord erased) l₉) ∷ ‵ (fat fullShare placeTy l₈ 0 u) ∷ ‵ (fdies placeTy l₈) ∷ ‵ (fat fullShare (toWord (named 3)) l₇ 0 (pointer end)) ∷ ‵ (fdies (toWord (named 3)) l₇) ∷ ‵ (fat fullShare (toWord (named 2)) l₆ 0 (pointer start)) ∷ ‵ (fdies (toWord (named 2)) l₆) ∷ ‵ (fat fullShare word l₅ 0 (vint w64 node)) ∷ ‵ (fdies word l₅) ∷ ‵ (fat fullShare word l₄ 0 (vint w64 nodes)) ∷ ‵ (fdies word l₄) ∷ ‵ (fat fullShare (recs (named 1) imm) l₃ 0 sr) ∷ ‵ (fdies (recs (named 1) imm) l₃) ∷ ‵ (fat fullShare word l₂ 0 (vint w64 len)) ∷ ‵ (fdies word l₂) ∷ ‵ (fat fullShare (bytes (named 0) imm) l₁ 0 sc) ∷ ‵ (fdies (bytes (named 0) imm) l₁) ∷ ‵ (froom (tyInt w32) l₀ 0) ∷ ‵ (fdies (tyInt w32) l₀) ∷ []
-
-    abbrev tail : Body
-    tail = seq (address 9 6) (seq (address 10 7) (seq (call #hand (copy (place 8 []) ∷ copy (place 9 []) ∷ copy (place 10 []) ∷ []) (place 0 [])) return))
 
     pub ends : Sq W Mid (runs (𝓣 .C) (𝓣 .Λ) En tail (atRet En Post))
     ends =
