@@ -1,21 +1,18 @@
--- Lists: equality by a test, and what two lists that are equal agree on.
-use Prim.Native.Nat.{ℕ}
+-- Lists: equality by a test, and fronts.
+use Prim.Native.Nat.{ℕ, _≤_}
 use mathlib.Core.Path.{_≡_, refl, sym, ap, ap₂, _∙_}
 use mathlib.Core.Bool.{Bool, true}
-use mathlib.Core.List.{List, [], _∷_, _++_}
-use lib.ListN.{length, take, drop}
-use lib.Seq.{take-at, drop-at}
+use mathlib.Core.List.{List, [], _∷_}
+use lib.ListN.{length, take}
+use lib.Seq.{length-take-le}
 use lib.Dec.{eqb}
 use borrow.Author.Tests.{eq-eqb, eqb-true}
 use Rattle.base.specs.Choice.{member, every, equal}
 use Rattle.base.proofs.Cases.{untrue, pick-cases, both-true, true-both, either-cases}
 
--- what two lists agree on up to a place, and after it
-pub append-inj : (a b k l : List ℕ) → length a ≡ length b → a ++ k ≡ b ++ l → (a ≡ b) × (k ≡ l)
-append-inj a b k l h e = (
-  sym (take-at a k (length a) refl) ∙ ap (take (length a)) e ∙ take-at b l (length a) (sym h),
-  sym (drop-at a k (length a) refl) ∙ ap (drop (length a)) e ∙ drop-at b l (length a) (sym h),
-)
+-- the front of a list
+pub front-length : {A : Type 0} (l : List A) (n : ℕ) → n ≤ length l → n ≡ length (take n l)
+front-length l n h = sym (length-take-le n l h)
 
 pub equal-true : (x y : List ℕ) → equal x y ≡ true → x ≡ y
 unfolding equal

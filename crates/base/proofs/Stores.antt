@@ -5,7 +5,7 @@ use native.Mathlib.Nat.{add-zero, add-suc, suc-add}
 use native.Mathlib.Numerals.{add-one, add-two, add-three, add-four, add-five, add-six, add-seven}
 use mathlib.Core.Path.{_≡_, refl, sym, ap, _∙_}
 use mathlib.Core.List.{List, [], _∷_, _++_}
-use lib.ListN.{length, take, drop, getD, set}
+use lib.ListN.{length, drop, getD, set}
 use lib.Seq.{sets, sets-eq, set-comm, getD-set-other}
 
 -- one run of stores, and then another from where it ended

@@ -13,7 +13,7 @@ use Rattle.model.proofs.Streams.{between, base-group}
 use Rattle.octets.specs.Classes.{Class}
 use Rattle.scan.specs.Marks.{Chunk}
 use Rattle.scan.specs.Writes.{Wrote}
-use Rattle.scan.proofs.Copies.{sets-append}
+use Rattle.base.proofs.Stores.{sets-append}
 use Rattle.scan.proofs.Passing.{stretch-none, stretch-on, Writing, write-none, write-room, write-on}
 use Rattle.scan.proofs.Skips.{skip-here}
 use Rattle.base64.specs.Bits.{threeOctets, Low}

@@ -9,7 +9,7 @@ use Rattle.model.specs.Tree.{digits}
 use Rattle.model.proofs.Digits.{digits-small, digits-more}
 use Rattle.model.proofs.Sizes.{digits-length}
 use Rattle.scan.specs.Writes.{Wrote}
-use Rattle.scan.proofs.Copies.{sets-append}
+use Rattle.base.proofs.Stores.{sets-append}
 use Rattle.decimal.specs.Numbers.{Wide}
 
 small-width : (n : ℕ) → n < 10 → length (digits n) ≡ 1

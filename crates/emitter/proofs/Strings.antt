@@ -77,9 +77,6 @@ module _ (src : List ℕ) (hk hl hb kind len body pos room : ℕ) (g : Hintable 
   hint-size : length (hintOctets (g .hint) (g .octets)) ≡ 2 + length (verbatim (g .hint)) + length (verbatim (g .octets))
   hint-size = omega (arith, length-append (verbatim (g .hint)) (93 ∷ verbatim (g .octets)))
 
-  pub bracket-room : pos < length out
-  bracket-room = omega (arith, hint-size, g .fits)
-
   pub hint-spellable : Spellable src hk hl hb (pos + 1) (length (set out pos 91))
   hint-spellable =
       record {
@@ -96,10 +93,6 @@ module _ (src : List ℕ) (hk hl hb kind len body pos room : ℕ) (g : Hintable 
   hint-are : octetsOf (bodyOf hk hl (drop hb src)) ≡ g .hint
   unfolding octetsOf
   hint-are = rw (g .hintReads)
-
-  data-are : octetsOf (bodyOf kind len (drop body src)) ≡ g .octets
-  unfolding octetsOf
-  data-are = rw (g .reads)
 
   module _ (out₁ : List ℕ) (p : ℕ) (w : Wrote (verbatim (octetsOf (bodyOf hk hl (drop hb src)))) (pos + 1) (set out pos 91) out₁ p) where
     second-long : length out₁ ≡ length out

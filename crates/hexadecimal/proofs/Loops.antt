@@ -9,7 +9,7 @@ use Rattle.octets.specs.Classes.{Class}
 use Rattle.scan.specs.Marks.{Chunk, Last, Body}
 use Rattle.scan.specs.Strings.{bodyOf, octetsOf, Tells}
 use Rattle.scan.specs.Writes.{Wrote}
-use Rattle.scan.proofs.Copies.{sets-append}
+use Rattle.base.proofs.Stores.{sets-append}
 use Rattle.scan.proofs.Passing.{stretch-none, stretch-on, Passed, passed-by, passed-on, passed-last, passed-bad, Writing, write-none, write-body, write-room, write-by, write-on, write-end, write-never}
 use Rattle.hexadecimal.specs.Pairs.{Pairs, Digit, Paired, PairedOut}
 use Rattle.hexadecimal.proofs.Digits.{pair-here, digit-by-class}

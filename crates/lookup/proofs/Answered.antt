@@ -13,7 +13,8 @@ use Rattle.model.specs.Decode.{decode₁}
 use Rattle.model.specs.Tree.{Tree}
 use Rattle.lookup.specs.Tokens.{Sheets}
 use Rattle.answers.specs.Cases.{told, RefusesComparing}
-use Rattle.lookup.proofs.Sheets.{front-length, tree-of, none-of, Sheet, sheet-of}
+use Rattle.base.proofs.Lists.{front-length}
+use Rattle.lookup.proofs.Sheets.{tree-of, none-of, Sheet, sheet-of}
 use Rattle.answers.specs.declared.Comparing.{Comparing}
 use Rattle.answers.specs.declared.Comparing.the-variants.{Accepted}
 

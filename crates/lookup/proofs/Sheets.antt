@@ -25,9 +25,6 @@ use Rattle.walk.specs.declared.Extent.the-variants.{Whole, Refused}
 
 -- ---- the first octets
 
-pub front-length : (c : List ℕ) (n : ℕ) → n ≤ length c → n ≡ length (take n c)
-front-length c n h = sym (length-take-le n c h)
-
 pub front-short : (c : List ℕ) (n : ℕ) → n ≤ length c → n ≤ 16384 → length (take n c) ≤ 32768
 front-short c n h k = omega (arith, length-take-le n c h)
 

@@ -62,10 +62,6 @@ pub hex-group : (m a b : ℕ) (s : List ℕ) → hexval a < 16 → hexval b < 16
 unfolding unhex
 hex-group m a b s h k = after-group m unhex (a ∷ b ∷ []) ((hexval a * 16 + hexval b) ∷ []) s (λ l. picked _ _ (lt-ltb (hexval a) 16 h) ∙ picked _ _ (lt-ltb (hexval b) 16 k))
 
-pub hex-bad₁ : (m a b : ℕ) (s : List ℕ) → 16 ≤ hexval a → between m unhex (a ∷ b ∷ []) s ≡ refused
-unfolding unhex
-hex-bad₁ m a b s h = after-bad m unhex (a ∷ b ∷ []) [] s (λ l. unpicked _ _ (le-ltb (hexval a) 16 h))
-
 pub hex-bad₂ : (m a b : ℕ) (s : List ℕ) → hexval a < 16 → 16 ≤ hexval b → between m unhex (a ∷ b ∷ []) s ≡ refused
 unfolding unhex
 hex-bad₂ m a b s h k = after-bad m unhex (a ∷ b ∷ []) [] s (λ l. picked _ _ (lt-ltb (hexval a) 16 h) ∙ unpicked _ _ (le-ltb (hexval b) 16 k))

@@ -3,8 +3,9 @@ use mathlib.Core.Path.{_≡_, refl, sym, _∙_, ap, subst}
 use mathlib.Core.List.{List, _++_}
 use Prim.Native.Nat.{ℕ, _+_, _<_, _≤_}
 use native.Mathlib.Omega.{arith}
-use lib.ListN.{length, take, drop, length-take}
+use lib.ListN.{length, take, drop}
 use lib.Seq.{take-append-seam}
+use Rattle.base.proofs.Lists.{front-length}
 use Rattle.model.specs.Answers.{Outcome, reading, replacing}
 use Rattle.answers.specs.Cases.{outcome}
 use Rattle.answers.specs.declared.Reading.{Reading}
@@ -16,11 +17,8 @@ pub part-fits : (n room : ℕ) (l : List ℕ) → n ≡ part room → length l �
 unfolding part
 part-fits n room l e h = omega arith
 
-pub front-length : {A : Type 0} (n : ℕ) (l : List A) → n ≤ length l → n ≡ length (take n l)
-front-length n l h = omega (arith, length-take n l)
-
 front-same : (n : ℕ) (l t : List ℕ) → n ≤ length t → length l ≡ length (take n t) → take n (l ++ drop n t) ≡ l
-front-same n l t h e = subst (λ (k : ℕ). take k (l ++ drop n t) ≡ l) (e ∙ sym (front-length n t h)) (take-append-seam l (drop n t))
+front-same n l t h e = subst (λ (k : ℕ). take k (l ++ drop n t) ≡ l) (e ∙ sym (front-length t n h)) (take-append-seam l (drop n t))
 
 -- what is said of the front, once it is put back
 pub front-outcome : (r : Reading) (n : ℕ) (c l t : List ℕ) (x : Outcome) → n ≤ length t → length l ≡ length (take n t)

@@ -2,17 +2,11 @@
 use Prim.Native.Nat.{ℕ, suc, _+_, _≤_, _<_}
 use native.Mathlib.Omega.{arith}
 use mathlib.Core.Path.{_≡_, refl, sym, ap, _∙_}
-use mathlib.Core.List.{List, [], _∷_, _++_}
+use mathlib.Core.List.{List}
 use lib.ListN.{length, take, drop, getD, length-drop, set, length-set, drop-of-length-le}
 use lib.Seq.{sets, drop-cons, getD-drop, getD-take, length-take-le}
 use native.Mathlib.Numerals.{add-one}
-use native.Mathlib.Nat.{add-zero, add-suc, suc-add}
 use Rattle.scan.specs.Writes.{Wrote}
-
--- one run of stores, and then another from where it ended
-pub sets-append : (l a b : List ℕ) (i : ℕ) → sets l i (a ++ b) ≡ sets (sets l i a) (i + length a) b
-sets-append l [] b i = ap (λ (n : ℕ). sets l n b) (sym (add-zero i))
-sets-append l (x ∷ a) b i = sets-append (set l i x) a b (suc i) ∙ ap (λ (n : ℕ). sets (sets (set l i x) (suc i) a) n b) (suc-add i (length a) ∙ sym (add-suc i (length a)))
 
 -- a copy so far
 pub record Copying (src : List ℕ) (from len : ℕ) (out₀ : List ℕ) (pos : ℕ) (out : List ℕ) (k : ℕ) : Type 0 where

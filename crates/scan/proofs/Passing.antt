@@ -10,7 +10,7 @@ use Rattle.model.proofs.ReadCases.{bind-cases, never}
 use Rattle.scan.specs.Marks.{Stretch, Chunk, Last, Body}
 use Rattle.scan.specs.Strings.{bodyOf, octetsOf, Tells}
 use Rattle.scan.specs.Writes.{Wrote}
-use Rattle.scan.proofs.Copies.{sets-append}
+use Rattle.base.proofs.Stores.{sets-append}
 use Rattle.scan.specs.declared.Simple.the-variants.{Is, Not}
 
 abbrev ahead : List ℕ → List ℕ → List ℕ → Read (List ℕ)

@@ -1,22 +1,20 @@
 -- Octets written from a string's body on.
 use Prim.Native.Nat.{ℕ, _+_, _-_, _≤_}
 use native.Mathlib.Omega.{arith}
-use mathlib.Core.Path.{_≡_, sym, ap, _∙_, subst}
+use mathlib.Core.Path.{_≡_, sym, ap, _∙_}
 use mathlib.Core.List.{List, [], _++_}
 use lib.ListN.{length, take, drop, length-append, length-drop}
 use borrow.Author.Tests.{le-leb, eq-eqb, ne-eqb}
 use Rattle.base.proofs.Cases.{by-eq, picked, unpicked}
-use Rattle.model.specs.Strings.{Read, got, first, unbase, marked, simple}
+use Rattle.model.specs.Strings.{Read, got, first, unbase, marked}
 use Rattle.model.proofs.ReadCases.{never}
 use Rattle.model.proofs.Simples.{first-sound}
 use Rattle.model.proofs.Streams.{between}
-use Rattle.scan.specs.declared.Simple.{Simple}
 use Rattle.scan.specs.Marks.{Body}
-use Rattle.scan.specs.Strings.{bodyOf, octetsOf, Reads, Tells, Ready}
+use Rattle.scan.specs.Strings.{bodyOf, octetsOf, Ready}
 use Rattle.scan.specs.Writes.{Wrote}
 use Rattle.base64.specs.Steps.{Closing}
 use Rattle.base64.proofs.Marks.{bar, brace}
-use Rattle.scan.specs.declared.Simple.the-variants.{Is}
 
 module _ (src : List ℕ) (kind len body pos : ℕ) (room : ℕ) (r : Ready src kind len body pos room) where
   module _ (e : kind ≡ 0) where
@@ -87,10 +85,3 @@ module _ (src : List ℕ) (kind len body pos : ℕ) (room : ℕ) (r : Ready src 
 
       pub base-wrote : (out out' : List ℕ) (o : ℕ) → Wrote (octetsOf (between kind unbase [] (drop body src))) pos out out' o → Wrote (octetsOf (bodyOf kind len (drop body src))) pos out out' o
       base-wrote out out' o w = wrote (between kind unbase []) (base-closing .body len (drop body src)) out out' o w
-
--- what was found can be written where it has room
-pub found-ready : (src : List ℕ) (at : ℕ) (r : Simple) → Tells src (simple (drop at src)) r → (kind len body next : ℕ) → r ≡ Is kind len body next → (pos room : ℕ) → len ≤ room - pos → pos ≤ room → Ready src kind len body pos room
-unfolding Tells
-found-ready src at r w kind len body next e pos room h k =
-    let t : Reads src (simple (drop at src)) kind len body next = subst (Tells src (simple (drop at src))) e w in
-    record { octets = t .octets; rest = t .left; reads = t .again; inside = omega (arith, t .ahead, t .within); fits = omega (arith, t .size) }

@@ -14,8 +14,9 @@ use Rattle.model.specs.Write.{advanced, basic}
 use Rattle.model.proofs.OutputSizes.{basic-length}
 use Rattle.scan.specs.Writes.{Wrote}
 use Rattle.writer.specs.Sheets.{Sheet}
-use Rattle.writer.proofs.Outputs.{own-sheet, own-advanced, own-basic, own-canonical, wrote-settled}
-use Rattle.lookup.proofs.Sheets.{front-length, sheet-of}
+use Rattle.write.proofs.Outputs.{own-sheet, own-advanced, own-basic, own-canonical, wrote-settled}
+use Rattle.base.proofs.Lists.{front-length}
+use Rattle.lookup.proofs.Sheets.{sheet-of}
 use Rattle.answers.specs.Cases.{RefusesWriting, output}
 use Rattle.write.specs.Sized.{Good, sized}
 use Rattle.answers.specs.declared.Writing.{Writing}

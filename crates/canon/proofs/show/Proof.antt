@@ -1,11 +1,11 @@
 use native.Mathlib.Omega.{arith}
-use Rattle.canon.proofs.Parts.{part-length}
+use Rattle.base.proofs.Lists.{front-length}
 use borrow.Author.Needs.{needs}
 use Rattle.canon.proofs.show.Statement.{statement}
 use Rattle.canon.proofs.show.Tie as tie
 
 slice-aggregate-write-all : tie.Need-slice-aggregate-write-all
-slice-aggregate-write-all c = search (part-length, arith)
+slice-aggregate-write-all c = search (front-length, arith)
 
 write-all-requires : tie.Need-write-all-requires
 write-all-requires c κs = search needs

@@ -1,4 +1,5 @@
-use Rattle.lookup.proofs.Sheets.{front-length, own-beyond, own-long, own-many, own-unlent, own-room, own-is}
+use Rattle.base.proofs.Lists.{front-length}
+use Rattle.lookup.proofs.Sheets.{own-beyond, own-long, own-many, own-unlent, own-room, own-is}
 use native.Mathlib.Omega.{arith}
 use Rattle.lookup.proofs.own_sheet.Statement.{statement}
 use Rattle.lookup.proofs.own_sheet.Tie as tie

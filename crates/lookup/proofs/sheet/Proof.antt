@@ -1,4 +1,5 @@
-use Rattle.lookup.proofs.Sheets.{front-length, front-short, sheet-beyond, sheet-long, sheet-deep, sheet-whole, sheet-none}
+use Rattle.base.proofs.Lists.{front-length}
+use Rattle.lookup.proofs.Sheets.{front-short, sheet-beyond, sheet-long, sheet-deep, sheet-whole, sheet-none}
 use native.Mathlib.Omega.{arith}
 use borrow.Author.Needs.{needs}
 use Rattle.lookup.proofs.sheet.Statement.{statement}

@@ -1,5 +1,5 @@
+use Rattle.base.proofs.Lists.{front-length}
 use native.Mathlib.Omega.{arith}
-use Rattle.records.proofs.Sizes.{front-length}
 use Rattle.records.proofs.Showing.{hint-place-of, data-place-of}
 use borrow.Author.Needs.{needs}
 use Rattle.records.proofs.flat.place_part.Statement.{statement}

@@ -1,5 +1,6 @@
+use Rattle.base.proofs.Lists.{front-length}
 use native.Mathlib.Omega.{arith}
-use Rattle.records.proofs.Sizes.{front-length, front-outcome}
+use Rattle.records.proofs.Sizes.{front-outcome}
 use borrow.Author.Needs.{needs}
 use Rattle.records.proofs.flat.read_part.Statement.{statement}
 use Rattle.records.proofs.flat.read_part.Tie as tie
