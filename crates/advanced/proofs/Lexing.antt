@@ -19,7 +19,7 @@ use Rattle.scan.specs.Runs.{Skipped, Ran}
 use Rattle.scan.specs.Strings.{Reads, Tells}
 use Rattle.scan.proofs.Places.{one-here}
 use Rattle.decimal.specs.Numbers.{Wide}
-use Rattle.advanced.specs.Lexed.{Again, HintClosed, Closes, ItemAt, Long}
+use Rattle.advanced.specs.Lexed.{Again, HintClosed, Closes, ItemAt, Long, Tokened}
 use Rattle.model.proofs.Stripped as Stripped
 use Rattle.strings.proofs.Found as Found
 use Rattle.scan.specs.declared.Simple.{Simple}
@@ -185,6 +185,12 @@ module _ (src : List ℕ) (at : ℕ) (h : at < length src) (c : ℕ) (k : Class 
     where
       simple-token-at : (end : ℕ) → 14 ≤ c → c ≤ 17 → Ran src (at + 1) end → Tells src (simple (drop at src)) (Is 0 (end - at) at end)
       simple-token-at end a b r = Found.simple-token src at h c k end a b r
+
+  pub token-none : Tokened src at at
+  token-none = record { from = omega arith; within = omega arith; is = λ g. absurd (omega arith) }
+
+  pub token-here : 14 ≤ c → c ≤ 17 → (end : ℕ) → Ran src (at + 1) end → Tokened src at end
+  token-here lo hi end r = record { from = omega (arith, r .from); within = r .within; is = λ g. lex-token end (omega arith) (omega arith) r }
 
 -- how long a verbatim string is
 pub long-is : (n w : ℕ) → n ≤ 32768 → Wide n w → Long n (w + 1 + n)

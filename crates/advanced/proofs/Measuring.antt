@@ -25,8 +25,7 @@ use Rattle.walk.specs.Extent.{Measures}
 use Rattle.walk.proofs.Chained.{walking, walking-shut, walking-step, walking-stop, walking-end, undecoded, decodes}
 use Rattle.scan.specs.Runs.{Skipped}
 use Rattle.scan.proofs.Places.{one-here}
-use Rattle.advanced.specs.Lexed.{Again, Atomed, Hinting, Stepped, ItemAt, Long}
-use Rattle.walk.specs.declared.Extent.{Extent}
+use Rattle.advanced.specs.Lexed.{Again, Atomed, Hinting, Stepped, ItemAt, Long, Tokened}
 use Rattle.walk.specs.declared.Extent.the-variants.{Whole, Refused}
 use Rattle.advanced.specs.declared.Item.{Item}
 use Rattle.advanced.specs.declared.Item.the-variants.{Open, Close, Atom, Hinted, Other}
@@ -134,6 +133,27 @@ module _ (src : List ℕ) (at o d n len : ℕ) (w : Walking src at o d n len) (i
             same = w .same ∙ ap (λ (v : Option (List Lexeme)). walking v (count o d n)) y ∙ walking-step l (lexemes (drop next src)) (count o d n) (count o′ d′ n′) not-shut g;
           }
 
+      -- a string
+      atom-by : (r : Item) → ItemAt src i r → (kind l body next : ℕ) → r ≡ Atom kind l body next → (a : ℕ) → Long l a → Walking src next o d (n + 1) (len + a)
+      unfolding ItemAt step octetsOfLexeme
+      atom-by r v kind l body next z a g =
+          let s : Atomed src (lexeme (drop i src)) i kind l body next = subst (ItemAt src i) z v in
+          let u : Again src kind l body (s .octets) = s .again in
+          let y : length (verbatim (s .octets)) ≡ a = verbatim-length (s .octets) ∙ rw (u .size) (sym (g .is)) in
+          stepped (atom (s .octets)) next o d (n + 1) (len + a) (record { on = s .on; within = s .within; reads = s .reads }) refl (omega arith)
+          (omega (arith, w .few, p .from, s .on), omega (arith, w .few, p .from, s .on), omega (arith, w .few, p .from, s .on), omega (arith, w .few, p .from, s .on, g .low))
+
+      -- a token
+      module _ (end : ℕ) (t : Tokened src i end) (g : i < end) where
+        pub token-small : length src ≤ 32768 → end - i ≤ 32768
+        token-small b = omega (arith, t .within)
+
+        pub token-less : length src - end < length src - at
+        token-less = omega (arith, t .within, p .from)
+
+        pub token-on : (a : ℕ) → Long (end - i) a → Walking src end o d (n + 1) (len + a)
+        token-on a k = atom-by (Atom 0 (end - i) i end) (t .is g) 0 (end - i) i end refl a k
+
       module _ (r : Item) (v : ItemAt src i r) where
         pub walk-other : r ≡ Other → Measures (decode₃ src) Refused
         unfolding ItemAt Measures decode₃ chain
@@ -189,13 +209,7 @@ module _ (src : List ℕ) (at o d n len : ℕ) (w : Walking src at o d n len) (i
           atom-less = let s : Atomed src (lexeme (drop i src)) i kind l body next = to-atom kind l body next z in omega (arith, s .on, s .within, p .from)
 
           pub atom-on : (a : ℕ) → Long l a → Walking src next o d (n + 1) (len + a)
-          unfolding step octetsOfLexeme
-          atom-on a g =
-              let s : Atomed src (lexeme (drop i src)) i kind l body next = to-atom kind l body next z in
-              let u : Again src kind l body (s .octets) = s .again in
-              let y : length (verbatim (s .octets)) ≡ a = verbatim-length (s .octets) ∙ rw (u .size) (sym (g .is)) in
-              stepped (atom (s .octets)) next o d (n + 1) (len + a) (record { on = s .on; within = s .within; reads = s .reads }) refl (omega arith)
-              (omega (arith, w .few, p .from, s .on), omega (arith, w .few, p .from, s .on), omega (arith, w .few, p .from, s .on), omega (arith, w .few, p .from, s .on, g .low))
+          atom-on a g = atom-by r v kind l body next z a g
 
         module _ (hk hl hb kind l body next : ℕ) (z : r ≡ Hinted hk hl hb kind l body next) where
           pub hint-small : length src ≤ 32768 → hl ≤ 32768

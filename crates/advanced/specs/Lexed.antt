@@ -1,5 +1,5 @@
 -- What is said of the lexeme at a place of an advanced text.
-use Prim.Native.Nat.{ℕ, _+_, _≤_, _<_}
+use Prim.Native.Nat.{ℕ, _+_, _≤_, _<_, _-_}
 use mathlib.Core.Path.{_≡_}
 use mathlib.Core.List.{List}
 use lib.ListN.{length, drop}
@@ -61,6 +61,12 @@ ItemAt src at (Close n) = Stepped src (lexeme (drop at src)) closing at n
 ItemAt src at (Atom k l b n) = Atomed src (lexeme (drop at src)) at k l b n
 ItemAt src at (Hinted hk hl hb k l b n) = Hinting src (lexeme (drop at src)) at hk hl hb k l b n
 ItemAt src at Other = lexeme (drop at src) ≡ refused
+
+-- the token at a place ends at r, or none begins there
+pub record Tokened (src : List ℕ) (at r : ℕ) : Type 0 where
+  pub from : at ≤ r
+  pub within : r ≤ length src
+  pub is : at < r → ItemAt src at (Atom 0 (r - at) at r)
 
 -- how long a verbatim string of n octets is
 pub record Long (n r : ℕ) : Type 0 where

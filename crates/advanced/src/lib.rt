@@ -4,7 +4,7 @@ ghost use lib.ListN.{length};
 ghost use Rattle.model.specs.Decode.{decode₃};
 ghost use Rattle.walk.specs.Extent.{Measures};
 ghost use Rattle.octets.specs.Classes.{Classed, Lettered};
-ghost use Rattle.advanced.specs.Lexed.{ItemAt, Closes, Long};
+ghost use Rattle.advanced.specs.Lexed.{ItemAt, Tokened, Closes, Long};
 use scan::Simple;
 use scan::skip_at;
 use strings::measure_simple;
@@ -78,7 +78,24 @@ fn after_hint(
     }
 }
 
-// The lexeme at a place; the commonest, a token, comes first.
+// The end of the token at a place; the place itself where none begins. Loops ask for a token first, the commonest lexeme by far,
+// so that no `Item` goes through memory for it.
+pub fn token_end(classes: &[u8; 256], src: &[u8], at: usize) -> usize
+    requires { ⌜ Classed (now classes) ⌝ }
+    requires { ⌜ at < length (now src) ⌝ }
+    ensures { λ r. ⌜ Tokened (now (src .entry)) at r ⌝ }
+{
+    let c = octets::class_of(classes, src[at]);
+    if c < 14 {
+        return at;
+    }
+    if c > 17 {
+        return at;
+    }
+    scan::run_end(classes, src, at + 1)
+}
+
+// The lexeme at a place.
 pub fn lexeme_at(classes: &[u8; 256], letters: &[u8; 256], src: &[u8], at: usize) -> Item
     requires { ⌜ Classed (now classes) ⌝ }
     requires { ⌜ Lettered (now letters) ⌝ }
@@ -86,17 +103,6 @@ pub fn lexeme_at(classes: &[u8; 256], letters: &[u8; 256], src: &[u8], at: usize
     ensures { λ r. ⌜ ItemAt (now (src .entry)) at r ⌝ }
 {
     let c = octets::class_of(classes, src[at]);
-    if c > 13 {
-        if c < 18 {
-            let end = scan::run_end(classes, src, at + 1);
-            return Item::Atom {
-                kind: 0,
-                len: end - at,
-                body: at,
-                next: end,
-            };
-        }
-    }
     if c == 6 {
         return Item::Open { next: at + 1 };
     }
@@ -166,6 +172,13 @@ pub fn measure(classes: &[u8; 256], letters: &[u8; 256], src: &[u8]) -> Extent
         }
         if i >= src.len() {
             return Extent::Refused;
+        }
+        let end = token_end(classes, src, i);
+        if end > i {
+            seen += 1;
+            size += verbatim_len(end - i);
+            at = end;
+            continue;
         }
         match lexeme_at(classes, letters, src, i) {
             Item::Open { next } => {

@@ -78,6 +78,12 @@ pub fn emit(
         if i >= src.len() {
             return o;
         }
+        let end = advanced::token_end(classes, src, i);
+        if end > i {
+            o = put_string(classes, letters, src, 0, end - i, i, out, o);
+            at = end;
+            continue;
+        }
         match advanced::lexeme_at(classes, letters, src, i) {
             Item::Open { next } => {
                 out[o] = 40;

@@ -1,5 +1,5 @@
 use native.Mathlib.Omega.{arith}
-use Rattle.advanced.proofs.Lexing.{lex-token, lex-open, lex-close, told-place, lex-hinted, lex-unhinted, lex-atom, lex-none}
+use Rattle.advanced.proofs.Lexing.{lex-open, lex-close, told-place, lex-hinted, lex-unhinted, lex-atom, lex-none}
 use borrow.Author.Needs.{needs}
 use Rattle.advanced.proofs.lexeme_at.Statement.{statement}
 use Rattle.advanced.proofs.lexeme_at.Tie as tie
@@ -10,29 +10,17 @@ shared-slice-read-class-of c = search needs
 class-of-requires : tie.Need-class-of-requires
 class-of-requires c κs = search needs
 
-add-run-end : tie.Need-add-run-end
-add-run-end c = search needs
-
-run-end-requires : tie.Need-run-end-requires
-run-end-requires c κs = search needs
-
-sub-t20 : tie.Need-sub-t20
-sub-t20 c = search needs
+add-t18 : tie.Need-add-t18
+add-t18 c = search needs
 
 returns : tie.Need-returns
-returns c = search (lex-token, arith)
+returns c = search (lex-open, arith)
 
-add-t21 : tie.Need-add-t21
-add-t21 c = search needs
+add-t19 : tie.Need-add-t19
+add-t19 c = search needs
 
 returns-2 : tie.Need-returns-2
-returns-2 c = search (lex-open, arith)
-
-add-t22 : tie.Need-add-t22
-add-t22 c = search needs
-
-returns-3 : tie.Need-returns-3
-returns-3 c = search (lex-close, arith)
+returns-2 c = search (lex-close, arith)
 
 add-skip-at : tie.Need-add-skip-at
 add-skip-at c = search needs
@@ -53,7 +41,7 @@ enum-told : tie.Need-enum-told
 enum-told c = search needs
 
 measure-simple-requires-2 : tie.Need-measure-simple-requires-2
-measure-simple-requires-2 c κs = (c .before .before .before .before .before .before .before .pre .0, (c .before .before .before .before .before .before .before .pre .1 .0, (omega arith, omega arith)))
+measure-simple-requires-2 c κs = (c .before .before .before .before .before .before .pre .0, (c .before .before .before .before .before .before .pre .1 .0, (omega arith, omega arith)))
 
 enum-known-kind-2 : tie.Need-enum-known-kind-2
 enum-known-kind-2 c = search needs
@@ -61,17 +49,17 @@ enum-known-kind-2 c = search needs
 enum-told-2 : tie.Need-enum-told-2
 enum-told-2 c = search needs
 
+returns-3 : tie.Need-returns-3
+returns-3 c = search (lex-hinted, arith)
+
 returns-4 : tie.Need-returns-4
-returns-4 c = search (lex-hinted, arith)
+returns-4 c = search (lex-unhinted, arith)
 
 returns-5 : tie.Need-returns-5
-returns-5 c = search (lex-unhinted, arith)
+returns-5 c = search (lex-atom, arith)
 
 returns-6 : tie.Need-returns-6
-returns-6 c = search (lex-atom, arith)
-
-returns-7 : tie.Need-returns-7
-returns-7 c = search (lex-none, arith)
+returns-6 c = search (lex-none, arith)
 
 pub lexeme-at-spec : {M : Type 1} → statement M
 lexeme-at-spec =
@@ -79,14 +67,10 @@ lexeme-at-spec =
     (tie.spec
     shared-slice-read-class-of
     class-of-requires
-    add-run-end
-    run-end-requires
-    sub-t20
+    add-t18
     returns
-    add-t21
+    add-t19
     returns-2
-    add-t22
-    returns-3
     add-skip-at
     skip-at-requires
     measure-simple-requires
@@ -96,7 +80,7 @@ lexeme-at-spec =
     measure-simple-requires-2
     enum-known-kind-2
     enum-told-2
+    returns-3
     returns-4
     returns-5
-    returns-6
-    returns-7)
+    returns-6)

@@ -1,6 +1,6 @@
 use borrow.Author.Needs.{needs}
 use native.Mathlib.Omega.{arith}
-use Rattle.emitter.proofs.Emitting.{emit-start, emit-long, emit-end, open-room, open-less, open-on, close-room, close-less, close-on, atom-spellable, atom-less, atom-on, hint-spellable, hint-less, hint-on, emit-other, Emitting}
+use Rattle.emitter.proofs.Emitting.{emit-start, emit-long, emit-end, token-spellable, token-less, token-on, open-room, open-less, open-on, close-room, close-less, close-on, atom-spellable, atom-less, atom-on, hint-spellable, hint-less, hint-on, emit-other, Emitting}
 use lib.ListN.{length}
 use Prim.Native.Nat.{_-_}
 use Rattle.emitter.proofs.emit.Statement.{statement}
@@ -24,6 +24,21 @@ same-length c = search (emit-long, arith)
 returns : tie.Need-returns Inv-loop μ-loop
 returns c = search (emit-end, arith)
 
+token-end-requires : tie.Need-token-end-requires Inv-loop μ-loop
+token-end-requires c κs = search needs
+
+sub-put-string : tie.Need-sub-put-string Inv-loop μ-loop
+sub-put-string c = search needs
+
+put-string-requires : tie.Need-put-string-requires Inv-loop μ-loop
+put-string-requires c κs = (search needs, (search needs, search (token-spellable, arith)))
+
+loop-less : tie.Need-loop-less Inv-loop μ-loop
+loop-less c = search (token-less, arith)
+
+loop-again : tie.Need-loop-again Inv-loop μ-loop
+loop-again c = search (token-on, arith)
+
 lexeme-at-requires : tie.Need-lexeme-at-requires Inv-loop μ-loop
 lexeme-at-requires c κs = search needs
 
@@ -36,11 +51,11 @@ slice-write-out c = search (open-room, arith)
 add-o : tie.Need-add-o Inv-loop μ-loop
 add-o c = search needs
 
-loop-less : tie.Need-loop-less Inv-loop μ-loop
-loop-less c = search (open-less, arith)
+loop-less-2 : tie.Need-loop-less-2 Inv-loop μ-loop
+loop-less-2 c = search (open-less, arith)
 
-loop-again : tie.Need-loop-again Inv-loop μ-loop
-loop-again c = search (open-on, arith)
+loop-again-2 : tie.Need-loop-again-2 Inv-loop μ-loop
+loop-again-2 c = search (open-on, arith)
 
 enum-known-next-2 : tie.Need-enum-known-next-2 Inv-loop μ-loop
 enum-known-next-2 c = search needs
@@ -51,23 +66,23 @@ slice-write-out-2 c = search (close-room, arith)
 add-o-2 : tie.Need-add-o-2 Inv-loop μ-loop
 add-o-2 c = search needs
 
-loop-less-2 : tie.Need-loop-less-2 Inv-loop μ-loop
-loop-less-2 c = search (close-less, arith)
+loop-less-3 : tie.Need-loop-less-3 Inv-loop μ-loop
+loop-less-3 c = search (close-less, arith)
 
-loop-again-2 : tie.Need-loop-again-2 Inv-loop μ-loop
-loop-again-2 c = search (close-on, arith)
+loop-again-3 : tie.Need-loop-again-3 Inv-loop μ-loop
+loop-again-3 c = search (close-on, arith)
 
 enum-known-kind : tie.Need-enum-known-kind Inv-loop μ-loop
 enum-known-kind c = search needs
 
-put-string-requires : tie.Need-put-string-requires Inv-loop μ-loop
-put-string-requires c κs = (search needs, (search needs, search (atom-spellable, arith)))
+put-string-requires-2 : tie.Need-put-string-requires-2 Inv-loop μ-loop
+put-string-requires-2 c κs = (search needs, (search needs, search (atom-spellable, arith)))
 
-loop-less-3 : tie.Need-loop-less-3 Inv-loop μ-loop
-loop-less-3 c = search (atom-less, arith)
+loop-less-4 : tie.Need-loop-less-4 Inv-loop μ-loop
+loop-less-4 c = search (atom-less, arith)
 
-loop-again-3 : tie.Need-loop-again-3 Inv-loop μ-loop
-loop-again-3 c = search (atom-on, arith)
+loop-again-4 : tie.Need-loop-again-4 Inv-loop μ-loop
+loop-again-4 c = search (atom-on, arith)
 
 enum-known-hint-kind : tie.Need-enum-known-hint-kind Inv-loop μ-loop
 enum-known-hint-kind c = search needs
@@ -75,11 +90,11 @@ enum-known-hint-kind c = search needs
 put-hinted-requires : tie.Need-put-hinted-requires Inv-loop μ-loop
 put-hinted-requires c κs = (search needs, (search needs, search (hint-spellable, arith)))
 
-loop-less-4 : tie.Need-loop-less-4 Inv-loop μ-loop
-loop-less-4 c = search (hint-less, arith)
+loop-less-5 : tie.Need-loop-less-5 Inv-loop μ-loop
+loop-less-5 c = search (hint-less, arith)
 
-loop-again-4 : tie.Need-loop-again-4 Inv-loop μ-loop
-loop-again-4 c = search (hint-on, arith)
+loop-again-5 : tie.Need-loop-again-5 Inv-loop μ-loop
+loop-again-5 c = search (hint-on, arith)
 
 enum-told : tie.Need-enum-told Inv-loop μ-loop
 enum-told c = search needs
@@ -100,25 +115,30 @@ emit-spec =
     skip-at-requires
     same-length
     returns
+    token-end-requires
+    sub-put-string
+    put-string-requires
+    loop-less
+    loop-again
     lexeme-at-requires
     enum-known-next
     slice-write-out
     add-o
-    loop-less
-    loop-again
+    loop-less-2
+    loop-again-2
     enum-known-next-2
     slice-write-out-2
     add-o-2
-    loop-less-2
-    loop-again-2
-    enum-known-kind
-    put-string-requires
     loop-less-3
     loop-again-3
-    enum-known-hint-kind
-    put-hinted-requires
+    enum-known-kind
+    put-string-requires-2
     loop-less-4
     loop-again-4
+    enum-known-hint-kind
+    put-hinted-requires
+    loop-less-5
+    loop-again-5
     enum-told
     same-length-2
     returns-2)
