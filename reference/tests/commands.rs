@@ -126,14 +126,17 @@ fn corpus_and_explain() {
     let expected = fs::read_to_string(directory.join("expected")).unwrap();
     let cases = directory.join("cases");
     let cases = cases.to_str().unwrap();
-    for number in [0, 1_000, expected.lines().count() - 1] {
-        let output = run(&["explain", cases, &number.to_string()], b"");
+    let number = |line: &str| line.split(' ').next().unwrap().parse::<usize>().unwrap();
+    let last = number(expected.lines().last().unwrap());
+    for case in [0, 1_000, last] {
+        let output = run(&["explain", cases, &case.to_string()], b"");
         assert_eq!(output.status.code(), Some(0));
         let page = String::from_utf8(output.stdout).unwrap();
-        let line = expected.lines().nth(number).unwrap();
-        assert!(page.contains(&format!("  {line}\n")), "{page}");
+        let of_case = expected.lines().filter(|line| number(line) == case);
+        let lines: String = of_case.map(|line| format!("  {line}\n")).collect();
+        assert!(page.contains(&format!("expected\n{lines}")), "{page}");
     }
-    fails(&["explain", cases, &expected.lines().count().to_string()]);
+    fails(&["explain", cases, &(last + 1).to_string()]);
     fails(&["explain", directory.join("expected").to_str().unwrap(), "0"]);
 }
 

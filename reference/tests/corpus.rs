@@ -3,7 +3,7 @@
 use reference::corpus::case::Case;
 use reference::corpus::files::{self, Summary};
 use reference::corpus::rng::Rng;
-use reference::corpus::run::{digest, run};
+use reference::corpus::run::{self, digest, run};
 use reference::corpus::{explain, fixed, wire};
 
 fn corpus(seed: u64, count: u64) -> (Vec<u8>, Vec<u8>, Summary) {
@@ -43,7 +43,7 @@ fn the_files_agree() {
     assert!(again == octets);
     let lines: String = (0..)
         .zip(&cases)
-        .map(|(number, case)| run(case).line(number, case.name()))
+        .map(|(number, case)| run::lines(number, case))
         .collect();
     assert!(lines.as_bytes() == expected);
 }
@@ -119,7 +119,28 @@ fn one_case_octet_by_octet() {
     assert_eq!(table, 1_496_256_907);
     let line = "5 read 0 3 1 884943376 1496256907\n";
     assert_eq!(outcome.line(5, "read"), line);
+    // One record is lent, and the ninth number stays.
+    let records = "5 read_records 0 3 1 884943376 1496256907\n";
+    assert_eq!(run::lines(5, &cases[0]), line.to_string() + records);
     assert_eq!(wire::encode(&cases[0]), octets);
+}
+
+/// Document 01 gives records the same answers: a remainder plays no part, and
+/// is there afterwards.
+#[test]
+fn records_have_the_answers_of_numbers() {
+    let (mut tables, mut remainders) = (0, 0);
+    for mut case in files::cases(13, 2_000) {
+        let records = run::run_records(&case);
+        let Some(table) = case.table_mut() else {
+            assert!(records.is_none());
+            continue;
+        };
+        tables += 1;
+        remainders += u32::from(table.room % 8 != 0);
+        assert_eq!(records, Some(run(&case)));
+    }
+    assert!(tables > 1_000 && remainders > 100, "{tables} {remainders}");
 }
 
 #[test]

@@ -139,6 +139,17 @@ impl Case {
         }
     }
 
+    /// The lent table, where there is one.
+    pub fn table_mut(&mut self) -> Option<&mut Lent<u32>> {
+        match self {
+            Case::Read { table, .. } => Some(table),
+            Case::Replace { pair, .. } | Case::Hint { pair, .. } | Case::Data { pair, .. } => {
+                Some(&mut pair.table)
+            }
+            Case::Write { .. } | Case::Same { .. } => None,
+        }
+    }
+
     /// The arguments with their names, in the order of the signature.
     pub fn arguments(&self) -> Vec<Named<'_>> {
         match self {
