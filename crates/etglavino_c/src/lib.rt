@@ -212,7 +212,7 @@ pub extern "C" fn etg_hint_records(
 ) -> u32
     ensures { λ r. ⌜ shown r (now (start .exit)) (now (end .exit)) ≡ shownOf (hintPart (now (canonical .entry)) length (numbers (now (records .entry))) nodes node) ⌝ }
 {
-    let place = records::hint_place(canonical, length, records, nodes, node);
+    let place = records::place(canonical, length, records, nodes, node, true);
     hand_place(place, start, end)
 }
 
@@ -228,6 +228,6 @@ pub extern "C" fn etg_data_records(
 ) -> u32
     ensures { λ r. ⌜ shown r (now (start .exit)) (now (end .exit)) ≡ shownOf (dataPart (now (canonical .entry)) length (numbers (now (records .entry))) nodes node) ⌝ }
 {
-    let place = records::data_place(canonical, length, records, nodes, node);
+    let place = records::place(canonical, length, records, nodes, node, false);
     hand_place(place, start, end)
 }

@@ -20,6 +20,7 @@ use denote.Array.{Array, array-typed, array-vals, array-tells}
 use denote.Slice.{Room, sliceTy}
 use denote.Struct.Laws as LL
 use borrow.Table.Elements.{length-take-le}
+use borrow.Rule.Array.Share.{room-take}
 use Rattle.records.specs.declared.Record.{Record}
 use Rattle.records.proofs.Record as T
 use Rattle.records.proofs.Record.Laws as T′
@@ -54,6 +55,10 @@ length-held xs v is = is .1 .0 .1
 
 pub taken : (xs : List Record) (v : Val) → Is Held xs (v ∷ []) → (n : ℕ) → n ≤ 8750 → length (take n xs) ≡ n
 taken xs v is n few = length-take-le n xs (subst (λ (m : ℕ). n ≤ m) (sym (length-held xs v is)) few)
+
+-- there is room for the first n
+pub front-room : (xs : List Record) (v : Val) → Is Held xs (v ∷ []) → (n : ℕ) → Room T.the-row (length (take n xs))
+front-room xs v is n = room-take T.the-row 8750 n xs (length-held xs v is) held-room
 
 module _ {M : Type 1} (𝓤 : URA M) (H : Heap 𝓤) (A : Atoms 𝓤) (W : Given 𝓤 H A) where
   pub held-typed : (xs : List Record) (v : Val) → Is Held xs (v ∷ []) → T (hasTy heldTy v) × WT v

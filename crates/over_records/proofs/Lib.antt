@@ -1,3 +1,2 @@
 pub mod Front
 pub mod Held
-pub mod PlaceWalk

@@ -7,30 +7,9 @@ use answers::Place;
 use answers::Reading;
 use records::Record;
 
-// `records::read`, lent the first n of these records, which are then spelled out in the table.
-fn read_held(
-    form: u32,
-    source: &[u8],
-    canonical: &mut [u8],
-    mut held: [Record; 8750],
-    n: usize,
-    table: &mut [u32],
-) -> Reading
-    requires { ⌜ n ≤ 8750 ⌝ }
-{
-    let answer = records::read(form, source, canonical, &mut held[..n]);
-    spelling::spell(held, table);
-    answer
-}
-
-pub fn read(form: u32, source: &[u8], canonical: &mut [u8], table: &mut [u32]) -> Reading {
-    let n = spelling::made_of(table.len());
-    let held = spelling::records_of(table);
-    read_held(form, source, canonical, held, n, table)
-}
-
-// `records::replace`, likewise.
-fn replace_held(
+// `records::replace` or `records::read`, lent the first n of these records, which are then spelled out in the table.
+fn answer_held(
+    replacing: bool,
     form: u32,
     text: &[u8],
     canonical: &mut [u8],
@@ -43,9 +22,19 @@ fn replace_held(
 ) -> Reading
     requires { ⌜ n ≤ 8750 ⌝ }
 {
-    let answer = records::replace(form, text, canonical, &mut held[..n], length, nodes, node);
+    let answer = if replacing {
+        records::replace(form, text, canonical, &mut held[..n], length, nodes, node)
+    } else {
+        records::read(form, text, canonical, &mut held[..n])
+    };
     spelling::spell(held, table);
     answer
+}
+
+pub fn read(form: u32, source: &[u8], canonical: &mut [u8], table: &mut [u32]) -> Reading {
+    let n = spelling::made_of(table.len());
+    let held = spelling::records_of(table);
+    answer_held(false, form, source, canonical, held, n, table, 0, 0, 0)
 }
 
 pub fn replace(
@@ -59,61 +48,51 @@ pub fn replace(
 ) -> Reading {
     let n = spelling::made_of(table.len());
     let held = spelling::records_of(table);
-    replace_held(form, text, canonical, held, n, table, length, nodes, node)
+    answer_held(
+        true,
+        form,
+        text,
+        canonical,
+        held,
+        n,
+        table,
+        length,
+        nodes,
+        node,
+    )
 }
 
-// `records::hint_place` and the three after it, lent the first n of these records.
-fn hint_place_held(
+// `records::place`, lent the first n of these records.
+fn place_held(
     canonical: &[u8],
     length: usize,
     held: [Record; 8750],
     n: usize,
     nodes: usize,
     node: usize,
+    hinted: bool,
 ) -> Place
     requires { ⌜ n ≤ 8750 ⌝ }
 {
-    records::hint_place(canonical, length, &held[..n], nodes, node)
+    records::place(canonical, length, &held[..n], nodes, node, hinted)
 }
 
-pub fn hint_place(
+pub fn place(
     canonical: &[u8],
     length: usize,
     table: &[u32],
     nodes: usize,
     node: usize,
+    hinted: bool,
 ) -> Place {
     let n = spelling::made_of(table.len());
     let held = spelling::records_of(table);
-    hint_place_held(canonical, length, held, n, nodes, node)
+    place_held(canonical, length, held, n, nodes, node, hinted)
 }
 
-fn data_place_held(
-    canonical: &[u8],
-    length: usize,
-    held: [Record; 8750],
-    n: usize,
-    nodes: usize,
-    node: usize,
-) -> Place
-    requires { ⌜ n ≤ 8750 ⌝ }
-{
-    records::data_place(canonical, length, &held[..n], nodes, node)
-}
-
-pub fn data_place(
-    canonical: &[u8],
-    length: usize,
-    table: &[u32],
-    nodes: usize,
-    node: usize,
-) -> Place {
-    let n = spelling::made_of(table.len());
-    let held = spelling::records_of(table);
-    data_place_held(canonical, length, held, n, nodes, node)
-}
-
-fn hint_held<'a>(
+// `records::hint` or `records::data`, lent the first n of these records.
+fn shown_held<'a>(
+    hinted: bool,
     canonical: &'a [u8],
     length: usize,
     held: [Record; 8750],
@@ -124,7 +103,11 @@ fn hint_held<'a>(
 ) -> &'a [u8]
     requires { ⌜ n ≤ 8750 ⌝ }
 {
-    records::hint(canonical, length, &held[..n], nodes, node, default_hint)
+    if hinted {
+        records::hint(canonical, length, &held[..n], nodes, node, default_hint)
+    } else {
+        records::data(canonical, length, &held[..n], nodes, node)
+    }
 }
 
 pub fn hint<'a>(
@@ -137,20 +120,7 @@ pub fn hint<'a>(
 ) -> &'a [u8] {
     let n = spelling::made_of(table.len());
     let held = spelling::records_of(table);
-    hint_held(canonical, length, held, n, nodes, node, default_hint)
-}
-
-fn data_held<'a>(
-    canonical: &'a [u8],
-    length: usize,
-    held: [Record; 8750],
-    n: usize,
-    nodes: usize,
-    node: usize,
-) -> &'a [u8]
-    requires { ⌜ n ≤ 8750 ⌝ }
-{
-    records::data(canonical, length, &held[..n], nodes, node)
+    shown_held(true, canonical, length, held, n, nodes, node, default_hint)
 }
 
 pub fn data<'a>(
@@ -162,5 +132,5 @@ pub fn data<'a>(
 ) -> &'a [u8] {
     let n = spelling::made_of(table.len());
     let held = spelling::records_of(table);
-    data_held(canonical, length, held, n, nodes, node)
+    shown_held(false, canonical, length, held, n, nodes, node, canonical)
 }

@@ -1,4 +1,4 @@
--- What the walks of `hint_place`, `data_place`, `hint` and `data` know of `place`, which each of them calls first: its contract, what it asks, and what it says.
+-- What the walks of `hint` and `data` know of `place`, which each of them calls first, and so what any other caller knows of it: its contract, what it asks, and what it says.
 use mathlib.Core.Path.{_≡_, refl}
 use Prim.Native.Nat.{ℕ, _<_, _^_}
 use mathlib.Core.Bool.{Bool}
@@ -28,8 +28,7 @@ use Rattle.answers.specs.Cases.{placed}
 use Rattle.answers.specs.declared.Place.{Place}
 use Rattle.answers.proofs.Place as P
 use Rattle.records.specs.declared.Record.{Record}
-use Rattle.records.specs.Numbers.{numbers}
-use Rattle.records.specs.Flat.{placeOf}
+use Rattle.records.specs.Numbers.{numbers, placeOf}
 use Rattle.records.proofs.Record as T
 use Rattle.records.proofs.place as place
 

@@ -12,8 +12,8 @@ use Rattle.answers.specs.declared.Place.{Place}
 use Rattle.answers.specs.declared.Place.the-variants as place
 use Rattle.lookup.proofs.Shown.{hint-ordered, hint-ended, data-ordered, data-ended}
 use Rattle.records.specs.declared.Record.{Record}
-use Rattle.records.specs.Numbers.{numbers}
-use Rattle.records.specs.Flat.{part, held, flattened, placeOf, Inside}
+use Rattle.records.specs.Numbers.{numbers, placeOf}
+use Rattle.records.specs.Flat.{part, held, flattened, Inside}
 use Rattle.records.proofs.Owning.{own-same}
 
 module _ (c : List ℕ) (len : ℕ) (t : List ℕ) (count node : ℕ) (h : Bool) (x : Option Part) where

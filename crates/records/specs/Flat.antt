@@ -1,15 +1,11 @@
 -- The flat copy of a table of records that the core works over: 32,768 numbers, which is 4,096 records.
 use Prim.Native.Nat.{ℕ, zero, suc, _+_, _*_, _≤_, max, min}
 use mathlib.Core.Path.{_≡_}
-use mathlib.Core.Bool.{Bool}
-use mathlib.Core.Option.{Option}
 use mathlib.Core.List.{List}
 use lib.ListN.{getD, set}
 use lib.Seq.{sets}
 use Rattle.model.specs.Limits.{maxNodes}
 use Rattle.model.specs.Table.{width}
-use Rattle.model.specs.Answers.{Part, hintPart, dataPart}
-use Rattle.base.specs.Choice.{pick}
 use Rattle.answers.specs.declared.Place.{Place}
 use Rattle.answers.specs.declared.Place.the-variants as place
 use Rattle.answers.specs.declared.Reading.{Reading}
@@ -66,10 +62,6 @@ touched (reading.Refused f) old = 0
 pub record Fills (r : Reading) (old room : ℕ) : Type 0 where
   pub lent : touched r old ≤ room
   pub few : touched r old ≤ maxNodes
-
--- where a node's hint or its data stands
-unfoldable pub placeOf : Bool → List ℕ → ℕ → List ℕ → ℕ → ℕ → Option Part
-placeOf hinted canonical len table count node = pick hinted (hintPart canonical len table count node) (dataPart canonical len table count node)
 
 -- a place is in a sheet of so many octets
 pub record Inside (p : Place) (n : ℕ) : Type 0 where

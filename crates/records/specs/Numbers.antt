@@ -1,6 +1,10 @@
--- The table that the host lends as records, as plain numbers.
+-- The table that the host lends as records, as plain numbers; and a node's hint or data, by one name.
 use Prim.Native.Nat.{ℕ}
+use mathlib.Core.Bool.{Bool}
+use mathlib.Core.Option.{Option}
 use mathlib.Core.List.{List, [], _∷_, _++_}
+use Rattle.base.specs.Choice.{pick}
+use Rattle.model.specs.Answers.{Part, hintPart, dataPart}
 use Rattle.records.specs.declared.Record.{Record}
 
 -- the eight numbers of a record, in 01's order
@@ -11,3 +15,7 @@ eight r = r .kind ∷ r .start ∷ r .end ∷ r .nodes ∷ r .«hint_start» ∷
 unfoldable pub numbers : List Record → List ℕ
 numbers [] = []
 numbers (r ∷ rs) = eight r ++ numbers rs
+
+-- where a node's hint stands, or its data: 01, "Asked for a node's hint, we show the part of the sheet that holds it …", "Asked for data …"
+unfoldable pub placeOf : Bool → List ℕ → ℕ → List ℕ → ℕ → ℕ → Option Part
+placeOf hinted canonical len table count node = pick hinted (hintPart canonical len table count node) (dataPart canonical len table count node)

@@ -5,7 +5,8 @@ ghost use Prim.Native.Nat.{_≤_};
 ghost use lib.ListN.{length, take};
 ghost use Rattle.model.specs.Answers.{reading, replacing};
 ghost use Rattle.answers.specs.Cases.{outcome, placed};
-ghost use Rattle.records.specs.Flat.{part, touched, held, placeOf};
+ghost use Rattle.records.specs.Numbers.{placeOf};
+ghost use Rattle.records.specs.Flat.{part, touched, held};
 use answers::Place;
 use answers::Reading;
 

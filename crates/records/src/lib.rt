@@ -6,10 +6,10 @@ ghost use mathlib.Core.Path.{_≡_};
 ghost use Prim.Native.Nat.{_<_};
 ghost use lib.ListN.{length};
 ghost use mathlib.Core.List.{[]};
-ghost use Rattle.model.specs.Answers.{reading, replacing, hintPart, dataPart, hintShown, dataShown, shownOr};
+ghost use Rattle.model.specs.Answers.{reading, replacing, hintShown, dataShown, shownOr};
 ghost use Rattle.answers.specs.Cases.{outcome, placed};
-ghost use Rattle.records.specs.Numbers.{numbers};
-ghost use Rattle.records.specs.Flat.{spelled, written, filled, flattened, touched, held, placeOf, Fills, Inside};
+ghost use Rattle.records.specs.Numbers.{numbers, placeOf};
+ghost use Rattle.records.specs.Flat.{spelled, written, filled, flattened, touched, held, Fills, Inside};
 use answers::Place;
 use answers::Reading;
 
@@ -128,8 +128,8 @@ pub fn replace(
     r
 }
 
-// Where a node's hint, or its data, stands by the records.
-fn place(
+// Where a node's hint stands, if it is a string with a hint; or where its data stands.
+pub fn place(
     canonical: &[u8],
     length: usize,
     records: &[Record],
@@ -142,32 +142,6 @@ fn place(
     let mut flat: [u32; 32768] = [0; 32768];
     flatten(records, &mut flat, nodes);
     flat::place(canonical, length, &flat, records.len(), nodes, node, hinted)
-}
-
-// Where a node's hint stands, if it is a string with a hint.
-pub fn hint_place(
-    canonical: &[u8],
-    length: usize,
-    records: &[Record],
-    nodes: usize,
-    node: usize,
-) -> Place
-    ensures { λ r. ⌜ placed r ≡ hintPart (now (canonical .entry)) length (numbers (now (records .entry))) nodes node ⌝ }
-{
-    place(canonical, length, records, nodes, node, true)
-}
-
-// Where a node's data stands.
-pub fn data_place(
-    canonical: &[u8],
-    length: usize,
-    records: &[Record],
-    nodes: usize,
-    node: usize,
-) -> Place
-    ensures { λ r. ⌜ placed r ≡ dataPart (now (canonical .entry)) length (numbers (now (records .entry))) nodes node ⌝ }
-{
-    place(canonical, length, records, nodes, node, false)
 }
 
 // The part of the sheet at a place, else what is given.

@@ -115,7 +115,7 @@ pub fn hint<'a>(
     default_hint: &'a [u8],
 ) -> Answer {
     if records {
-        let place = over_records::hint_place(canonical, length, table, nodes, node);
+        let place = over_records::place(canonical, length, table, nodes, node, true);
         let shown = over_records::hint(canonical, length, table, nodes, node, default_hint);
         of_place(place, canonical, shown, default_hint)
     } else {
@@ -134,7 +134,7 @@ pub fn data(
     node: usize,
 ) -> Answer {
     if records {
-        let place = over_records::data_place(canonical, length, table, nodes, node);
+        let place = over_records::place(canonical, length, table, nodes, node, false);
         let shown = over_records::data(canonical, length, table, nodes, node);
         of_place(place, canonical, shown, b"")
     } else {

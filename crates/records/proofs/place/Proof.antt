@@ -47,7 +47,8 @@ use Rattle.answers.specs.declared.Place.{Place}
 use Rattle.answers.proofs.Place as P
 use Rattle.answers.proofs.Place.Laws as P′
 use Rattle.records.specs.declared.Record.{Record}
-use Rattle.records.specs.Flat.{part, held, flattened, placeOf}
+use Rattle.records.specs.Flat.{part, held, flattened}
+use Rattle.records.specs.Numbers.{placeOf}
 use Rattle.records.proofs.Facts.{is-unit}
 use Rattle.records.proofs.Spelled.{word, placeTy, bytes, recs, Flat, flatTy, toFlat}
 use Rattle.records.proofs.Local.{zeros, length-zeros, zeros-typed, zeroed, at-local, lends-mut, mut-back, lends-const, const-back, dies}
