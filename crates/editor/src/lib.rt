@@ -76,7 +76,7 @@ fn replace_braced(
     requires { ⌜ Braced (now text) ⌝ }
     ensures { λ r. ⌜ outcome r (now (canonical .exit)) (now (table .exit)) ≡ replaceTree (decode₂ (now (text .entry))) (now (canonical .entry)) length (now (table .entry)) nodes node ⌝ }
 {
-    let mut decoded: [u8; 24576] = [0; 24576];
+    let mut decoded: [u8; limits::DECODED] = [0; limits::DECODED];
     match texts::unbrace(classes, letters, text, &mut decoded) {
         Unbraced::Octets { len } => {
             let part = &decoded[..len];

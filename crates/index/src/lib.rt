@@ -82,7 +82,7 @@ fn put_row(table: &mut [u32], node: usize, row: Row)
     requires { ⌜ width * (node + 1) ≤ length (now table) ⌝ }
     ensures { λ r. ⌜ now (table .exit) ≡ sets (now (table .entry)) (width * node) (rowList row) ⌝ }
 {
-    let at = node * 8;
+    let at = node * limits::WIDTH;
     table[at] = row.kind;
     table[at + 1] = row.start;
     table[at + 2] = row.end;
@@ -98,7 +98,7 @@ fn row_is(table: &[u32], node: usize, row: Row) -> bool
     requires { ⌜ (node ≤ 32768) × (width * (node + 1) ≤ length (now table)) ⌝ }
     ensures { λ r. ⌜ r ≡ equal (recordAt (now (table .entry)) node) (rowList row) ⌝ }
 {
-    let at = node * 8;
+    let at = node * limits::WIDTH;
     if table[at] != row.kind {
         return false;
     }
@@ -160,8 +160,8 @@ pub fn index(src: &[u8], table: &mut [u32])
     requires { ⌜ Indexable (now src) (length (now table)) ⌝ }
     ensures { λ r. ⌜ now (table .exit) ≡ sets (now (table .entry)) 0 (tableOf (the (decode₁ (now (src .entry))))) ⌝ }
 {
-    let mut starts: [usize; 32] = [0; 32];
-    let mut counts: [usize; 32] = [0; 32];
+    let mut starts: [usize; limits::DEPTH] = [0; limits::DEPTH];
+    let mut counts: [usize; limits::DEPTH] = [0; limits::DEPTH];
     let mut opened: usize = 0;
     let mut seen: usize = 0;
     let mut at: usize = 0;
@@ -242,8 +242,8 @@ pub fn own(src: &[u8], table: &[u32], count: usize) -> bool
     requires { ⌜ Judgeable (length (now src)) (length (now table)) count ⌝ }
     ensures { λ r. ⌜ r ≡ owned (now (src .entry)) (now (table .entry)) count ⌝ }
 {
-    let mut starts: [usize; 32] = [0; 32];
-    let mut counts: [usize; 32] = [0; 32];
+    let mut starts: [usize; limits::DEPTH] = [0; limits::DEPTH];
+    let mut counts: [usize; limits::DEPTH] = [0; limits::DEPTH];
     let mut opened: usize = 0;
     let mut seen: usize = 0;
     let mut at: usize = 0;
@@ -259,7 +259,7 @@ pub fn own(src: &[u8], table: &[u32], count: usize) -> bool
         }
         match canonical::lexeme_at(src, at) {
             Item::Open => {
-                if opened >= 32 {
+                if opened >= limits::DEPTH {
                     return false;
                 }
                 if seen >= count {

@@ -20,7 +20,7 @@ pub fn sheet(canonical: &[u8], length: usize) -> bool
     if length > canonical.len() {
         return false;
     }
-    if length > 16384 {
+    if length > limits::CANONICAL {
         return false;
     }
     let part = &canonical[..length];
@@ -30,10 +30,10 @@ pub fn sheet(canonical: &[u8], length: usize) -> bool
             nodes,
             depth,
         } => {
-            if depth > 32 {
+            if depth > limits::DEPTH {
                 return false;
             }
-            nodes <= 4096
+            nodes <= limits::NODES
         }
         Extent::Refused => false,
     }
@@ -46,13 +46,13 @@ pub fn own_sheet(canonical: &[u8], length: usize, table: &[u32], nodes: usize) -
     if length > canonical.len() {
         return false;
     }
-    if length > 16384 {
+    if length > limits::CANONICAL {
         return false;
     }
-    if nodes > 4096 {
+    if nodes > limits::NODES {
         return false;
     }
-    if nodes > table.len() / 8 {
+    if nodes > table.len() / limits::WIDTH {
         return false;
     }
     let part = &canonical[..length];
@@ -64,7 +64,7 @@ pub fn number(table: &[u32], node: usize, k: usize) -> usize
     requires { ⌜ InRecord (length (now table)) node k ⌝ }
     ensures { λ r. ⌜ r ≡ getD (now (table .entry)) (node * 8 + k) 0 ⌝ }
 {
-    table[node * 8 + k] as usize
+    table[node * limits::WIDTH + k] as usize
 }
 
 // Where a node's hint stands, if it is a string with a hint.

@@ -17,16 +17,16 @@ use walk::Extent;
 pub fn room(len: usize, nodes: usize, depth: usize, octets: usize, numbers: usize) -> u32
     ensures { λ r. ⌜ r ≡ roomVerdict depth nodes len octets numbers ⌝ }
 {
-    if depth > 32 {
+    if depth > limits::DEPTH {
         return 4;
     }
-    if nodes > 4096 {
+    if nodes > limits::NODES {
         return 5;
     }
-    if nodes > numbers / 8 {
+    if nodes > numbers / limits::WIDTH {
         return 5;
     }
-    if len > 16384 {
+    if len > limits::CANONICAL {
         return 6;
     }
     if len > octets {
@@ -85,7 +85,7 @@ fn read_braced(
     requires { ⌜ Braced (now source) ⌝ }
     ensures { λ r. ⌜ outcome r (now (canonical .exit)) (now (table .exit)) ≡ readTree (decode₂ (now (source .entry))) (now (canonical .entry)) (now (table .entry)) ⌝ }
 {
-    let mut decoded: [u8; 24576] = [0; 24576];
+    let mut decoded: [u8; limits::DECODED] = [0; limits::DECODED];
     match texts::unbrace(classes, letters, source, &mut decoded) {
         Unbraced::Octets { len } => {
             let part = &decoded[..len];

@@ -25,19 +25,27 @@ pub fn held_of(room: usize, nodes: usize) -> usize
     ensures { λ n. ⌜ n ≡ held room nodes ⌝ }
 {
     if room < nodes {
-        if room < 4096 {
+        if room < limits::NODES {
             return room;
         }
-        return 4096;
+        return limits::NODES;
     }
-    if nodes < 4096 { nodes } else { 4096 }
+    if nodes < limits::NODES {
+        nodes
+    } else {
+        limits::NODES
+    }
 }
 
 // How many numbers of the flat table stand for a table of `room` records.
 fn part_of(room: usize) -> usize
     ensures { λ n. ⌜ n ≡ part room ⌝ }
 {
-    if room < 4096 { 8 * room } else { 32768 }
+    if room < limits::NODES {
+        limits::WIDTH * room
+    } else {
+        limits::NUMBERS
+    }
 }
 
 // Reading, into the first n numbers of a table.
@@ -54,7 +62,7 @@ pub fn read(
     form: u32,
     source: &[u8],
     canonical: &mut [u8],
-    flat: &mut [u32; 32768],
+    flat: &mut [u32; limits::NUMBERS],
     room: usize,
 ) -> Reading
     ensures { λ r. ⌜ outcome r (now (canonical .exit)) (take (part room) (now (flat .exit))) ≡ reading form (now (source .entry)) (now (canonical .entry)) (take (part room) (now (flat .entry))) ⌝ }
@@ -86,7 +94,7 @@ pub fn replace(
     form: u32,
     text: &[u8],
     canonical: &mut [u8],
-    flat: &mut [u32; 32768],
+    flat: &mut [u32; limits::NUMBERS],
     room: usize,
     len: usize,
     nodes: usize,
@@ -123,7 +131,7 @@ fn place_part(
 pub fn place(
     canonical: &[u8],
     len: usize,
-    flat: &[u32; 32768],
+    flat: &[u32; limits::NUMBERS],
     room: usize,
     nodes: usize,
     node: usize,

@@ -27,11 +27,11 @@ pub struct Record {
 }
 
 // The record that the eight numbers from `8 * i` on spell.
-fn decode(flat: &[u32; 32768], i: usize) -> Record
+fn decode(flat: &[u32; limits::NUMBERS], i: usize) -> Record
     requires { ⌜ i < 4096 ⌝ }
     ensures { λ r. ⌜ r ≡ spelled (now (flat .entry)) i ⌝ }
 {
-    let at = 8 * i;
+    let at = limits::WIDTH * i;
     Record {
         kind: flat[at],
         start: flat[at + 1],
@@ -45,11 +45,11 @@ fn decode(flat: &[u32; 32768], i: usize) -> Record
 }
 
 // Eight numbers, from `8 * i` on, spell `r`.
-fn encode(flat: &mut [u32; 32768], i: usize, r: Record)
+fn encode(flat: &mut [u32; limits::NUMBERS], i: usize, r: Record)
     requires { ⌜ i < 4096 ⌝ }
     ensures { λ _. ⌜ now (flat .exit) ≡ written (now (flat .entry)) i r ⌝ }
 {
-    let at = 8 * i;
+    let at = limits::WIDTH * i;
     flat[at] = r.kind;
     flat[at + 1] = r.start;
     flat[at + 2] = r.end;
@@ -61,7 +61,7 @@ fn encode(flat: &mut [u32; 32768], i: usize, r: Record)
 }
 
 // The records that an answer touches become those that `flat` spells.
-fn fill(records: &mut [Record], flat: &[u32; 32768], r: Reading, old: usize)
+fn fill(records: &mut [Record], flat: &[u32; limits::NUMBERS], r: Reading, old: usize)
     requires { ⌜ Fills r old (length (now records)) ⌝ }
     ensures { λ _. ⌜ now (records .exit) ≡ filled (now (flat .entry)) (touched r old) (now (records .entry)) ⌝ }
 {
@@ -75,7 +75,7 @@ fn fill(records: &mut [Record], flat: &[u32; 32768], r: Reading, old: usize)
 }
 
 // The records in use are spelled out in `flat`.
-fn flatten(records: &[Record], flat: &mut [u32; 32768], nodes: usize)
+fn flatten(records: &[Record], flat: &mut [u32; limits::NUMBERS], nodes: usize)
     ensures { λ _. ⌜ now (flat .exit) ≡ flattened (now (records .entry)) (held (length (now (records .entry))) nodes) (now (flat .entry)) ⌝ }
 {
     let n = flat::held_of(records.len(), nodes);
@@ -92,7 +92,7 @@ fn flatten(records: &[Record], flat: &mut [u32; 32768], nodes: usize)
 pub fn read(form: u32, source: &[u8], canonical: &mut [u8], records: &mut [Record]) -> Reading
     ensures { λ r. ⌜ outcome r (now (canonical .exit)) (numbers (now (records .exit))) ≡ reading form (now (source .entry)) (now (canonical .entry)) (numbers (now (records .entry))) ⌝ }
 {
-    let mut flat: [u32; 32768] = [0; 32768];
+    let mut flat: [u32; limits::NUMBERS] = [0; limits::NUMBERS];
     let r = flat::read(form, source, canonical, &mut flat, records.len());
     fill(records, &flat, r, 0);
     r
@@ -112,7 +112,7 @@ pub fn replace(
 ) -> Reading
     ensures { λ r. ⌜ outcome r (now (canonical .exit)) (numbers (now (records .exit))) ≡ replacing form (now (text .entry)) (now (canonical .entry)) (numbers (now (records .entry))) length nodes node ⌝ }
 {
-    let mut flat: [u32; 32768] = [0; 32768];
+    let mut flat: [u32; limits::NUMBERS] = [0; limits::NUMBERS];
     flatten(records, &mut flat, nodes);
     let r = flat::replace(
         form,
@@ -139,7 +139,7 @@ pub fn place(
 ) -> Place
     ensures { λ r. ⌜ placed r ≡ placeOf hinted (now (canonical .entry)) length (numbers (now (records .entry))) nodes node ⌝ }
 {
-    let mut flat: [u32; 32768] = [0; 32768];
+    let mut flat: [u32; limits::NUMBERS] = [0; limits::NUMBERS];
     flatten(records, &mut flat, nodes);
     flat::place(canonical, length, &flat, records.len(), nodes, node, hinted)
 }

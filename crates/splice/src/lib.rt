@@ -35,7 +35,11 @@ pub fn finish(
     let part = &canonical[..len];
     index::index(part, table);
     moves::zero(canonical, len, walk::larger(old, len));
-    moves::zero_numbers(table, count * 8, walk::larger(held, count) * 8);
+    moves::zero_numbers(
+        table,
+        count * limits::WIDTH,
+        walk::larger(held, count) * limits::WIDTH,
+    );
     Reading::Accepted {
         length: len,
         nodes: count,

@@ -27,7 +27,7 @@ pub fn row(form: u32, len: usize) -> u32
     if form > 3 {
         return 1;
     }
-    if len > 32768 {
+    if len > limits::SOURCE {
         return 2;
     }
     0
@@ -54,7 +54,7 @@ pub fn unbrace(
     classes: &[u8; 256],
     letters: &[u8; 256],
     text: &[u8],
-    decoded: &mut [u8; 24576],
+    decoded: &mut [u8; limits::DECODED],
 ) -> Unbraced
     requires { ⌜ Classed (now classes) ⌝ }
     requires { ⌜ Lettered (now letters) ⌝ }
