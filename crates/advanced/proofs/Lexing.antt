@@ -6,6 +6,7 @@ use mathlib.Core.List.{List}
 use lib.ListN.{length, drop, getD, length-append, length-drop, drop-of-length-le}
 use lib.Dec.{eqb}
 use borrow.Author.Tests.{eq-eqb, ne-eqb, eqb-true}
+use Rattle.model.specs.Limits.{maxSource}
 use Rattle.base.proofs.Cases.{differ, picked, unpicked}
 use Rattle.model.specs.Edit.{within}
 use Rattle.model.specs.Lexemes.{opening, closing, atom, hinting, closeHint, lexeme}
@@ -193,5 +194,5 @@ module _ (src : List ℕ) (at : ℕ) (h : at < length src) (c : ℕ) (k : Class 
   token-here lo hi end r = record { from = omega (arith, r .from); within = r .within; is = λ g. lex-token end (omega arith) (omega arith) r }
 
 -- how long a verbatim string is
-pub long-is : (n w : ℕ) → n ≤ 32768 → Wide n w → Long n (w + 1 + n)
+pub long-is : (n w : ℕ) → n ≤ maxSource → Wide n w → Long n (w + 1 + n)
 long-is n w h x = record { is = ap (λ (y : ℕ). y + 1 + n) (x .is); low = omega (arith, x .few) }

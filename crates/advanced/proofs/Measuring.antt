@@ -7,6 +7,7 @@ use mathlib.Core.Option.{Option, none, some}
 use mathlib.Core.List.{List, [], _∷_, _++_, append-assoc, append-nil}
 use lib.ListN.{length, drop, getD, length-append, drop-of-length-le}
 use borrow.Author.Tests.{eq-eqb, ne-eqb}
+use Rattle.model.specs.Limits.{maxSource}
 use Rattle.base.specs.Choice.{chain}
 use Rattle.base.proofs.Cases.{picked, unpicked}
 use Rattle.model.specs.Compare.{same}
@@ -145,7 +146,7 @@ module _ (src : List ℕ) (at o d n len : ℕ) (w : Walking src at o d n len) (i
 
       -- a token
       module _ (end : ℕ) (t : Tokened src i end) (g : i < end) where
-        pub token-small : length src ≤ 32768 → end - i ≤ 32768
+        pub token-small : length src ≤ maxSource → end - i ≤ maxSource
         token-small b = omega (arith, t .within)
 
         pub token-less : length src - end < length src - at
@@ -202,7 +203,7 @@ module _ (src : List ℕ) (at o d n len : ℕ) (w : Walking src at o d n len) (i
         close-less next z = let s : Stepped src (lexeme (drop i src)) closing i next = to-close next z in omega (arith, s .on, s .within, p .from)
 
         module _ (kind l body next : ℕ) (z : r ≡ Atom kind l body next) where
-          pub atom-small : length src ≤ 32768 → l ≤ 32768
+          pub atom-small : length src ≤ maxSource → l ≤ maxSource
           atom-small b = omega (arith, to-atom kind l body next z .again .small)
 
           pub atom-less : length src - next < length src - at
@@ -212,10 +213,10 @@ module _ (src : List ℕ) (at o d n len : ℕ) (w : Walking src at o d n len) (i
           atom-on a g = atom-by r v kind l body next z a g
 
         module _ (hk hl hb kind l body next : ℕ) (z : r ≡ Hinted hk hl hb kind l body next) where
-          pub hint-small : length src ≤ 32768 → hl ≤ 32768
+          pub hint-small : length src ≤ maxSource → hl ≤ maxSource
           hint-small b = omega (arith, to-hinted hk hl hb kind l body next z .hint-again .small)
 
-          pub hinted-small : length src ≤ 32768 → l ≤ 32768
+          pub hinted-small : length src ≤ maxSource → l ≤ maxSource
           hinted-small b = omega (arith, to-hinted hk hl hb kind l body next z .again .small)
 
           pub hinted-less : length src - next < length src - at

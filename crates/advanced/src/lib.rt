@@ -1,6 +1,7 @@
 // Advanced text: the lexeme at a place, and the sizes of the tree that a text means.
 ghost use Prim.Native.Nat.{_≤_, _<_};
 ghost use lib.ListN.{length};
+ghost use Rattle.model.specs.Limits.{maxSource};
 ghost use Rattle.model.specs.Decode.{decode₃};
 ghost use Rattle.walk.specs.Extent.{Measures};
 ghost use Rattle.octets.specs.Classes.{Classed, Lettered};
@@ -48,7 +49,7 @@ fn after_hint(
 ) -> Item
     requires { ⌜ Classed (now classes) ⌝ }
     requires { ⌜ Lettered (now letters) ⌝ }
-    requires { ⌜ (at ≤ length (now src)) × (length (now src) ≤ 32768) ⌝ }
+    requires { ⌜ (at ≤ length (now src)) × (length (now src) ≤ maxSource) ⌝ }
     ensures { λ r. ⌜ Closes (now (src .entry)) at hk hl hb r ⌝ }
 {
     let j = skip_at(classes, src, at);
@@ -99,7 +100,7 @@ pub fn token_end(classes: &[u8; 256], src: &[u8], at: usize) -> usize
 pub fn lexeme_at(classes: &[u8; 256], letters: &[u8; 256], src: &[u8], at: usize) -> Item
     requires { ⌜ Classed (now classes) ⌝ }
     requires { ⌜ Lettered (now letters) ⌝ }
-    requires { ⌜ (at < length (now src)) × (length (now src) ≤ 32768) ⌝ }
+    requires { ⌜ (at < length (now src)) × (length (now src) ≤ maxSource) ⌝ }
     ensures { λ r. ⌜ ItemAt (now (src .entry)) at r ⌝ }
 {
     let c = octets::class_of(classes, src[at]);
@@ -140,7 +141,7 @@ pub fn lexeme_at(classes: &[u8; 256], letters: &[u8; 256], src: &[u8], at: usize
 
 // How long a verbatim string of n octets is.
 pub fn verbatim_len(n: usize) -> usize
-    requires { ⌜ n ≤ 32768 ⌝ }
+    requires { ⌜ n ≤ maxSource ⌝ }
     ensures { λ r. ⌜ Long n r ⌝ }
 {
     decimal::width(n) + 1 + n
@@ -150,7 +151,7 @@ pub fn verbatim_len(n: usize) -> usize
 pub fn measure(classes: &[u8; 256], letters: &[u8; 256], src: &[u8]) -> Extent
     requires { ⌜ Classed (now classes) ⌝ }
     requires { ⌜ Lettered (now letters) ⌝ }
-    requires { ⌜ length (now src) ≤ 32768 ⌝ }
+    requires { ⌜ length (now src) ≤ maxSource ⌝ }
     ensures { λ r. ⌜ Measures (decode₃ (now (src .entry))) r ⌝ }
 {
     let mut at: usize = 0;

@@ -1,7 +1,7 @@
 -- Letters of values, and the octets of a group as they are written.
 use Prim.Native.Nat.{ℕ, _+_, _-_, _≤_, _<_}
 use native.Mathlib.Omega.{arith}
-use mathlib.Core.Path.{_≡_, refl, sym, _∙_}
+use mathlib.Core.Path.{_≡_, refl}
 use mathlib.Core.List.{List}
 use lib.ListN.{length, take, getD, set, length-set}
 use native.Mathlib.Numerals.{add-one, add-two}

@@ -24,7 +24,6 @@ use Rattle.walk.proofs.Chained.{walking, walking-shut, walking-step, walking-st
 use Rattle.canonical.specs.Lexed.{Plainly, Hintedly, ItemAt}
 use Rattle.canonical.specs.declared.Item.{Item}
 use Rattle.canonical.specs.declared.Item.the-variants.{Open, Close, Plain, Hinted, Other}
-use Rattle.walk.specs.declared.Extent.{Extent}
 use Rattle.walk.specs.declared.Extent.the-variants.{Whole, Refused}
 
 -- walking on from here gives what walking from the start gives

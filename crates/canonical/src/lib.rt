@@ -1,6 +1,7 @@
 // Canonical text: the lexeme at a place, and the sizes of the tree that a text is.
 ghost use Prim.Native.Nat.{_≤_, _<_};
 ghost use lib.ListN.{length};
+ghost use Rattle.model.specs.Limits.{maxSource};
 ghost use Rattle.canonical.specs.Lexed.{Follows, Spans, Closes, ItemAt};
 ghost use Rattle.model.specs.Decode.{decode₁};
 ghost use Rattle.walk.specs.Extent.{Measures};
@@ -32,7 +33,7 @@ pub enum Item {
 
 // What follows a length n.
 fn after_length(src: &[u8], at: usize, n: usize) -> Span
-    requires { ⌜ (at ≤ length (now src)) × (length (now src) ≤ 32768) ⌝ }
+    requires { ⌜ (at ≤ length (now src)) × (length (now src) ≤ maxSource) ⌝ }
     ensures { λ r. ⌜ Follows (now (src .entry)) at n r ⌝ }
 {
     if at >= src.len() {
@@ -53,7 +54,7 @@ fn after_length(src: &[u8], at: usize, n: usize) -> Span
 
 // The verbatim string at a place.
 fn verbatim_at(src: &[u8], at: usize) -> Span
-    requires { ⌜ (at ≤ length (now src)) × (length (now src) ≤ 32768) ⌝ }
+    requires { ⌜ (at ≤ length (now src)) × (length (now src) ≤ maxSource) ⌝ }
     ensures { λ r. ⌜ Spans (now (src .entry)) at r ⌝ }
 {
     if at >= src.len() {
@@ -74,7 +75,7 @@ fn verbatim_at(src: &[u8], at: usize) -> Span
 
 // What follows a hint that stands from `from` to `to`.
 fn after_hint(src: &[u8], from: usize, to: usize) -> Item
-    requires { ⌜ (to ≤ length (now src)) × (length (now src) ≤ 32768) ⌝ }
+    requires { ⌜ (to ≤ length (now src)) × (length (now src) ≤ maxSource) ⌝ }
     ensures { λ r. ⌜ Closes (now (src .entry)) from to r ⌝ }
 {
     if to >= src.len() {
@@ -96,7 +97,7 @@ fn after_hint(src: &[u8], from: usize, to: usize) -> Item
 
 // The lexeme at a place.
 pub fn lexeme_at(src: &[u8], at: usize) -> Item
-    requires { ⌜ (at < length (now src)) × (length (now src) ≤ 32768) ⌝ }
+    requires { ⌜ (at < length (now src)) × (length (now src) ≤ maxSource) ⌝ }
     ensures { λ r. ⌜ ItemAt (now (src .entry)) at r ⌝ }
 {
     let b = src[at];
@@ -121,7 +122,7 @@ pub fn lexeme_at(src: &[u8], at: usize) -> Item
 
 // The sizes of the tree that a text is. No limit plays a part.
 pub fn measure(src: &[u8]) -> Extent
-    requires { ⌜ length (now src) ≤ 32768 ⌝ }
+    requires { ⌜ length (now src) ≤ maxSource ⌝ }
     ensures { λ r. ⌜ Measures (decode₁ (now (src .entry))) r ⌝ }
 {
     let mut at: usize = 0;

@@ -8,7 +8,7 @@ use lib.ListN.{length, getD, set, length-set}
 use lib.Seq.{getD-set-same, getD-set-other}
 use borrow.Author.Tests.{lt-ltb, le-ltb}
 use Rattle.base.proofs.Cases.{picked, unpicked, by-eq}
-use Rattle.cases.specs.Wire.{little4, number4At, lentOctet, lentNumber, Filled}
+use Rattle.cases.specs.Wire.{number4At, lentOctet, lentNumber, Filled}
 use Rattle.cases.proofs.Numbers.{number4-here}
 
 pub octet-given : (given : List ℕ) (fill i : ℕ) → i < length given → getD given i 0 ≡ lentOctet given fill i

@@ -5,6 +5,7 @@ use mathlib.Core.Path.{_≡_, refl, sym, ap, _∙_}
 use mathlib.Core.List.{List, [], _∷_}
 use lib.ListN.{length, length-append, set, length-set}
 use lib.Seq.{sets, set-comm}
+use Rattle.model.specs.Limits.{maxSource}
 use Rattle.model.specs.Tree.{digits}
 use Rattle.model.proofs.Digits.{digits-small, digits-more}
 use Rattle.model.proofs.Sizes.{digits-length}
@@ -39,7 +40,7 @@ wide-3 n h k = record { is = sym (three-width n h k); few = omega arith }
 pub wide-4 : (n : ℕ) → 1000 ≤ n → n < 10000 → Wide n 4
 wide-4 n h k = record { is = sym (four-width n h k); few = omega arith }
 
-pub wide-5 : (n : ℕ) → 10000 ≤ n → n ≤ 32768 → Wide n 5
+pub wide-5 : (n : ℕ) → 10000 ≤ n → n ≤ maxSource → Wide n 5
 wide-5 n h k = record { is = omega (arith, more-width n (omega arith), four-width (n / 10) (omega arith) (omega arith)); few = omega arith }
 
 -- a store after a run may come before it

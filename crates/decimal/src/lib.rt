@@ -3,6 +3,7 @@ ghost use mathlib.Core.Path.{_≡_};
 ghost use mathlib.Core.Bool.{true};
 ghost use Prim.Native.Nat.{_+_, _≤_, _<_};
 ghost use lib.ListN.{length, drop, getD};
+ghost use Rattle.model.specs.Limits.{maxSource};
 ghost use Rattle.model.specs.Octets.{isDigit};
 ghost use Rattle.model.specs.Strings.{number, decimal};
 ghost use Rattle.model.specs.Tree.{digits};
@@ -17,7 +18,7 @@ pub enum Number {
 
 // Digits. The value is tested at each, so that it never wraps, however many digits there are.
 pub fn number_at(src: &[u8], at: usize) -> Number
-    requires { ⌜ (at ≤ length (now src)) × (length (now src) ≤ 32768) ⌝ }
+    requires { ⌜ (at ≤ length (now src)) × (length (now src) ≤ maxSource) ⌝ }
     ensures { λ r. ⌜ Numbered (now (src .entry)) (number 0 (drop at (now (src .entry)))) at r ⌝ }
 {
     let mut value: usize = 0;
@@ -41,7 +42,7 @@ pub fn number_at(src: &[u8], at: usize) -> Number
 
 // A decimal, whose first digit is at `at`: 0 stands alone.
 pub fn decimal_at(src: &[u8], at: usize) -> Number
-    requires { ⌜ (at < length (now src)) × (length (now src) ≤ 32768) × (isDigit (getD (now src) at 0) ≡ true) ⌝ }
+    requires { ⌜ (at < length (now src)) × (length (now src) ≤ maxSource) × (isDigit (getD (now src) at 0) ≡ true) ⌝ }
     ensures { λ r. ⌜ Numbered (now (src .entry)) (decimal (getD (now (src .entry)) at 0) (drop (at + 1) (now (src .entry)))) at r ⌝ }
 {
     if src[at] == 48 {
@@ -55,7 +56,7 @@ pub fn decimal_at(src: &[u8], at: usize) -> Number
 
 // How many digits a number has.
 pub fn width(n: usize) -> usize
-    requires { ⌜ n ≤ 32768 ⌝ }
+    requires { ⌜ n ≤ maxSource ⌝ }
     ensures { λ r. ⌜ Wide n r ⌝ }
 {
     if n < 10 {
@@ -75,7 +76,7 @@ pub fn width(n: usize) -> usize
 
 // The digits of a number; the place after them. The last digit is written first.
 pub fn put_decimal(n: usize, out: &mut [u8], pos: usize) -> usize
-    requires { ⌜ (n ≤ 32768) × (pos + length (digits n) ≤ length (now out)) ⌝ }
+    requires { ⌜ (n ≤ maxSource) × (pos + length (digits n) ≤ length (now out)) ⌝ }
     ensures { λ r. ⌜ Wrote (digits n) pos (now (out .entry)) (now (out .exit)) r ⌝ }
 {
     let end = pos + width(n);

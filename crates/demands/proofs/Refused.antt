@@ -2,7 +2,6 @@
 use Prim.Native.Nat.{ℕ, _<_}
 use native.Mathlib.Omega.{arith}
 use mathlib.Core.Path.{_≡_, refl, ap, ap₂, _∙_, subst}
-use mathlib.Core.Bool.{false}
 use mathlib.Core.Option.{Option}
 use mathlib.Core.List.{List}
 use lib.Dec.{leb}

@@ -6,7 +6,7 @@ use mathlib.Core.Bool.{true}
 use mathlib.Core.Option.{some}
 use mathlib.Core.List.{List}
 use lib.ListN.{length, take}
-use Rattle.model.specs.Answers.{the, settled, fits, sheetTree, filled, reading, written, writing}
+use Rattle.model.specs.Answers.{the, settled, fits, sheetTree, filled, reading, writing}
 use Rattle.model.specs.Decode.{decode}
 use Rattle.model.specs.Table.{tableOf, records}
 use Rattle.model.specs.Tree.{Tree, nodes, Bytes}

@@ -11,7 +11,7 @@ use Rattle.base.specs.Choice.{isNone}
 use Rattle.model.specs.Answers.{the, settled, Outcome, unchanged, filled}
 use Rattle.model.specs.Decode.{decode₁}
 use Rattle.model.specs.Edit.{replace}
-use Rattle.model.specs.Limits.{Accepted}
+use Rattle.model.specs.Limits.{Accepted, maxCanonical}
 use Rattle.model.specs.Table.{width, tableOf}
 use Rattle.model.specs.Tree.{Tree, canon, nodes, depth}
 use Rattle.model.proofs.Exact.{canon-complete}
@@ -126,7 +126,7 @@ module _ (o : Option Tree) (canonical : List ℕ) (len : ℕ) (table : List ℕ)
             record { ordered = in-order .0; ended = in-order .1; lent = lent; fits = omega (arith, new-long, takes .long, takes .lent) }
 
         module _ (canonical₁ : List ℕ) (g₁ : canonical₁ ≡ sets canonical (start + n) (take (len - end) (drop end canonical))) where
-          pub text-room : (start + n ≤ length canonical₁) × (start ≤ 16384)
+          pub text-room : (start + n ≤ length canonical₁) × (start ≤ maxCanonical)
           text-room = (
             omega (arith, ap length g₁, length-sets canonical (start + n) (take (len - end) (drop end canonical)), gap-room .fits),
             omega (arith, in-order .0, in-order .1, at-node .short),

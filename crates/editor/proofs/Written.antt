@@ -7,6 +7,7 @@ use mathlib.Core.Option.{Option}
 use mathlib.Core.List.{List}
 use lib.ListN.{length, take, drop}
 use lib.Seq.{sets}
+use Rattle.model.specs.Limits.{maxSource}
 use Rattle.model.specs.Answers.{the}
 use Rattle.model.specs.Tree.{Tree, canon}
 use Rattle.walk.specs.Extent.{Wholly, Measures}
@@ -23,7 +24,7 @@ use Rattle.walk.specs.declared.Extent.the-variants as extent
 use Rattle.plan.specs.declared.Plan.{Plan}
 use Rattle.plan.specs.declared.Plan.the-variants.{Fits}
 
-module _ (b : Bool) (text : List ℕ) (short : length text ≤ 32768) (canonical : List ℕ) (len : ℕ) (table : List ℕ) (count node : ℕ) (x : Extent) (m : Measures (decodeBy b text) x) (n k d : ℕ) (e : x ≡ extent.Whole n k d) where
+module _ (b : Bool) (text : List ℕ) (short : length text ≤ maxSource) (canonical : List ℕ) (len : ℕ) (table : List ℕ) (count node : ℕ) (x : Extent) (m : Measures (decodeBy b text) x) (n k d : ℕ) (e : x ≡ extent.Whole n k d) where
   abbrev meant : Wholly (decodeBy b text) n k d
   meant = whole (decodeBy b text) canonical len table count node x m n k d e
 

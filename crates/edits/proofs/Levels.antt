@@ -1,6 +1,6 @@
 -- The lists around a node are the earlier nodes that count it among theirs; and they alone decide whether a tree that fits
 -- gets too deep when the node is replaced.
-use Prim.Native.Nat.{ℕ, zero, suc, _+_, _≤_, _<_}
+use Prim.Native.Nat.{ℕ, suc, _+_, _≤_, _<_}
 use native.Mathlib.Omega.{arith}
 use native.Mathlib.Nat.{add-zero, zero-add}
 use mathlib.Core.Path.{_≡_, refl, sym, ap, ap₂, _∙_}

@@ -6,6 +6,7 @@ use mathlib.Core.Option.{Option, some}
 use mathlib.Core.List.{List, [], _∷_, _++_}
 use lib.ListN.{length, drop, getD, length-append, drop-of-length-le, set}
 use lib.Seq.{sets, length-sets}
+use Rattle.model.specs.Limits.{maxSource}
 use Rattle.base.proofs.Cases.{none-some, chain-cases}
 use Rattle.base.proofs.Stores.{sets-append}
 use Rattle.model.specs.Answers.{the, fits}
@@ -39,7 +40,7 @@ pub record Emitting (src out₀ : List ℕ) (pos : ℕ) (out : List ℕ) (o at :
   pub place : o + length (octetsOfLexemes left) ≡ pos + length (canon (given .tree))
   pub long : length out ≡ length out₀
   pub inside : at ≤ length src
-  pub short : length src ≤ 32768
+  pub short : length src ≤ maxSource
   pub near : o ≤ 200000
 
 pub emit-start : (src out : List ℕ) (pos : ℕ) → Emittable src pos (length out) → Emitting src out pos out pos 0

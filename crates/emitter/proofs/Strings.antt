@@ -8,6 +8,7 @@ use lib.ListN.{length, drop, length-append, set, length-set}
 use lib.Seq.{sets, length-sets}
 use mir.Val.{Fits}
 use mir.Syntax.{w64}
+use Rattle.model.specs.Limits.{maxSource}
 use Rattle.base.proofs.Stores.{sets-append}
 use Rattle.model.specs.Answers.{fits}
 use Rattle.model.specs.Compare.{same}
@@ -19,7 +20,7 @@ use Rattle.scan.specs.Writes.{Wrote}
 use Rattle.emitter.specs.Emitted.{Spellable, hintOctets, Hintable}
 
 -- the digits of a length are few
-digits-few : (n : ℕ) → n ≤ 32768 → length (digits n) ≤ 32768
+digits-few : (n : ℕ) → n ≤ maxSource → length (digits n) ≤ maxSource
 digits-few n h = omega (arith, digits-length n)
 
 -- ---- a verbatim string
@@ -32,7 +33,7 @@ module _ (src : List ℕ) (kind len body pos room : ℕ) (g : Spellable src kind
   verb-size : length (verbatim (g .octets)) ≡ length (digits len) + 1 + len
   verb-size = verbatim-length (g .octets) ∙ ap (λ (n : ℕ). length (digits n) + 1 + n) (g .size)
 
-  pub decimal-room : (len ≤ 32768) × (pos + length (digits len) ≤ room)
+  pub decimal-room : (len ≤ maxSource) × (pos + length (digits len) ≤ room)
   decimal-room = (g .small, omega (arith, verb-size, g .fits))
 
   module _ (out out₁ : List ℕ) (p : ℕ) (long : room ≡ length out) (w : Wrote (digits len) pos out out₁ p) where

@@ -4,6 +4,7 @@ use mathlib.Core.Path.{_≡_}
 use mathlib.Core.Option.{some}
 use mathlib.Core.List.{List, _∷_, _++_}
 use lib.ListN.{length, drop}
+use Rattle.model.specs.Limits.{maxSource}
 use Rattle.model.specs.Strings.{got}
 use Rattle.model.specs.Tree.{Tree, verbatim, canon}
 use Rattle.model.specs.Decode.{decode₃}
@@ -16,7 +17,7 @@ pub record Spellable (src : List ℕ) (kind len body pos room : ℕ) : Type 0 wh
   pub reads : bodyOf kind len (drop body src) ≡ got octets rest
   pub size : length octets ≡ len
   pub inside : body ≤ length src
-  pub small : len ≤ 32768
+  pub small : len ≤ maxSource
   pub fits : pos + length (verbatim octets) ≤ room
   pub near : pos ≤ 300000
 
@@ -31,13 +32,13 @@ pub record Hintable (src : List ℕ) (hk hl hb kind len body pos room : ℕ) : T
   pub hintReads : bodyOf hk hl (drop hb src) ≡ got hint hintRest
   pub hintSize : length hint ≡ hl
   pub hintInside : hb ≤ length src
-  pub hintSmall : hl ≤ 32768
+  pub hintSmall : hl ≤ maxSource
   pub octets : List ℕ
   pub rest : List ℕ
   pub reads : bodyOf kind len (drop body src) ≡ got octets rest
   pub size : length octets ≡ len
   pub inside : body ≤ length src
-  pub small : len ≤ 32768
+  pub small : len ≤ maxSource
   pub fits : pos + length (hintOctets hint octets) ≤ room
   pub near : pos ≤ 200000
 
@@ -46,5 +47,5 @@ pub record Emittable (src : List ℕ) (pos room : ℕ) : Type 0 where
   pub tree : Tree
   pub is : decode₃ src ≡ some tree
   pub fits : pos + length (canon tree) ≤ room
-  pub near : pos ≤ 32768
-  pub short : length src ≤ 32768
+  pub near : pos ≤ maxSource
+  pub short : length src ≤ maxSource

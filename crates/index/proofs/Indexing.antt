@@ -6,6 +6,7 @@ use mathlib.Core.Option.{Option, some}
 use mathlib.Core.List.{List, [], _∷_}
 use lib.ListN.{length, drop, getD, drop-of-length-le, set, length-set}
 use lib.Seq.{sets, getD-set-same, getD-set-other, length-sets}
+use Rattle.model.specs.Limits.{maxDepth, maxSource}
 use Rattle.base.proofs.Cases.{by-eq, some-same, none-some, chain-cases}
 use Rattle.model.specs.Answers.{the, fits}
 use Rattle.model.specs.Compare.{same}
@@ -42,11 +43,11 @@ pub record Indexing (src table₀ starts nodeNos table : List ℕ) (opened seen 
   pub walks : walk lexemes (count opened deepest seen) ≡ some (count 0 (depth (given .tree)) (nodes (given .tree)))
   pub same : stored table (events lexemes at seen (framesOf starts nodeNos opened)) ≡ sets table₀ 0 (tableOf (given .tree))
   pub long : length table ≡ length table₀
-  pub startsLong : length starts ≡ 32
-  pub numbersLong : length nodeNos ≡ 32
+  pub startsLong : length starts ≡ maxDepth
+  pub numbersLong : length nodeNos ≡ maxDepth
   pub inside : at ≤ length src
-  pub short : length src ≤ 32768
-  pub few : (opened ≤ 32) × (seen ≤ 16384)
+  pub short : length src ≤ maxSource
+  pub few : (opened ≤ maxDepth) × (seen ≤ maxSource)
   pub startsLow : (k : ℕ) → k < opened → getD starts k 0 < at
   pub numbersLow : (k : ℕ) → k < opened → getD nodeNos k 0 < seen
 
@@ -55,10 +56,10 @@ pub lexed : (src : List ℕ) (t : Tree) → decode₁ src ≡ some t → strictL
 unfolding decode₁
 lexed src t e = chain-cases (strictLexemes src) nest e (λ ls h₁ h₂. h₁ ∙ ap some (nest-sound ls t h₂))
 
-pub nodes-few : (src : List ℕ) (t : Tree) → decode₁ src ≡ some t → length src ≤ 32768 → nodes t ≤ 16384
+pub nodes-few : (src : List ℕ) (t : Tree) → decode₁ src ≡ some t → length src ≤ maxSource → nodes t ≤ maxSource
 nodes-few src t e h = omega (arith, nodes-within-half t, ap length (canon-sound src t e))
 
-pub index-start : (src table starts nodeNos : List ℕ) → Indexable src (length table) → length starts ≡ 32 → length nodeNos ≡ 32 → Indexing src table starts nodeNos table 0 0 0
+pub index-start : (src table starts nodeNos : List ℕ) → Indexable src (length table) → length starts ≡ maxDepth → length nodeNos ≡ maxDepth → Indexing src table starts nodeNos table 0 0 0
 unfolding framesOf counts
 index-start src table starts nodeNos g p q =
     record {
@@ -127,7 +128,7 @@ module _ (src table₀ starts nodeNos table : List ℕ) (opened seen at : ℕ) (
       walks-open : walk (opens .others) (count (opened + 1) (max (w .deepest) (opened + 1)) (seen + 1)) ≡ some (count 0 (depth (w .given .tree)) (nodes (w .given .tree)))
       walks-open = ap (walk (opens .others)) (sym after-open) ∙ opens .walks
 
-      pub open-room : opened < 32
+      pub open-room : opened < maxDepth
       open-room = omega (arith, walk-grows _ _ _ walks-open, w .given .deep)
 
       pub open-on : Indexing src table₀ (set starts opened at) (set nodeNos opened seen) table (opened + 1) (seen + 1) (at + 1)

@@ -14,9 +14,9 @@ use Rattle.base.proofs.Cases.{by-eq, picked, unpicked}
 use Rattle.model.specs.Answers.{fits}
 use Rattle.model.specs.Compare.{same}
 use Rattle.model.specs.Lexemes.{Lexeme, opening, closing, atom, hinting, strictLexeme, before, strictLexemes}
-use Rattle.model.specs.Limits.{maxDepth}
+use Rattle.model.specs.Limits.{maxDepth, maxCanonical, maxNodes}
 use Rattle.model.specs.Strings.{Read, got, refused}
-use Rattle.model.specs.Table.{Row, numbers, plainRow, hintedRow, listRow}
+use Rattle.model.specs.Table.{Row, numbers, plainRow, hintedRow, listRow, width}
 use Rattle.model.specs.Tree.{hinted}
 use Rattle.model.proofs.LexemeLoop.{strict-end, strict-next, strict-none}
 use Rattle.scan.proofs.Places.{one-here}
@@ -35,17 +35,17 @@ use Rattle.canonical.specs.declared.Item.the-variants.{Open, Close, Plain, Hint
 pub record Owning (src table : List ℕ) (n : ℕ) (starts nodeNos : List ℕ) (opened seen at : ℕ) : Type 0 where
   pub given : Judgeable (length src) (length table) n
   pub deepest : ℕ
-  pub deep : deepest ≤ 32
+  pub deep : deepest ≤ maxDepth
   pub same : owned src table n ≡ owning table n (strictLexemes (drop at src)) (count opened deepest seen) at (framesOf starts nodeNos opened)
-  pub startsLong : length starts ≡ 32
-  pub numbersLong : length nodeNos ≡ 32
+  pub startsLong : length starts ≡ maxDepth
+  pub numbersLong : length nodeNos ≡ maxDepth
   pub inside : at ≤ length src
-  pub short : length src ≤ 16384
-  pub few : (opened ≤ 32) × (seen ≤ n) × (n ≤ 4096) × (8 * n ≤ length table)
+  pub short : length src ≤ maxCanonical
+  pub few : (opened ≤ maxDepth) × (seen ≤ n) × (n ≤ maxNodes) × (width * n ≤ length table)
   pub startsLow : (k : ℕ) → k < opened → getD starts k 0 < at
   pub numbersLow : (k : ℕ) → k < opened → getD nodeNos k 0 < seen
 
-pub own-start : (src table : List ℕ) (n : ℕ) (starts nodeNos : List ℕ) → Judgeable (length src) (length table) n → length starts ≡ 32 → length nodeNos ≡ 32 → Owning src table n starts nodeNos 0 0 0
+pub own-start : (src table : List ℕ) (n : ℕ) (starts nodeNos : List ℕ) → Judgeable (length src) (length table) n → length starts ≡ maxDepth → length nodeNos ≡ maxDepth → Owning src table n starts nodeNos 0 0 0
 unfolding framesOf owned
 own-start src table n starts nodeNos g p q =
     record {
@@ -110,7 +110,7 @@ module _ (src table : List ℕ) (n : ℕ) (starts nodeNos : List ℕ) (opened se
         unfolding step
         over g = sym (judged _ opens ∙ owning-over table n (strictLexemes (drop (at + 1) src)) now′ at st opening opened′ (sym x ∙ f) refl g)
 
-        pub open-deep : 32 ≤ opened → false ≡ owned src table n
+        pub open-deep : maxDepth ≤ opened → false ≡ owned src table n
         unfolding good
         open-deep k = over (λ r a b. unpicked _ _ (lt-leb (r .deepest) maxDepth (omega arith)))
 
@@ -118,7 +118,7 @@ module _ (src table : List ℕ) (n : ℕ) (starts nodeNos : List ℕ) (opened se
         unfolding good
         open-many k = over (λ r a b. ap (both (leb (r .deepest) maxDepth)) (ne-eqb (r .seen) n (λ e. omega arith)) ∙ never-both (leb (r .deepest) maxDepth))
 
-        pub open-on : opened < 32 → seen < n → Owning src table n (set starts opened at) (set nodeNos opened seen) (opened + 1) (seen + 1) (at + 1)
+        pub open-on : opened < maxDepth → seen < n → Owning src table n (set starts opened at) (set nodeNos opened seen) (opened + 1) (seen + 1) (at + 1)
         open-on a b =
             record {
               given = w .given;

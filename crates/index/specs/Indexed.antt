@@ -10,7 +10,7 @@ use Rattle.model.specs.Answers.{fitting, owns}
 use Rattle.model.specs.Tree.{Tree, nodes, depth}
 use Rattle.model.specs.Table.{width}
 use Rattle.model.specs.Decode.{decode₁}
-use Rattle.model.specs.Limits.{maxDepth, maxNodes, maxCanonical}
+use Rattle.model.specs.Limits.{maxDepth, maxNodes, maxCanonical, maxSource}
 
 -- the octets are a tree's canonical form, the tree is not too deep, and its records have room
 pub record Indexable (src : List ℕ) (room : ℕ) : Type 0 where
@@ -18,7 +18,7 @@ pub record Indexable (src : List ℕ) (room : ℕ) : Type 0 where
   pub is : decode₁ src ≡ some tree
   pub deep : depth tree ≤ maxDepth
   pub fits : width * nodes tree ≤ room
-  pub short : length src ≤ 32768
+  pub short : length src ≤ maxSource
 
 -- the octets and the records are no more than fit
 pub record Judgeable (octets numbers count : ℕ) : Type 0 where

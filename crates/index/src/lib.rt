@@ -4,6 +4,7 @@ ghost use mathlib.Core.Path.{_≡_};
 ghost use Prim.Native.Nat.{_+_, _*_, _≤_, _<_};
 ghost use lib.ListN.{length};
 ghost use lib.Seq.{sets};
+ghost use Rattle.model.specs.Limits.{maxSource};
 ghost use Rattle.base.specs.Choice.{equal};
 ghost use Rattle.model.specs.Table.{width, plainRow, hintedRow, listRow};
 ghost use Rattle.walk.specs.Events.{recordAt};
@@ -28,7 +29,7 @@ pub struct Row {
 
 // The record of a string.
 fn plain_row(at: usize, start: usize, end: usize) -> Row
-    requires { ⌜ (at ≤ 32768) × (start ≤ 32768) × (end ≤ 32768) ⌝ }
+    requires { ⌜ (at ≤ maxSource) × (start ≤ maxSource) × (end ≤ maxSource) ⌝ }
     ensures { λ r. ⌜ RowIs r (plainRow at start end) ⌝ }
 {
     Row {
@@ -45,7 +46,7 @@ fn plain_row(at: usize, start: usize, end: usize) -> Row
 
 // The record of a string whose hint stands from `from` to `to`.
 fn hinted_row(at: usize, from: usize, to: usize, start: usize, end: usize) -> Row
-    requires { ⌜ (at ≤ 32768) × (from ≤ 32768) × (to ≤ 32768) × (start ≤ 32768) × (end ≤ 32768) ⌝ }
+    requires { ⌜ (at ≤ maxSource) × (from ≤ maxSource) × (to ≤ maxSource) × (start ≤ maxSource) × (end ≤ maxSource) ⌝ }
     ensures { λ r. ⌜ RowIs r (hintedRow at from to start end) ⌝ }
 {
     Row {
@@ -62,7 +63,7 @@ fn hinted_row(at: usize, from: usize, to: usize, start: usize, end: usize) -> Ro
 
 // The record of a list.
 fn list_row(start: usize, end: usize, nodes: usize) -> Row
-    requires { ⌜ (start < end) × (end ≤ 32768) × (nodes ≤ 32768) ⌝ }
+    requires { ⌜ (start < end) × (end ≤ maxSource) × (nodes ≤ maxSource) ⌝ }
     ensures { λ r. ⌜ RowIs r (listRow start end nodes) ⌝ }
 {
     Row {
@@ -95,7 +96,7 @@ fn put_row(table: &mut [u32], node: usize, row: Row)
 
 // Whether a record is this one.
 fn row_is(table: &[u32], node: usize, row: Row) -> bool
-    requires { ⌜ (node ≤ 32768) × (width * (node + 1) ≤ length (now table)) ⌝ }
+    requires { ⌜ (node ≤ maxSource) × (width * (node + 1) ≤ length (now table)) ⌝ }
     ensures { λ r. ⌜ r ≡ equal (recordAt (now (table .entry)) node) (rowList row) ⌝ }
 {
     let at = node * limits::WIDTH;

@@ -9,6 +9,7 @@ use lib.ListN.{length, take, length-take}
 use lib.Seq.{length-take-le}
 use lib.Dec.{leb, ltb, eqb}
 use borrow.Author.Tests.{le-ltb, le-leb, lt-leb, eqb-true, ltb-false, leb-true}
+use Rattle.model.specs.Limits.{maxCanonical, maxDepth, maxNodes, maxSource}
 use Rattle.base.specs.Choice.{both, not, equal, chain, isNone}
 use Rattle.base.proofs.Cases.{by-le, untrue, pick-cases, picked, unpicked, both-true, true-both, some-same, none-some, chain-cases}
 use Rattle.base.proofs.Lists.{equal-true}
@@ -25,7 +26,7 @@ use Rattle.walk.specs.declared.Extent.the-variants.{Whole, Refused}
 
 -- ---- the first octets
 
-pub front-short : (c : List ℕ) (n : ℕ) → n ≤ length c → n ≤ 16384 → length (take n c) ≤ 32768
+pub front-short : (c : List ℕ) (n : ℕ) → n ≤ length c → n ≤ maxCanonical → length (take n c) ≤ maxSource
 front-short c n h k = omega (arith, length-take-le n c h)
 
 -- ---- whether there is a tree
@@ -52,18 +53,18 @@ none-of (some t) e = untrue e
 -- ---- a sheet
 
 pub record Fit (t : Tree) : Type 0 where
-  pub deep : depth t ≤ 32
-  pub many : nodes t ≤ 4096
-  pub long : length (canon t) ≤ 16384
+  pub deep : depth t ≤ maxDepth
+  pub many : nodes t ≤ maxNodes
+  pub long : length (canon t) ≤ maxCanonical
 
 fit : (t : Tree) → fits t ≡ true → Fit t
 unfolding fits
 fit t f =
-    let w : (leb (depth t) 32 ≡ true) × (both (leb (nodes t) 4096) (leb (length (canon t)) 16384) ≡ true) = both-true f in
-    let v : (leb (nodes t) 4096 ≡ true) × (leb (length (canon t)) 16384 ≡ true) = both-true (w .1) in
+    let w : (leb (depth t) maxDepth ≡ true) × (both (leb (nodes t) maxNodes) (leb (length (canon t)) maxCanonical) ≡ true) = both-true f in
+    let v : (leb (nodes t) maxNodes ≡ true) × (leb (length (canon t)) maxCanonical ≡ true) = both-true (w .1) in
     record { deep = leb-true _ _ (w .0); many = leb-true _ _ (v .0); long = leb-true _ _ (v .1) }
 
-pub fitted : (t : Tree) → depth t ≤ 32 → nodes t ≤ 4096 → length (canon t) ≤ 16384 → fits t ≡ true
+pub fitted : (t : Tree) → depth t ≤ maxDepth → nodes t ≤ maxNodes → length (canon t) ≤ maxCanonical → fits t ≡ true
 unfolding fits
 fitted t d n l = true-both (le-leb _ _ d) (true-both (le-leb _ _ n) (le-leb _ _ l))
 
@@ -92,7 +93,7 @@ module _ (c : List ℕ) (n : ℕ) where
   pub sheet-beyond : length c < n → false ≡ not (isNone (sheetTree c n))
   sheet-beyond h = no-tree (sheetTree c n) (λ t e. let s : Sheet c n t = sheet-of c n t e in omega (arith, s .lent))
 
-  pub sheet-long : 16384 < n → false ≡ not (isNone (sheetTree c n))
+  pub sheet-long : maxCanonical < n → false ≡ not (isNone (sheetTree c n))
   sheet-long h = no-tree (sheetTree c n) (λ t e. let s : Sheet c n t = sheet-of c n t e in omega (arith, s .size, s .fitting .long))
 
   module _ (k : n ≤ length c) where
@@ -115,15 +116,15 @@ module _ (c : List ℕ) (n : ℕ) where
         the-same : (t : Tree) → Sheet c n t → wholly .tree ≡ t
         the-same t s = some-same (λ (u : Tree). wholly .tree ≡ u) (sym (wholly .is) ∙ s .decoded) refl
 
-        pub sheet-deep : 32 < d → false ≡ not (isNone (sheetTree c n))
+        pub sheet-deep : maxDepth < d → false ≡ not (isNone (sheetTree c n))
         sheet-deep h =
             no-tree (sheetTree c n)
             (λ t f. let s : Sheet c n t = sheet-of c n t f in omega (arith, wholly .deepest, ap depth (the-same t s), s .fitting .deep))
 
-        pub sheet-whole : d ≤ 32 → n ≤ 16384 → leb m 4096 ≡ not (isNone (sheetTree c n))
+        pub sheet-whole : d ≤ maxDepth → n ≤ maxCanonical → leb m maxNodes ≡ not (isNone (sheetTree c n))
         unfolding chain fitting
         sheet-whole h l =
-            by-le m 4096
+            by-le m maxNodes
             (λ q.
             let f : fits (wholly .tree) ≡ true = fitted (wholly .tree) (omega (arith, wholly .deepest)) (omega (arith, wholly .counted))
             (omega (arith, ap length (canon-sound (take n c) (wholly .tree) (wholly .is)), length-take-le n c k)) in
@@ -157,16 +158,16 @@ module _ (c : List ℕ) (n : ℕ) (table : List ℕ) (m : ℕ) where
   pub own-beyond : length c < n → false ≡ not (isNone (ownTree c n table m))
   own-beyond h = no-tree _ (λ t e. let o : Own c n table m t = own-of c n table m t e in omega (arith, o .sheet .lent))
 
-  pub own-long : 16384 < n → false ≡ not (isNone (ownTree c n table m))
+  pub own-long : maxCanonical < n → false ≡ not (isNone (ownTree c n table m))
   own-long h = no-tree _ (λ t e. let o : Own c n table m t = own-of c n table m t e in omega (arith, o .sheet .size, o .sheet .fitting .long))
 
-  pub own-many : 4096 < m → false ≡ not (isNone (ownTree c n table m))
+  pub own-many : maxNodes < m → false ≡ not (isNone (ownTree c n table m))
   own-many h = no-tree _ (λ t e. let o : Own c n table m t = own-of c n table m t e in omega (arith, o .counted, o .sheet .fitting .many))
 
-  pub own-unlent : length table / 8 < m → false ≡ not (isNone (ownTree c n table m))
+  pub own-unlent : length table / width < m → false ≡ not (isNone (ownTree c n table m))
   own-unlent h = no-tree _ (λ t e. let o : Own c n table m t = own-of c n table m t e in omega (arith, own-lent c n table m t o))
 
-  pub own-room : n ≤ length c → n ≤ 16384 → m ≤ 4096 → m ≤ length table / 8 → Judgeable (length (take n c)) (length table) m
+  pub own-room : n ≤ length c → n ≤ maxCanonical → m ≤ maxNodes → m ≤ length table / width → Judgeable (length (take n c)) (length table) m
   own-room h k l i = record { short = omega (arith, length-take-le n c h); few = l; lent = omega arith }
 
   pub own-is : n ≤ length c → (r : Bool) → r ≡ owned (take n c) table m → r ≡ not (isNone (ownTree c n table m))

@@ -25,19 +25,19 @@ use Rattle.answers.specs.declared.Place.the-variants.{Part, NoPart}
 -- ---- a number of a row
 
 -- the k-th number of the i-th row
-flat-at : (rs : List Row) (i k : ℕ) (d : Row) → i < length rs → k < 8 → getD (flat rs) (i * 8 + k) 0 ≡ getD (numbers (getD rs i d)) k 0
+flat-at : (rs : List Row) (i k : ℕ) (d : Row) → i < length rs → k < 8 → getD (flat rs) (i * width + k) 0 ≡ getD (numbers (getD rs i d)) k 0
 unfolding flat
 flat-at [] i k d h l = absurd (omega arith)
-flat-at (r ∷ rs) zero k d h l = let z : 0 * 8 + k ≡ k = omega arith in ap (λ (n : ℕ). getD (numbers r ++ flat rs) n 0) z ∙ List·getD-append (numbers r) (flat rs) 0 k l
+flat-at (r ∷ rs) zero k d h l = let z : 0 * width + k ≡ k = omega arith in ap (λ (n : ℕ). getD (numbers r ++ flat rs) n 0) z ∙ List·getD-append (numbers r) (flat rs) 0 k l
 flat-at (r ∷ rs) (suc i) k d h l =
-    let z : suc i * 8 + k ≡ 8 + (i * 8 + k) = omega arith in
-    ap (λ (n : ℕ). getD (numbers r ++ flat rs) n 0) z ∙ getD-append-add (numbers r) (flat rs) (i * 8 + k) 0 ∙ flat-at rs i k d (omega arith) l
+    let z : suc i * width + k ≡ 8 + (i * width + k) = omega arith in
+    ap (λ (n : ℕ). getD (numbers r ++ flat rs) n 0) z ∙ getD-append-add (numbers r) (flat rs) (i * width + k) 0 ∙ flat-at rs i k d (omega arith) l
 
 pub table-at : (c : List ℕ) (n : ℕ) (table : List ℕ) (m : ℕ) (t : Tree) → Own c n table m t → (node k : ℕ) → node < m → k < 8
-    → getD table (node * 8 + k) 0 ≡ getD (numbers (rowOf t node)) k 0
+    → getD table (node * width + k) 0 ≡ getD (numbers (rowOf t node)) k 0
 unfolding tableOf
 table-at c n table m t o node k h l =
-    sym (getD-take (width * m) table (node * 8 + k) 0 (omega arith)) ∙ ap (λ (x : List ℕ). getD x (node * 8 + k) 0) (o .recorded)
+    sym (getD-take (width * m) table (node * width + k) 0 (omega arith)) ∙ ap (λ (x : List ℕ). getD x (node * width + k) 0) (o .recorded)
     ∙ flat-at (rows t 0) node k (plainRow 0 0 0) (omega (arith, rows-length t 0, o .counted)) l
 
 -- ---- a row's parts are parts of the octets
@@ -127,7 +127,7 @@ module _ (c : List ℕ) (n : ℕ) (table : List ℕ) (m node : ℕ) where
           record { few = omega (arith, o .counted, o .sheet .fitting .many); fits = omega (arith, own-lent c n table m t o); small = l })
 
       -- the numbers in the table are the row's
-      found : {G : Type 0} → node < m → ((r : Row) → row ≡ some r → ((k : ℕ) → k < 8 → getD table (node * 8 + k) 0 ≡ getD (numbers r) k 0) → G) → G
+      found : {G : Type 0} → node < m → ((r : Row) → row ≡ some r → ((k : ℕ) → k < 8 → getD table (node * width + k) 0 ≡ getD (numbers r) k 0) → G) → G
       unfolding shownRow chain
       found h g =
           tree-of (ownTree c n table m) (sym y ∙ e)
@@ -164,18 +164,18 @@ module _ (c : List ℕ) (n : ℕ) (table : List ℕ) (m node : ℕ) where
       data-beyond h = sym (data-of none (beyond b e y h))
 
       module _ (h : node < m) where
-        pub hint-other : (k : ℕ) → k ≡ getD table (node * 8 + 0) 0 → (k ≡ 1 → ⊥) → placed NoPart ≡ hintPart c n table m node
+        pub hint-other : (k : ℕ) → k ≡ getD table (node * width + 0) 0 → (k ≡ 1 → ⊥) → placed NoPart ≡ hintPart c n table m node
         unfolding placed chain
         hint-other k z d = found b e y h (λ r i l. sym (hint-of (some r) i ∙ unpicked _ _ (ne-eqb _ _ (λ q. d (z ∙ l 0 (omega arith) ∙ q)))))
 
-        pub hint-found : (k : ℕ) → k ≡ getD table (node * 8 + 0) 0 → k ≡ 1 → (s t : ℕ) → s ≡ getD table (node * 8 + 4) 0 → t ≡ getD table (node * 8 + 5) 0
+        pub hint-found : (k : ℕ) → k ≡ getD table (node * width + 0) 0 → k ≡ 1 → (s t : ℕ) → s ≡ getD table (node * width + 4) 0 → t ≡ getD table (node * width + 5) 0
             → placed (Part s t) ≡ hintPart c n table m node
         unfolding placed chain
         hint-found k z d s t p q =
             found b e y h
             (λ r i l. sym (hint-of (some r) i ∙ picked _ _ (eq-eqb _ _ (sym (l 0 (omega arith)) ∙ sym z ∙ d)) ∙ sym (ap₂ (λ (x y : ℕ). some (part x y)) (p ∙ l 4 (omega arith)) (q ∙ l 5 (omega arith)))))
 
-        pub data-found : (s t : ℕ) → s ≡ getD table (node * 8 + 6) 0 → t ≡ getD table (node * 8 + 7) 0 → placed (Part s t) ≡ dataPart c n table m node
+        pub data-found : (s t : ℕ) → s ≡ getD table (node * width + 6) 0 → t ≡ getD table (node * width + 7) 0 → placed (Part s t) ≡ dataPart c n table m node
         unfolding placed chain
         data-found s t p q =
             found b e y h (λ r i l. sym (data-of (some r) i ∙ sym (ap₂ (λ (x y : ℕ). some (part x y)) (p ∙ l 6 (omega arith)) (q ∙ l 7 (omega arith)))))

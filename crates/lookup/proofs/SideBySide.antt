@@ -9,6 +9,7 @@ use lib.ListN.{length, take, drop, getD, drop-of-length-le}
 use lib.Seq.{take-at, drop-at, drop-drop}
 use lib.Dec.{leb}
 use borrow.Author.Tests.{le-leb, lt-leb}
+use Rattle.model.specs.Limits.{maxCanonical}
 use Rattle.base.specs.Choice.{both}
 use Rattle.base.proofs.Cases.{by-le, picked, unpicked, some-same, none-some, chain-cases}
 use Rattle.model.specs.Answers.{the}
@@ -155,8 +156,8 @@ pub record Matching (a b x : List ℕ) (i j : ℕ) : Type 0 where
   pub leftIs : strictLexemes (drop i a) ≡ some left
   pub rightIs : strictLexemes (drop j b) ≡ some right
   pub alike : same (the (decode₁ a)) (the (decode₁ b)) x ≡ alikes x left right
-  pub leftShort : length a ≤ 16384
-  pub rightShort : length b ≤ 16384
+  pub leftShort : length a ≤ maxCanonical
+  pub rightShort : length b ≤ maxCanonical
 
 -- the lexemes of a tree's canonical octets
 decoded : {G : Type 0} (a : List ℕ) (t : Tree) → decode₁ a ≡ some t → (strictLexemes a ≡ some (unnest t []) → G) → G

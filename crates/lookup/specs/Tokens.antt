@@ -9,7 +9,7 @@ use lib.Dec.{eqb}
 use Rattle.base.specs.Choice.{pick}
 use Rattle.model.specs.Decode.{decode₁}
 use Rattle.model.specs.Lexemes.{Lexeme, opening, closing, atom, hinting, strictLexeme}
-use Rattle.model.specs.Limits.{maxCanonical}
+use Rattle.model.specs.Limits.{maxCanonical, maxSource}
 use Rattle.model.specs.Strings.{got}
 use Rattle.model.specs.Tree.{Tree}
 use Rattle.lookup.specs.declared.alike.Token.{Token}
@@ -47,7 +47,7 @@ pub record Readable (src : List ℕ) (at : ℕ) : Type 0 where
   pub rest : List ℕ
   pub reads : strictLexeme (drop at src) ≡ got lexeme rest
   pub inside : at < length src
-  pub short : length src ≤ 32768
+  pub short : length src ≤ maxSource
 
 -- and it is this one
 pub record TokenAt (src : List ℕ) (at : ℕ) (t : Token) : Type 0 where

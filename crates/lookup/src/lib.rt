@@ -4,6 +4,7 @@ mod alike;
 ghost use mathlib.Core.Path.{_≡_};
 ghost use Prim.Native.Nat.{_+_, _*_, _≤_, _<_};
 ghost use lib.ListN.{length, getD};
+ghost use Rattle.model.specs.Table.{width};
 ghost use Rattle.base.specs.Choice.{not, isNone};
 ghost use Rattle.model.specs.Answers.{sheetTree, ownTree, hintPart, dataPart, hintShown, dataShown, comparing};
 ghost use Rattle.answers.specs.Cases.{placed, told};
@@ -62,7 +63,7 @@ pub fn own_sheet(canonical: &[u8], length: usize, table: &[u32], nodes: usize) -
 // The k-th number of a node's record.
 pub fn number(table: &[u32], node: usize, k: usize) -> usize
     requires { ⌜ InRecord (length (now table)) node k ⌝ }
-    ensures { λ r. ⌜ r ≡ getD (now (table .entry)) (node * 8 + k) 0 ⌝ }
+    ensures { λ r. ⌜ r ≡ getD (now (table .entry)) (node * width + k) 0 ⌝ }
 {
     table[node * limits::WIDTH + k] as usize
 }

@@ -8,6 +8,7 @@ use mathlib.Core.List.{List}
 use lib.ListN.{length, getD}
 use lib.Dec.{leb}
 use borrow.Author.Tests.{le-leb, lt-leb}
+use Rattle.model.specs.Table.{width}
 use Rattle.base.specs.Choice.{not, isNone}
 use Rattle.model.specs.Answers.{verdict, the, roomChecks, ownTree, unchanged, filled}
 use Rattle.model.specs.Edit.{replace}
@@ -70,7 +71,7 @@ module _ (canonical : List ℕ) (len : ℕ) (table : List ℕ) (count node : ℕ
       unfolding Finds
       find-beyond h = tree-of (ownTree canonical len table count) (sym y ∙ e) (λ t i. record { is = λ u. no-node t i u h })
 
-      pub find-node : node < count → (s f n : ℕ) → s ≡ getD table (node * 8 + 1) 0 → f ≡ getD table (node * 8 + 2) 0 → n ≡ getD table (node * 8 + 3) 0
+      pub find-node : node < count → (s f n : ℕ) → s ≡ getD table (node * width + 1) 0 → f ≡ getD table (node * width + 2) 0 → n ≡ getD table (node * width + 3) 0
           → Finds canonical len table count node (Node s f n)
       unfolding Finds
       find-node h s f n p q r =

@@ -12,7 +12,7 @@ use lib.Dec.{ltb}
 use borrow.Author.Tests.{lt-ltb, le-ltb}
 use Rattle.base.specs.Choice.{pick}
 use Rattle.base.proofs.Cases.{by-le, picked, unpicked}
-use Rattle.model.specs.Table.{Row, plainRow, rows, rowOf}
+use Rattle.model.specs.Table.{Row, plainRow, rows, rowOf, width}
 use Rattle.model.specs.Tree.{Tree, nodes}
 use Rattle.walk.proofs.Tabled.{rows-length}
 use Rattle.lookup.specs.Numbers.{InRecord}
@@ -32,7 +32,7 @@ module _ (table : List ℕ) (node : ℕ) where
   pub level-record : (level j : ℕ) → Recorded (length table) node → j < node → InRecord (length table) j 3
   level-record level j r h = record { few = omega (arith, r .few); fits = omega (arith, r .fits); small = omega arith }
 
-  module _ (level j : ℕ) (g : Levelling table node level j) (h : j < node) (c : ℕ) (e : c ≡ getD table (j * 8 + 3) 0) where
+  module _ (level j : ℕ) (g : Levelling table node level j) (h : j < node) (c : ℕ) (e : c ≡ getD table (j * width + 3) 0) where
     step : (b : ℕ) → pick (ltb (node - j) c) (level + 1) level ≡ b → levels table node (node - (j + 1)) (j + 1) b ≡ levels table node node 0 0
     unfolding levels
     step b q =
@@ -65,12 +65,12 @@ onto : (b : Bool) (level m : ℕ) → pick b (level + 1) level + m ≡ level + (
 onto true level m = omega arith
 onto false level m = omega arith
 
-module _ (t : Tree) (table : List ℕ) (k : ℕ) (f : (j : ℕ) → j < k → getD table (j * 8 + 3) 0 ≡ (rowOf t j) .count) (h : k ≤ nodes t) where
+module _ (t : Tree) (table : List ℕ) (k : ℕ) (f : (j : ℕ) → j < k → getD table (j * width + 3) 0 ≡ (rowOf t j) .count) (h : k ≤ nodes t) where
   levels-rows : (n j level : ℕ) → j + n ≤ k → levels table k n j level ≡ level + holders (take n (drop j (rows t 0))) j k
   unfolding levels holders
   levels-rows zero j level l = sym (add-zero level)
   levels-rows (suc n) j level l =
-      let d = getD table (j * 8 + 3) 0 in
+      let d = getD table (j * width + 3) 0 in
       let q : ltb (k - j) d ≡ ltb k (j + (rowOf t j) .count) = after k j d (omega arith) ∙ ap (λ (c : ℕ). ltb k (j + c)) (f j (omega arith)) in
       levels-rows n (suc j) (pick (ltb (k - j) d) (level + 1) level) (omega arith)
       ∙ onto (ltb (k - j) d) level (holders (take n (drop (suc j) (rows t 0))) (suc j) k)

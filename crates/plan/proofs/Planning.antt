@@ -6,6 +6,7 @@ use mathlib.Core.List.{List}
 use lib.ListN.{length}
 use lib.Dec.{ltb}
 use borrow.Author.Tests.{le-ltb, ltb-false}
+use Rattle.model.specs.Limits.{maxDepth}
 use Rattle.model.specs.Edit.{replace}
 use Rattle.model.specs.Tree.{Tree, canon, nodes, depth}
 use Rattle.reader.specs.Stored.{roomVerdict}
@@ -18,7 +19,7 @@ use Rattle.plan.specs.declared.Found.the-variants.{Node, Unfound}
 use Rattle.plan.specs.declared.Plan.the-variants.{Fits, Misfit}
 
 -- only whether a tree is too deep plays a part
-same-verdict : (o k d d′ : ℕ) {n n′ l l′ : ℕ} → ltb 32 d ≡ ltb 32 d′ → n ≡ n′ → l ≡ l′ → roomVerdict d n l o k ≡ roomVerdict d′ n′ l′ o k
+same-verdict : (o k d d′ : ℕ) {n n′ l l′ : ℕ} → ltb maxDepth d ≡ ltb maxDepth d′ → n ≡ n′ → l ≡ l′ → roomVerdict d n l o k ≡ roomVerdict d′ n′ l′ o k
 unfolding roomVerdict
 same-verdict o k d d′ p q r = rw (p, q, r)
 
@@ -62,6 +63,6 @@ module _ (canonical : List ℕ) (len : ℕ) (table : List ℕ) (count node : ℕ
             found = entered;
             takes = λ u s.
                 let x = weighed u s in
-                record { long = x .long; counted = x .counted; shallow = ltb-false 32 _ (sym (x .deep) ∙ le-ltb 32 (to .depth) (g .shallow)); recorded = g .recorded; short = g .small; lent = g .lent };
+                record { long = x .long; counted = x .counted; shallow = ltb-false maxDepth _ (sym (x .deep) ∙ le-ltb maxDepth (to .depth) (g .shallow)); recorded = g .recorded; short = g .small; lent = g .lent };
             answer = λ u s. node-accepted canonical len table count node (entered .tree) (entered .own) u inside (sym (verdict-of u s) ∙ none);
           }

@@ -5,6 +5,7 @@ use mathlib.Core.Path.{_≡_, sym, ap₂, _∙_}
 use mathlib.Core.List.{List}
 use lib.ListN.{length}
 use lib.Dec.{ltb}
+use Rattle.model.specs.Limits.{maxDepth}
 use Rattle.model.specs.Edit.{replace}
 use Rattle.model.specs.Tree.{Tree, plain, hinted, list, Forest, nil, cons, canon, nodes, nodess, depth, depths}
 use Rattle.edits.proofs.Demand.{entry-in, replace-length, replace-nodes}
@@ -46,12 +47,12 @@ module _ (table : List ℕ) (len count node start end n : ℕ) where
           let y : nodes (replace t node u) + n ≡ nodes t + nodes u = rw (a .has) (replace-nodes t node (a .inside) u) in
           omega (arith, x .2, y, a .counted, s .counted)
 
-      deep-where : (level : ℕ) → Levels table node level → ltb 32 (level + text .depth) ≡ ltb 32 (depth (replace t node u))
+      deep-where : (level : ℕ) → Levels table node level → ltb maxDepth (level + text .depth) ≡ ltb maxDepth (depth (replace t node u))
       deep-where level l =
-          ap₂ (λ (x d : ℕ). ltb 32 (x + d))
+          ap₂ (λ (x d : ℕ). ltb maxDepth (x + d))
           (l .is ∙ levels-holders t table node (λ j h. a .counts j (omega (arith, a .inside, a .counted))) (omega (arith, a .inside)) ∙ level-holders t node (a .inside))
           (s .deepest)
-          ∙ sym (replace-deep t node (a .inside) 32 (a .shallow) u)
+          ∙ sym (replace-deep t node (a .inside) maxDepth (a .shallow) u)
 
   module _ (text : Sizes) (g : Resizable table len count node start end n text) where
     pub resize-order : start ≤ end

@@ -62,7 +62,7 @@ pub record AtNode (len : ℕ) (table : List ℕ) (count start end n : ℕ) (t : 
   pub ends : end ≡ (rowOf t k) .end
   pub has : n ≡ (rowOf t k) .count
   pub recorded : width * count ≤ length table
-  pub counts : (j : ℕ) → j < count → getD table (j * 8 + 3) 0 ≡ (rowOf t j) .count
+  pub counts : (j : ℕ) → j < count → getD table (j * width + 3) 0 ≡ (rowOf t j) .count
 
 pub record Entered (canonical : List ℕ) (len : ℕ) (table : List ℕ) (count node start end n : ℕ) : Type 0 where
   pub tree : Tree
@@ -89,7 +89,7 @@ pub record Recorded (room node : ℕ) : Type 0 where
 -- of n records from record j on, those that count node k among theirs, onto a number of them
 unfoldable pub levels : List ℕ → ℕ → ℕ → ℕ → ℕ → ℕ
 levels table k zero j level = level
-levels table k (suc n) j level = levels table k n (suc j) (pick (ltb (k - j) (getD table (j * 8 + 3) 0)) (level + 1) level)
+levels table k (suc n) j level = levels table k n (suc j) (pick (ltb (k - j) (getD table (j * width + 3) 0)) (level + 1) level)
 
 pub record Levels (table : List ℕ) (node level : ℕ) : Type 0 where
   pub is : level ≡ levels table node node 0 0

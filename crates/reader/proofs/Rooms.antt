@@ -21,52 +21,52 @@ use Rattle.walk.specs.Count.{count}
 use Rattle.reader.specs.Stored.{roomVerdict, readTree}
 
 module _ (deep count len octets numbers : ℕ) where
-  pub room-deep : 32 < deep → 4 ≡ roomVerdict deep count len octets numbers
+  pub room-deep : maxDepth < deep → 4 ≡ roomVerdict deep count len octets numbers
   unfolding roomVerdict
-  room-deep h = sym (picked _ _ (lt-ltb 32 deep h))
+  room-deep h = sym (picked _ _ (lt-ltb maxDepth deep h))
 
-  module _ (a : deep ≤ 32) where
-    pub room-nodes : 4096 < count → 5 ≡ roomVerdict deep count len octets numbers
+  module _ (a : deep ≤ maxDepth) where
+    pub room-nodes : maxNodes < count → 5 ≡ roomVerdict deep count len octets numbers
     unfolding roomVerdict
-    room-nodes h = sym (unpicked _ _ (le-ltb 32 deep a) ∙ picked _ _ (lt-ltb 4096 count h))
+    room-nodes h = sym (unpicked _ _ (le-ltb maxDepth deep a) ∙ picked _ _ (lt-ltb maxNodes count h))
 
-    module _ (b : count ≤ 4096) where
-      pub room-records : numbers / 8 < count → 5 ≡ roomVerdict deep count len octets numbers
+    module _ (b : count ≤ maxNodes) where
+      pub room-records : numbers / width < count → 5 ≡ roomVerdict deep count len octets numbers
       unfolding roomVerdict
-      room-records h = sym (unpicked _ _ (le-ltb 32 deep a) ∙ unpicked _ _ (le-ltb 4096 count b) ∙ picked _ _ (lt-ltb (numbers / 8) count h))
+      room-records h = sym (unpicked _ _ (le-ltb maxDepth deep a) ∙ unpicked _ _ (le-ltb maxNodes count b) ∙ picked _ _ (lt-ltb (numbers / width) count h))
 
-      module _ (c : count ≤ numbers / 8) where
-        firsts : roomVerdict deep count len octets numbers ≡ pick (ltb 16384 len) 6 (pick (ltb octets len) 6 0)
+      module _ (c : count ≤ numbers / width) where
+        firsts : roomVerdict deep count len octets numbers ≡ pick (ltb maxCanonical len) 6 (pick (ltb octets len) 6 0)
         unfolding roomVerdict
-        firsts = unpicked _ _ (le-ltb 32 deep a) ∙ unpicked _ _ (le-ltb 4096 count b) ∙ unpicked _ _ (le-ltb (numbers / 8) count c)
+        firsts = unpicked _ _ (le-ltb maxDepth deep a) ∙ unpicked _ _ (le-ltb maxNodes count b) ∙ unpicked _ _ (le-ltb (numbers / width) count c)
 
-        pub room-size : 16384 < len → 6 ≡ roomVerdict deep count len octets numbers
-        room-size h = sym (firsts ∙ picked _ _ (lt-ltb 16384 len h))
+        pub room-size : maxCanonical < len → 6 ≡ roomVerdict deep count len octets numbers
+        room-size h = sym (firsts ∙ picked _ _ (lt-ltb maxCanonical len h))
 
-        pub room-lent : len ≤ 16384 → octets < len → 6 ≡ roomVerdict deep count len octets numbers
-        room-lent h k = sym (firsts ∙ unpicked _ _ (le-ltb 16384 len h) ∙ picked _ _ (lt-ltb octets len k))
+        pub room-lent : len ≤ maxCanonical → octets < len → 6 ≡ roomVerdict deep count len octets numbers
+        room-lent h k = sym (firsts ∙ unpicked _ _ (le-ltb maxCanonical len h) ∙ picked _ _ (lt-ltb octets len k))
 
-        pub room-good : len ≤ 16384 → len ≤ octets → 0 ≡ roomVerdict deep count len octets numbers
-        room-good h k = sym (firsts ∙ unpicked _ _ (le-ltb 16384 len h) ∙ unpicked _ _ (le-ltb octets len k))
+        pub room-good : len ≤ maxCanonical → len ≤ octets → 0 ≡ roomVerdict deep count len octets numbers
+        room-good h k = sym (firsts ∙ unpicked _ _ (le-ltb maxCanonical len h) ∙ unpicked _ _ (le-ltb octets len k))
 
 -- what holds where none applies
 pub record Lodged (deep count len octets numbers : ℕ) : Type 0 where
-  pub shallow : deep ≤ 32
-  pub few : count ≤ 4096
+  pub shallow : deep ≤ maxDepth
+  pub few : count ≤ maxNodes
   pub recorded : width * count ≤ numbers
-  pub small : len ≤ 16384
+  pub small : len ≤ maxCanonical
   pub lent : len ≤ octets
 
 pub roomy : (deep count len octets numbers : ℕ) → roomVerdict deep count len octets numbers ≡ 0 → Lodged deep count len octets numbers
 unfolding roomVerdict
 roomy deep count len octets numbers e =
-    pick-cases (ltb 32 deep) _ _ e (λ t h. absurd (omega arith))
-    (λ a h. pick-cases (ltb 4096 count) _ _ h (λ t i. absurd (omega arith))
-    (λ b i. pick-cases (ltb (numbers / 8) count) _ _ i (λ t j. absurd (omega arith))
-    (λ c j. pick-cases (ltb 16384 len) _ _ j (λ t k. absurd (omega arith))
+    pick-cases (ltb maxDepth deep) _ _ e (λ t h. absurd (omega arith))
+    (λ a h. pick-cases (ltb maxNodes count) _ _ h (λ t i. absurd (omega arith))
+    (λ b i. pick-cases (ltb (numbers / width) count) _ _ i (λ t j. absurd (omega arith))
+    (λ c j. pick-cases (ltb maxCanonical len) _ _ j (λ t k. absurd (omega arith))
     (λ d k. pick-cases (ltb octets len) _ _ k (λ t l. absurd (omega arith))
     (λ f l.
-    let c′ : count ≤ numbers / 8 = ltb-false _ _ c in
+    let c′ : count ≤ numbers / width = ltb-false _ _ c in
     record { shallow = ltb-false _ _ a; few = ltb-false _ _ b; recorded = omega arith; small = ltb-false _ _ d; lent = ltb-false _ _ f })))))
 
 -- ---- the model's checks

@@ -10,7 +10,7 @@ use lib.Seq.{take-at, sets, length-sets}
 use Rattle.base.proofs.Stores.{sets-all}
 use Rattle.model.specs.Answers.{the, Outcome, filled}
 use Rattle.model.specs.Decode.{decode₁}
-use Rattle.model.specs.Limits.{Accepted}
+use Rattle.model.specs.Limits.{Accepted, maxSource}
 use Rattle.model.specs.Table.{tableOf}
 use Rattle.model.specs.Tree.{Tree, canon, nodes, depth}
 use Rattle.model.proofs.Exact.{canon-complete}
@@ -94,7 +94,7 @@ module _ (o : Option Tree) (canonical table : List ℕ) (x : Extent) (m : Measur
               same-outcome p q r s = λ i. record { number = Accepted; octets = p i; count = q i; canonical = r i; table = s i }
 
 -- ---- the text's canonical octets are put
-module _ (b : Bool) (source canonical table : List ℕ) (short : length source ≤ 32768) (x : Extent) (m : Measures (decodeBy b source) x) (len count deep : ℕ) (e : x ≡ extent.Whole len count deep) (n : ℕ) (h : n ≡ roomVerdict deep count len (length canonical) (length table)) (k : n ≤ 0) where
+module _ (b : Bool) (source canonical table : List ℕ) (short : length source ≤ maxSource) (x : Extent) (m : Measures (decodeBy b source) x) (len count deep : ℕ) (e : x ≡ extent.Whole len count deep) (n : ℕ) (h : n ≡ roomVerdict deep count len (length canonical) (length table)) (k : n ≤ 0) where
   abbrev meant : Wholly (decodeBy b source) len count deep
   meant = measured (decodeBy b source) canonical table x m len count deep e
 

@@ -10,7 +10,7 @@ use Rattle.base.specs.Choice.{pick, isNone}
 use Rattle.model.specs.Tree.{Tree, nodes, depth}
 use Rattle.model.specs.Table.{width, tableOf}
 use Rattle.model.specs.Decode.{decode₁}
-use Rattle.model.specs.Limits.{maxDepth, maxNodes, maxCanonical, Accepted, Syntax, Depth, Nodes, Size}
+use Rattle.model.specs.Limits.{maxDepth, maxNodes, maxCanonical, Accepted, Syntax, Depth, Nodes, Size, maxSource}
 use Rattle.model.specs.Answers.{Outcome, when, judged, the, roomChecks, filled, unchanged}
 use Rattle.answers.specs.declared.Reading.{Reading}
 use Rattle.answers.specs.Cases.{outcome}
@@ -39,7 +39,7 @@ pub record Finishable (canonical : List ℕ) (len count numbers : ℕ) : Type 0 
   pub deep : depth tree ≤ maxDepth
   pub counted : count ≡ nodes tree
   pub fits : width * nodes tree ≤ numbers
-  pub short : len ≤ 32768
+  pub short : len ≤ maxSource
 
 -- the table was written, and the answer tells the sizes
 pub record Finished (canonical : List ℕ) (len count : ℕ) (table table′ : List ℕ) (r : Reading) : Type 0 where

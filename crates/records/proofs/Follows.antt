@@ -101,13 +101,13 @@ pub room-same : (ys : List Record) (T′ : List ℕ) → length T′ ≡ part (l
 unfolding part
 room-same ys T′ l n =
     let a : records (numbers ys) ≡ length ys = omega (arith, length-numbers ys) in
-    let b : records T′ ≡ min (length ys) 4096 = omega arith in
-    by-le n 4096
-    (λ (few : n ≤ 4096). ap (λ (t : Bool). either (ltb maxNodes n) t) (
+    let b : records T′ ≡ min (length ys) maxNodes = omega arith in
+    by-le n maxNodes
+    (λ (few : n ≤ maxNodes). ap (λ (t : Bool). either (ltb maxNodes n) t) (
     by-le n (length ys)
     (λ (h : n ≤ length ys). not-less (records (numbers ys)) n (omega (arith, a)) ∙ sym (not-less (records T′) n (omega (arith, b))))
     (λ (h : length ys < n). less (records (numbers ys)) n (omega (arith, a)) ∙ sym (less (records T′) n (omega (arith, b))))))
-    (λ (many : 4096 < n). picked true (ltb (records (numbers ys)) n) (less maxNodes n many) ∙ sym (picked true (ltb (records T′) n) (less maxNodes n many)))
+    (λ (many : maxNodes < n). picked true (ltb (records (numbers ys)) n) (less maxNodes n many) ∙ sym (picked true (ltb (records T′) n) (less maxNodes n many)))
 
 pub rooms-same : (t : Tree) (c T T′ : List ℕ) → SameRoom T T′ → roomChecks t c T ≡ roomChecks t c T′
 unfolding roomChecks

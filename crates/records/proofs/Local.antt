@@ -31,6 +31,7 @@ use denote.Steps.{owned}
 use denote.Ref.{RefT, MutRef, ShrRef}
 use denote.Lend.{lends-ref, ref-back, lends-shr}
 use borrow.Table.OneValue.{part-in, part-out}
+use Rattle.records.specs.Flat.{flatLength}
 use Rattle.records.proofs.Spelled.{Flat, flatTy}
 
 each-zero : (n : ℕ) → shadow (each ℕ (u32 .own) (replicate n 0) (replicate n (vint w32 0)))
@@ -41,27 +42,27 @@ repeat-is : (n : ℕ) → Is (Array u32 n) (replicate n 0) (vstruct (ofList (rep
 repeat-is n = (replicate n (vint w32 0), ((refl, length-replicate n 0), each-zero n))
 
 unfoldable pub zeros : List ℕ
-zeros = replicate 32768 0
+zeros = replicate flatLength 0
 
 abbrev pub zeroVal : Val
-zeroVal = vstruct (ofList (replicate 32768 (vint w32 0)))
+zeroVal = vstruct (ofList (replicate flatLength (vint w32 0)))
 
-pub length-zeros : length zeros ≡ 32768
+pub length-zeros : length zeros ≡ flatLength
 unfolding zeros
-length-zeros = length-replicate {A = ℕ} 32768 0
+length-zeros = length-replicate {A = ℕ} flatLength 0
 
 module _ {M : Type 1} (𝓤 : URA M) (H : Heap 𝓤) (A : Atoms 𝓤) (W : Given 𝓤 H A) where
   typed-by : (n : ℕ) → Typed (Array u32 n .mir) (vstruct (ofList (replicate n (vint w32 0))) ∷ [])
   typed-by n = array-typed u32 (uint-lawful 𝓤 H A W w32 .typed) n (replicate n 0) (vstruct (ofList (replicate n (vint w32 0))) ∷ []) (repeat-is n)
 
   pub zeros-typed : T (hasTy flatTy zeroVal) × WT zeroVal
-  zeros-typed = typed-by 32768 .0
+  zeros-typed = typed-by flatLength .0
 
   pub zeroed : (l : ℕ) → ent 𝓤 (H .at fullShare flatTy l 0 zeroVal) (sem 𝓤 H A (partAt Flat fullShare zeros l 0))
   unfolding zeros
   zeroed l =
-      qed W (‵ (fat fullShare flatTy l 0 zeroVal) ∷ []) ∵ owned ! Flat (Is Flat) (array-makes 𝓤 H A W u32 (uint-makes 𝓤 H A W w32) 32768) (replicate 32768 0) _ (repeat-is 32768) $ move ! (1 ∷ 0 ∷ []) $
-      by ! (part-in 𝓤 H A W Flat refl fullShare (replicate 32768 0) l 0 zeroVal)
+      qed W (‵ (fat fullShare flatTy l 0 zeroVal) ∷ []) ∵ owned ! Flat (Is Flat) (array-makes 𝓤 H A W u32 (uint-makes 𝓤 H A W w32) flatLength) (replicate flatLength 0) _ (repeat-is flatLength) $ move ! (1 ∷ 0 ∷ []) $
+      by ! (part-in 𝓤 H A W Flat refl fullShare (replicate flatLength 0) l 0 zeroVal)
 
 -- a reference to the local at l, under the name ε
 abbrev pub at-local : ℕ → GName → List ℕ → RefT (List ℕ)

@@ -9,6 +9,7 @@ use lib.Dec.{eqb}
 use borrow.Author.Tests.{eqb-true}
 use lib.ListN.{length, take, drop, length-take}
 use lib.Seq.{take-take, take-append-le, length-take-le}
+use Rattle.model.specs.Limits.{maxNodes}
 use Rattle.base.specs.Choice.{pick, both, equal, chain}
 use Rattle.base.proofs.Cases.{by-bool, by-le, unpicked}
 use Rattle.base.proofs.Lists.{equal-true}
@@ -19,7 +20,7 @@ use Rattle.walk.proofs.Tabled.{table-length}
 use Rattle.lookup.proofs.Sheets.{sheet-of}
 use Rattle.records.specs.declared.Record.{Record}
 use Rattle.records.specs.Numbers.{numbers}
-use Rattle.records.specs.Flat.{part, held, flattened}
+use Rattle.records.specs.Flat.{flatLength, part, held, flattened}
 use Rattle.records.proofs.Facts.{length-flattened}
 use Rattle.records.proofs.Tables.{length-numbers, flattened-is}
 
@@ -31,7 +32,7 @@ chain-same (some a) f g h = h a refl
 unequal : (x y : List ℕ) → (length x ≡ length y → ⊥) → equal x y ≡ false
 unequal x y h = by-bool (equal x y) (λ t. absurd (h (ap length (equal-true x y t)))) (λ f. f)
 
-module _ (ys : List Record) (count : ℕ) (z : List ℕ) (long : length z ≡ 32768) where
+module _ (ys : List Record) (count : ℕ) (z : List ℕ) (long : length z ≡ flatLength) where
   -- how many are held, and the part of the flat copy that stands for the records
   abbrev h : ℕ
   h = held (length ys) count
@@ -44,7 +45,7 @@ module _ (ys : List Record) (count : ℕ) (z : List ℕ) (long : length z ≡ 32
   flat-length = length-take (part (length ys)) (flattened ys h z) ∙ omega (arith, length-flattened ys h z)
 
   -- where all records in use are held, the copy begins as the records do
-  same-front : count ≤ length ys → count ≤ 4096 → take (8 * count) (numbers ys) ≡ take (8 * count) F
+  same-front : count ≤ length ys → count ≤ maxNodes → take (8 * count) (numbers ys) ≡ take (8 * count) F
   unfolding part held
   same-front in-use few =
       let e : h ≡ count = omega arith in
@@ -58,7 +59,7 @@ module _ (ys : List Record) (count : ℕ) (z : List ℕ) (long : length z ≡ 32
   too-short : (t : Tree) (l : List ℕ) → count ≡ nodes t → length l < 8 * count → equal (take (8 * count) l) (tableOf t) ≡ false
   too-short t l e s = unequal (take (8 * count) l) (tableOf t) (λ q. omega (arith, q, length-take (8 * count) l, table-length t))
 
-  tests-same : (t : Tree) → nodes t ≤ 4096 → both (eqb count (nodes t)) (equal (take (width * count) (numbers ys)) (tableOf t)) ≡ both (eqb count (nodes t)) (equal (take (width * count) F) (tableOf t))
+  tests-same : (t : Tree) → nodes t ≤ maxNodes → both (eqb count (nodes t)) (equal (take (width * count) (numbers ys)) (tableOf t)) ≡ both (eqb count (nodes t)) (equal (take (width * count) F) (tableOf t))
   unfolding part
   tests-same t few =
       by-bool (eqb count (nodes t))

@@ -16,7 +16,7 @@ use Rattle.answers.specs.Cases.{outcome}
 use Rattle.answers.specs.declared.Reading.{Reading}
 use Rattle.records.specs.declared.Record.{Record}
 use Rattle.records.specs.Numbers.{numbers}
-use Rattle.records.specs.Flat.{part, held, filled, flattened, touched, Fills}
+use Rattle.records.specs.Flat.{flatLength, part, held, filled, flattened, touched, Fills}
 use Rattle.records.proofs.Follows.{Follows, AsSaid, SameRoom, judged-said, room-same, rooms-same, through-fills, through-whole}
 use Rattle.records.proofs.Owning.{flat-length, own-same}
 
@@ -37,7 +37,7 @@ module _ (form : ℕ) (s c T T′ : List ℕ) (len nodes node : ℕ) (same : Sam
       (ap (λ (cs : List Check). textChecks form s (when NotOwn (isNone o) ∷ when NoNode (leb nodes node) ∷ cs)) (sym (rooms-same (tree o) c T T′ same)))
       (judged-said (tree o) len nodes c T T′ (checks o T′)))
 
-module _ (form : ℕ) (s c c′ z f′ : List ℕ) (ys : List Record) (len nodes node : ℕ) (r : Reading) (long : length z ≡ 32768)
+module _ (form : ℕ) (s c c′ z f′ : List ℕ) (ys : List Record) (len nodes node : ℕ) (r : Reading) (long : length z ≡ flatLength)
     (e : outcome r c′ (take (part (length ys)) f′) ≡ replacing form s c (take (part (length ys)) (flattened ys (held (length ys) nodes) z)) len nodes node) where
   abbrev F : List ℕ
   F = take (part (length ys)) (flattened ys (held (length ys) nodes) z)

@@ -13,7 +13,7 @@ use Rattle.answers.specs.declared.Place.the-variants as place
 use Rattle.lookup.proofs.Shown.{hint-ordered, hint-ended, data-ordered, data-ended}
 use Rattle.records.specs.declared.Record.{Record}
 use Rattle.records.specs.Numbers.{numbers, placeOf}
-use Rattle.records.specs.Flat.{part, held, flattened, Inside}
+use Rattle.records.specs.Flat.{flatLength, part, held, flattened, Inside}
 use Rattle.records.proofs.Owning.{own-same}
 
 module _ (c : List ℕ) (len : ℕ) (t : List ℕ) (count node : ℕ) (h : Bool) (x : Option Part) where
@@ -31,7 +31,7 @@ pub part-placed : (n room : ℕ) (x : Option Part) (h : Bool) (c : List ℕ) (le
 part-placed n room x h c len t count node e w = subst (λ (k : ℕ). x ≡ placeOf h c len (take k t) count node) e w
 
 -- by the flat copy as by the records
-pub place-same : (ys : List Record) (count : ℕ) (z : List ℕ) → length z ≡ 32768 → (h : Bool) (c : List ℕ) (len node : ℕ)
+pub place-same : (ys : List Record) (count : ℕ) (z : List ℕ) → length z ≡ flatLength → (h : Bool) (c : List ℕ) (len node : ℕ)
     → placeOf h c len (take (part (length ys)) (flattened ys (held (length ys) count) z)) count node ≡ placeOf h c len (numbers ys) count node
 unfolding placeOf hintPart dataPart shownRow
 place-same ys count z long h c len node = rw (own-same ys count z long c len)

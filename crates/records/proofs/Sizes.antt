@@ -11,9 +11,9 @@ use Rattle.answers.specs.Cases.{outcome}
 use Rattle.answers.specs.declared.Reading.{Reading}
 use Rattle.answers.specs.declared.Reading.the-variants as answer
 use Rattle.answers.specs.declared.Refusal.{Refusal}
-use Rattle.records.specs.Flat.{part, touched}
+use Rattle.records.specs.Flat.{flatLength, part, touched}
 
-pub part-fits : (n room : ℕ) (l : List ℕ) → n ≡ part room → length l ≡ 32768 → n ≤ length l
+pub part-fits : (n room : ℕ) (l : List ℕ) → n ≡ part room → length l ≡ flatLength → n ≤ length l
 unfolding part
 part-fits n room l e h = omega arith
 

@@ -6,6 +6,7 @@ use denote.Memory.{pointee}
 use denote.Slice.{sliceTy}
 use denote.Builtin.{u32}
 use denote.Array.{Array}
+use Rattle.records.specs.Flat.{flatLength}
 use Rattle.records.proofs.Record as T
 
 abbrev pub word : Ty
@@ -36,10 +37,10 @@ recs ℓ μ = sliceTy (toRecord ℓ μ)
 
 -- the flat table
 abbrev pub Flat : RattleType
-Flat = Array u32 32768
+Flat = Array u32 flatLength
 
 abbrev pub flatTy : Ty
-flatTy = tyArray (tyInt w32) 32768
+flatTy = tyArray (tyInt w32) flatLength
 
 abbrev pub toFlat : Lifetime → Mutability → Ty
 toFlat ℓ μ = tyRef ℓ μ flatTy

@@ -11,10 +11,10 @@ use Rattle.answers.specs.Cases.{outcome}
 use Rattle.answers.specs.declared.Reading.{Reading}
 use Rattle.records.specs.declared.Record.{Record}
 use Rattle.records.specs.Numbers.{numbers}
-use Rattle.records.specs.Flat.{part, filled, touched, Fills}
+use Rattle.records.specs.Flat.{flatLength, part, filled, touched, Fills}
 use Rattle.records.proofs.Follows.{Follows, AsSaid, SameRoom, judged-said, room-same, rooms-same, through-fills, through-whole}
 
-pub part-length : (room : ℕ) (f : List ℕ) → length f ≡ 32768 → length (take (part room) f) ≡ part room
+pub part-length : (room : ℕ) (f : List ℕ) → length f ≡ flatLength → length (take (part room) f) ≡ part room
 unfolding part
 part-length room f e = length-take (part room) f ∙ omega arith
 
@@ -25,7 +25,7 @@ reading-said form s c T T′ same =
     (ap (λ (cs : List Check). textChecks form s cs) (sym (rooms-same (the (decode form s)) c T T′ same)))
     (judged-said (the (decode form s)) 0 0 c T T′ (readingChecks form s c T′))
 
-module _ (form : ℕ) (s c c′ f f′ : List ℕ) (ys : List Record) (r : Reading) (long : length f ≡ 32768) (e : outcome r c′ (take (part (length ys)) f′) ≡ reading form s c (take (part (length ys)) f)) where
+module _ (form : ℕ) (s c c′ f f′ : List ℕ) (ys : List Record) (r : Reading) (long : length f ≡ flatLength) (e : outcome r c′ (take (part (length ys)) f′) ≡ reading form s c (take (part (length ys)) f)) where
   follows : Follows (touched r 0) (numbers ys) (reading form s c (take (part (length ys)) f)) (reading form s c (numbers ys))
   follows = reading-said form s c (numbers ys) (take (part (length ys)) f) (room-same ys (take (part (length ys)) f) (part-length (length ys) f long)) r c′ (take (part (length ys)) f′) e
 

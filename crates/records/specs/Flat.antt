@@ -1,4 +1,4 @@
--- The flat copy of a table of records that the core works over: 32,768 numbers, which is 4,096 records.
+-- The flat copy of a table of records that the core works over.
 use Prim.Native.Nat.{ℕ, zero, suc, _+_, _*_, _≤_, max, min}
 use mathlib.Core.Path.{_≡_}
 use mathlib.Core.List.{List}
@@ -12,6 +12,10 @@ use Rattle.answers.specs.declared.Reading.{Reading}
 use Rattle.answers.specs.declared.Reading.the-variants as reading
 use Rattle.records.specs.declared.Record.{Record}
 use Rattle.records.specs.Numbers.{eight}
+
+-- how many numbers it has: those of the largest table
+abbrev pub flatLength : ℕ
+flatLength = width * maxNodes
 
 -- a record of zeros
 abbrev pub nil : Record

@@ -6,6 +6,7 @@ ghost use mathlib.Core.Path.{_≡_};
 ghost use Prim.Native.Nat.{_<_};
 ghost use lib.ListN.{length};
 ghost use mathlib.Core.List.{[]};
+ghost use Rattle.model.specs.Limits.{maxNodes};
 ghost use Rattle.model.specs.Answers.{reading, replacing, hintShown, dataShown, shownOr};
 ghost use Rattle.answers.specs.Cases.{outcome, placed};
 ghost use Rattle.records.specs.Numbers.{numbers, placeOf};
@@ -28,7 +29,7 @@ pub struct Record {
 
 // The record that the eight numbers from `8 * i` on spell.
 fn decode(flat: &[u32; limits::NUMBERS], i: usize) -> Record
-    requires { ⌜ i < 4096 ⌝ }
+    requires { ⌜ i < maxNodes ⌝ }
     ensures { λ r. ⌜ r ≡ spelled (now (flat .entry)) i ⌝ }
 {
     let at = limits::WIDTH * i;
@@ -46,7 +47,7 @@ fn decode(flat: &[u32; limits::NUMBERS], i: usize) -> Record
 
 // Eight numbers, from `8 * i` on, spell `r`.
 fn encode(flat: &mut [u32; limits::NUMBERS], i: usize, r: Record)
-    requires { ⌜ i < 4096 ⌝ }
+    requires { ⌜ i < maxNodes ⌝ }
     ensures { λ _. ⌜ now (flat .exit) ≡ written (now (flat .entry)) i r ⌝ }
 {
     let at = limits::WIDTH * i;

@@ -2,6 +2,7 @@
 ghost use mathlib.Core.Path.{_≡_};
 ghost use Prim.Native.Nat.{_+_, _≤_, _<_};
 ghost use lib.ListN.{length};
+ghost use Rattle.model.specs.Limits.{maxSource};
 ghost use Rattle.base.specs.Choice.{both};
 ghost use lib.Dec.{leb};
 ghost use Rattle.model.specs.Write.{quoteOne, quoteAll, hexDigit, hexAll, shown};
@@ -81,7 +82,7 @@ fn quoted_width(b: u8) -> usize
 
 // How many octets the octets take, with the quotation marks.
 fn quoted_len(src: &[u8], start: usize, end: usize) -> usize
-    requires { ⌜ (start ≤ end) × (end ≤ length (now src)) × (length (now src) ≤ 32768) ⌝ }
+    requires { ⌜ (start ≤ end) × (end ≤ length (now src)) × (length (now src) ≤ maxSource) ⌝ }
     ensures { λ r. ⌜ r ≡ length (quoteAll (cut (now (src .entry)) start end)) + 2 ⌝ }
 {
     let mut len: usize = 2;
@@ -96,7 +97,7 @@ fn quoted_len(src: &[u8], start: usize, end: usize) -> usize
 // How many octets the spelling has.
 pub fn spelled_len(classes: &[u8; 256], src: &[u8], start: usize, end: usize) -> usize
     requires { ⌜ Classed (now classes) ⌝ }
-    requires { ⌜ (start ≤ end) × (end ≤ length (now src)) × (length (now src) ≤ 32768) ⌝ }
+    requires { ⌜ (start ≤ end) × (end ≤ length (now src)) × (length (now src) ≤ maxSource) ⌝ }
     ensures { λ r. ⌜ r ≡ length (shown (cut (now (src .entry)) start end)) ⌝ }
 {
     match spelling_of(classes, src, start, end) {
@@ -142,7 +143,7 @@ fn put_escaped(src: &[u8], start: usize, end: usize, out: &mut [u8], pos: usize)
 
 // What stands between quotation marks. Where no backslash is due, the octets are copied as they stand.
 fn put_octets(src: &[u8], start: usize, end: usize, out: &mut [u8], pos: usize) -> usize
-    requires { ⌜ (start ≤ end) × (end ≤ length (now src)) × (length (now src) ≤ 32768) ⌝ }
+    requires { ⌜ (start ≤ end) × (end ≤ length (now src)) × (length (now src) ≤ maxSource) ⌝ }
     requires { ⌜ pos + length (quoteAll (cut (now src) start end)) ≤ length (now out) ⌝ }
     ensures { λ r. ⌜ Wrote (quoteAll (cut (now (src .entry)) start end)) pos (now (out .entry)) (now (out .exit)) r ⌝ }
 {
@@ -188,7 +189,7 @@ fn put_pairs(src: &[u8], start: usize, end: usize, out: &mut [u8], pos: usize) -
 
 // Octets between quotation marks.
 fn put_quoted(src: &[u8], start: usize, end: usize, out: &mut [u8], pos: usize) -> usize
-    requires { ⌜ (start ≤ end) × (end ≤ length (now src)) × (length (now src) ≤ 32768) ⌝ }
+    requires { ⌜ (start ≤ end) × (end ≤ length (now src)) × (length (now src) ≤ maxSource) ⌝ }
     requires { ⌜ pos + length (quoteAll (cut (now src) start end)) + 2 ≤ length (now out) ⌝ }
     ensures { λ r. ⌜ Wrote (framed 34 (quoteAll (cut (now (src .entry)) start end))) pos (now (out .entry)) (now (out .exit)) r ⌝ }
 {
@@ -220,7 +221,7 @@ pub fn put_spelled(
     pos: usize,
 ) -> usize
     requires { ⌜ Classed (now classes) ⌝ }
-    requires { ⌜ (start ≤ end) × (end ≤ length (now src)) × (length (now src) ≤ 32768) ⌝ }
+    requires { ⌜ (start ≤ end) × (end ≤ length (now src)) × (length (now src) ≤ maxSource) ⌝ }
     requires { ⌜ pos + length (shown (cut (now src) start end)) ≤ length (now out) ⌝ }
     ensures { λ r. ⌜ Wrote (shown (cut (now (src .entry)) start end)) pos (now (out .entry)) (now (out .exit)) r ⌝ }
 {

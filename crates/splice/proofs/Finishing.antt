@@ -40,7 +40,7 @@ module _ (canonical : List ℕ) (numbers old oldCount len count : ℕ) (g : Rewr
         short = omega (arith, length-take-le len canonical (g .lent), g .short);
       }
 
-module _ (canonical table : List ℕ) (old oldCount len count : ℕ) (g : Rewritable canonical (length table) old oldCount len count) (table₁ : List ℕ) (i : table₁ ≡ sets table 0 (tableOf (the (decode₁ (take len canonical))))) (m : ℕ) (e : m ≡ max old len) (canonical′ : List ℕ) (z : canonical′ ≡ sets canonical len (replicate (m - len) 0)) (m₁ : ℕ) (e₁ : m₁ ≡ max oldCount count) (table′ : List ℕ) (z₁ : table′ ≡ sets table₁ (count * 8) (replicate (m₁ * 8 - count * 8) 0)) where
+module _ (canonical table : List ℕ) (old oldCount len count : ℕ) (g : Rewritable canonical (length table) old oldCount len count) (table₁ : List ℕ) (i : table₁ ≡ sets table 0 (tableOf (the (decode₁ (take len canonical))))) (m : ℕ) (e : m ≡ max old len) (canonical′ : List ℕ) (z : canonical′ ≡ sets canonical len (replicate (m - len) 0)) (m₁ : ℕ) (e₁ : m₁ ≡ max oldCount count) (table′ : List ℕ) (z₁ : table′ ≡ sets table₁ (count * width) (replicate (m₁ * width - count * width) 0)) where
   abbrev new : List ℕ
   new = tableOf (the (decode₁ (take len canonical)))
 
@@ -52,11 +52,11 @@ module _ (canonical table : List ℕ) (old oldCount len count : ℕ) (g : Rewrit
   unfolding outcome
   finished =
       let a : m - len ≡ old - len = omega arith in
-      let b : count * 8 ≡ length new = omega (arith, new-long) in
-      let d : m₁ * 8 - count * 8 ≡ width * oldCount - length new = omega (arith, new-long) in
+      let b : count * width ≡ length new = omega (arith, new-long) in
+      let d : m₁ * width - count * width ≡ width * oldCount - length new = omega (arith, new-long) in
       record {
         octets = z ∙ ap (λ (n : ℕ). sets canonical len (replicate n 0)) a;
-        records = z₁ ∙ ap (λ (t : List ℕ). sets t (count * 8) (replicate (m₁ * 8 - count * 8) 0)) i
+        records = z₁ ∙ ap (λ (t : List ℕ). sets t (count * width) (replicate (m₁ * width - count * width) 0)) i
             ∙ ap₂ (λ (p q : ℕ). sets (sets table 0 new) p (replicate q 0)) b d
             ∙ zeroed table new (width * oldCount) (g .oldRecorded) (omega (arith, new-long, g .recorded));
         tells = λ c t. refl;

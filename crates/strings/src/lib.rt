@@ -4,6 +4,7 @@ ghost use mathlib.Core.Path.{_≡_};
 ghost use mathlib.Core.Bool.{true};
 ghost use Prim.Native.Nat.{_+_, _≤_, _<_};
 ghost use lib.ListN.{length, drop, getD};
+ghost use Rattle.model.specs.Limits.{maxSource};
 ghost use Rattle.model.specs.Octets.{isDigit};
 ghost use Rattle.model.specs.Strings.{bind, decimal, marked, afterNumber, simple};
 ghost use Rattle.octets.specs.Classes.{Classed, Lettered};
@@ -90,7 +91,7 @@ fn after_number(classes: &[u8; 256], letters: &[u8; 256], src: &[u8], at: usize,
 fn counted(classes: &[u8; 256], letters: &[u8; 256], src: &[u8], at: usize) -> Simple
     requires { ⌜ Classed (now classes) ⌝ }
     requires { ⌜ Lettered (now letters) ⌝ }
-    requires { ⌜ (at < length (now src)) × (length (now src) ≤ 32768) × (isDigit (getD (now src) at 0) ≡ true) ⌝ }
+    requires { ⌜ (at < length (now src)) × (length (now src) ≤ maxSource) × (isDigit (getD (now src) at 0) ≡ true) ⌝ }
     ensures { λ r. ⌜ Tells (now (src .entry)) (bind (decimal (getD (now (src .entry)) at 0) (drop (at + 1) (now (src .entry)))) afterNumber) r ⌝ }
 {
     match decimal_at(src, at) {
@@ -103,7 +104,7 @@ fn counted(classes: &[u8; 256], letters: &[u8; 256], src: &[u8], at: usize) -> S
 pub fn measure_simple(classes: &[u8; 256], letters: &[u8; 256], src: &[u8], at: usize) -> Simple
     requires { ⌜ Classed (now classes) ⌝ }
     requires { ⌜ Lettered (now letters) ⌝ }
-    requires { ⌜ (at ≤ length (now src)) × (length (now src) ≤ 32768) ⌝ }
+    requires { ⌜ (at ≤ length (now src)) × (length (now src) ≤ maxSource) ⌝ }
     ensures { λ r. ⌜ Tells (now (src .entry)) (simple (drop at (now (src .entry)))) r ⌝ }
 {
     if at >= src.len() {

@@ -21,7 +21,7 @@ use Rattle.scan.specs.Writes.{Wrote}
 use Rattle.scan.proofs.Places.{one-here}
 use Rattle.base64.specs.Steps.{Closing}
 use Rattle.base64.proofs.Marks.{brace}
-use Rattle.texts.specs.Texts.{Braced, Unbraces}
+use Rattle.texts.specs.Texts.{mostDecoded, Braced, Unbraces}
 use Rattle.texts.specs.declared.Unbraced.the-variants.{Octets, NoOctets}
 use Rattle.scan.specs.declared.Simple.{Simple}
 use Rattle.scan.specs.declared.Simple.the-variants.{Is, Not}
@@ -112,13 +112,13 @@ module _ (text : List ℕ) (g : Braced text) where
       brace-more h decoded′ =
           ap decode₂ text-is ∙ braces-more (drop 1 text) (told .octets) (drop next text) (told .reads) (getD text next 0) (drop (next + 1) text) (one-here text next h)
 
-      len-few : len ≤ 24576
+      len-few : len ≤ mostDecoded
       len-few = omega (arith, g .short, told .size, braces-short (drop 1 text) (told .octets) (drop next text) (told .reads), length-drop 1 text)
 
-      pub brace-room : (room : ℕ) → room ≡ 24576 → Body (between 125 unbase []) text 1 0 room × Closing 125
+      pub brace-room : (room : ℕ) → room ≡ mostDecoded → Body (between 125 unbase []) text 1 0 room × Closing 125
       brace-room room h = (record { octets = told .octets; rest = drop next text; reads = told .reads; inside = g .more; fits = omega (arith, told .size, len-few) }, brace)
 
-      module _ (h : length text ≤ next) (out out′ : List ℕ) (long : length out ≡ 24576) (p : ℕ) (u : Wrote (octetsOf (inside text)) 0 out out′ p) where
+      module _ (h : length text ≤ next) (out out′ : List ℕ) (long : length out ≡ mostDecoded) (p : ℕ) (u : Wrote (octetsOf (inside text)) 0 out out′ p) where
         octets-are : octetsOf (inside text) ≡ told .octets
         unfolding octetsOf
         octets-are = rw (told .reads)

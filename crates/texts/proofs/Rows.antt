@@ -2,14 +2,14 @@
 use Prim.Native.Nat.{ℕ, zero, suc, _≤_, _<_}
 use native.Mathlib.Omega.{arith}
 use mathlib.Core.Path.{_≡_, sym, ap, _∙_}
-use mathlib.Core.Bool.{true, false}
+use mathlib.Core.Bool.{false}
 use mathlib.Core.List.{List, _∷_}
 use lib.ListN.{length}
 use lib.Dec.{ltb}
 use borrow.Author.Tests.{lt-ltb, le-ltb, ltb-false}
-use Rattle.base.specs.Choice.{isNone, not, among}
+use Rattle.base.specs.Choice.{isNone}
 use Rattle.base.proofs.Cases.{by-bool, picked, unpicked, not-false, among-in, among-low, among-high, among-true}
-use Rattle.model.specs.Answers.{Check, when, verdict, judged, noForm, textChecks}
+use Rattle.model.specs.Answers.{Check, when, judged, noForm, textChecks}
 use Rattle.model.specs.Decode.{decode}
 use Rattle.model.specs.Limits.{maxSource, Syntax}
 use Rattle.model.proofs.Judging.{judged-refused, verdict-here, verdict-past}
@@ -30,13 +30,13 @@ module _ (form len : ℕ) where
   unfolding noForm
   known lo hi = picked _ _ (among-in 1 3 form lo hi)
 
-  pub row-long : 1 ≤ form → form ≤ 3 → 32768 < len → 2 ≡ textVerdict form len
+  pub row-long : 1 ≤ form → form ≤ 3 → maxSource < len → 2 ≡ textVerdict form len
   unfolding textVerdict
-  row-long lo hi h = sym (unpicked _ _ (known lo hi) ∙ picked _ _ (lt-ltb 32768 len h))
+  row-long lo hi h = sym (unpicked _ _ (known lo hi) ∙ picked _ _ (lt-ltb maxSource len h))
 
-  pub row-none : 1 ≤ form → form ≤ 3 → len ≤ 32768 → 0 ≡ textVerdict form len
+  pub row-none : 1 ≤ form → form ≤ 3 → len ≤ maxSource → 0 ≡ textVerdict form len
   unfolding textVerdict
-  row-none lo hi h = sym (unpicked _ _ (known lo hi) ∙ unpicked _ _ (le-ltb 32768 len h))
+  row-none lo hi h = sym (unpicked _ _ (known lo hi) ∙ unpicked _ _ (le-ltb maxSource len h))
 
 -- ---- what it tells
 

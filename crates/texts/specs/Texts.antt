@@ -1,6 +1,6 @@
 -- What is asked and told of a text. Canonical text, and basic text without braces, are read as canonical; base-64 in braces is
 -- decoded first; the rest is advanced.
-use Prim.Native.Nat.{ℕ, _+_, _≤_, _<_}
+use Prim.Native.Nat.{ℕ, _+_, _*_, _/_, _≤_, _<_}
 use mathlib.Core.Path.{_≡_}
 use mathlib.Core.Bool.{Bool, true, false}
 use mathlib.Core.Option.{Option, none, some}
@@ -26,6 +26,10 @@ decodeBy false text = decode₁ text
 
 abbrev pub Short : List ℕ → Type 0
 Short text = length text ≤ maxSource
+
+-- the most octets that base-64 in braces makes
+abbrev pub mostDecoded : ℕ
+mostDecoded = maxSource / 4 * 3
 
 -- a text that begins with a brace
 pub record Braced (text : List ℕ) : Type 0 where

@@ -6,8 +6,9 @@ use mathlib.Core.Option.{Option}
 use mathlib.Core.List.{List}
 use lib.ListN.{length, take, drop}
 use borrow.Author.Tests.{lt-ltb, le-ltb}
+use Rattle.model.specs.Limits.{maxCanonical}
 use Rattle.base.proofs.Cases.{picked, unpicked}
-use Rattle.model.specs.Answers.{the, settled, written}
+use Rattle.model.specs.Answers.{the, written}
 use Rattle.model.specs.Decode.{decode₁}
 use Rattle.model.specs.Tree.{Tree, canon}
 use Rattle.model.specs.Write.{advanced, basic}
@@ -38,7 +39,7 @@ module _ (c : List ℕ) (n : ℕ) (g : Good c n) where
   lent : n ≤ length c
   lent = sheet-of c n (g .tree) (g .is) .lent
 
-  pub good-short : n ≤ 16384
+  pub good-short : n ≤ maxCanonical
   good-short = omega (arith, sheet-of c n (g .tree) (g .is) .size, sheet-of c n (g .tree) (g .is) .fitting .long)
 
   pub good-length : n ≡ length (take n c)

@@ -6,6 +6,7 @@ use mathlib.Core.Bool.{Bool, false}
 use mathlib.Core.Option.{some}
 use mathlib.Core.List.{List, [], _++_}
 use lib.ListN.{length, drop, getD, drop-of-length-le}
+use Rattle.model.specs.Limits.{maxSource}
 use Rattle.base.proofs.Cases.{some-same, none-some, chain-cases}
 use Rattle.model.specs.Answers.{the}
 use Rattle.model.specs.Decode.{nest, decode₁}
@@ -46,7 +47,7 @@ left-start src s =
       is = ap advanced (sheet-tree src s) ∙ sym (spelled-whole (s .tree)) ∙ ap (spelledAll false) (sym (nest-sound ls (s .tree) h₂));
     })
 
-pub sheet-small : (src : List ℕ) → Sheet src → length (advanced (the (decode₁ src))) ≤ 32768
+pub sheet-small : (src : List ℕ) → Sheet src → length (advanced (the (decode₁ src))) ≤ maxSource
 sheet-small src s =
     let e : length (canon (s .tree)) ≡ length src = sym (ap length (canon-sound src (s .tree) (s .is))) in
     omega (arith, s .short, advanced-within-2n (s .tree), ap (λ (t : Tree). length (advanced t)) (sheet-tree src s))

@@ -7,6 +7,7 @@ use mathlib.Core.List.{List, [], _∷_, _++_}
 use lib.ListN.{length, length-append, set, length-set}
 use mir.Val.{Fits}
 use mir.Syntax.{w64}
+use Rattle.model.specs.Limits.{maxCanonical}
 use Rattle.model.specs.Lexemes.{opening, atom, hinting}
 use Rattle.model.specs.Tree.{plain, canon}
 use Rattle.model.specs.Write.{shown, advanced}
@@ -69,10 +70,10 @@ module _ (due : Bool) (g : ℕ) (e : g ≡ length (gap due)) where
   open-length = omega (arith, length-append (gap due) (40 ∷ []))
 
   module _ (src : List ℕ) (s t n : ℕ) (k : n ≡ length (shown (cut src s t))) where
-    cut-few : t ≤ length src → length src ≤ 16384 → n ≤ 65540
+    cut-few : t ≤ length src → length src ≤ maxCanonical → n ≤ 65540
     cut-few i j = omega (arith, shown-few (cut src s t), cut-length src s t i)
 
-    pub plain-sum : t ≤ length src → length src ≤ 16384 → Fits w64 (g + n)
+    pub plain-sum : t ≤ length src → length src ≤ maxCanonical → Fits w64 (g + n)
     plain-sum i j = record { fits = omega (arith, gap-few due, cut-few i j) }
 
     pub plain-length : g + n ≡ length (spelledOne due (atom (cut src s t)))

@@ -5,6 +5,7 @@ use mathlib.Core.Path.{_≡_, refl, sym, ap, ap₂, _∙_, subst}
 use mathlib.Core.List.{List, [], _∷_, _++_, append-assoc}
 use lib.ListN.{length, take, drop, length-append}
 use lib.Seq.{take-at, drop-at, drop-drop}
+use Rattle.model.specs.Limits.{maxCanonical}
 use Rattle.model.specs.Lexemes.{Lexeme, opening, closing, atom, hinting, strictLexeme}
 use Rattle.model.specs.Strings.{got, refused}
 use Rattle.model.specs.Table.{bodyStart, bodyEnd}
@@ -107,7 +108,7 @@ module _ (src : List ℕ) (at : ℕ) (r : Item) (v : ItemAt src at r) where
     hinted-ahead : at < e
     hinted-ahead = let p : Hintedly src at hs he s e = hintedly in omega (arith, p .ends, p .hintEnds)
 
-    pub hinted-strings : length src ≤ 16384 → Strings src hs he s e
+    pub hinted-strings : length src ≤ maxCanonical → Strings src hs he s e
     hinted-strings short =
         let p : Hintedly src at hs he s e = hintedly in
         record {

@@ -4,6 +4,7 @@ use mathlib.Core.Path.{_≡_}
 use mathlib.Core.Option.{some}
 use mathlib.Core.List.{List, [], _∷_}
 use lib.ListN.{length, getD}
+use Rattle.model.specs.Limits.{maxCanonical}
 use Rattle.model.specs.Decode.{decode₁}
 use Rattle.model.specs.Tree.{Tree}
 
@@ -11,7 +12,7 @@ use Rattle.model.specs.Tree.{Tree}
 pub record Sheet (src : List ℕ) : Type 0 where
   pub tree : Tree
   pub is : decode₁ src ≡ some tree
-  pub short : length src ≤ 16384
+  pub short : length src ≤ maxCanonical
 
 -- the places of a string with a hint
 pub record Strings (src : List ℕ) (hintStart hintEnd start end : ℕ) : Type 0 where
@@ -19,7 +20,7 @@ pub record Strings (src : List ℕ) (hintStart hintEnd start end : ℕ) : Type 0
   pub hintWithin : hintEnd ≤ length src
   pub order : start ≤ end
   pub within : end ≤ length src
-  pub short : length src ≤ 16384
+  pub short : length src ≤ maxCanonical
 
 -- the four elements of a group
 abbrev pub quartet : List ℕ → List ℕ

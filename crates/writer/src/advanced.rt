@@ -2,6 +2,7 @@
 ghost use mathlib.Core.Path.{_≡_};
 ghost use Prim.Native.Nat.{_+_, _≤_};
 ghost use lib.ListN.{length};
+ghost use Rattle.model.specs.Limits.{maxCanonical};
 ghost use Rattle.model.specs.Answers.{the};
 ghost use Rattle.model.specs.Decode.{decode₁};
 ghost use Rattle.model.specs.Lexemes.{opening, atom, hinting};
@@ -33,7 +34,7 @@ fn open_len(due: bool) -> usize
 // How many octets a string takes.
 fn plain_len(classes: &[u8; 256], src: &[u8], due: bool, start: usize, end: usize) -> usize
     requires { ⌜ Classed (now classes) ⌝ }
-    requires { ⌜ (start ≤ end) × (end ≤ length (now src)) × (length (now src) ≤ 16384) ⌝ }
+    requires { ⌜ (start ≤ end) × (end ≤ length (now src)) × (length (now src) ≤ maxCanonical) ⌝ }
     ensures { λ r. ⌜ r ≡ length (spelledOne due (atom (cut (now (src .entry)) start end))) ⌝ }
 {
     gap_len(due) + spelled_len(classes, src, start, end)
@@ -136,7 +137,7 @@ fn put_plain(
     pos: usize,
 ) -> usize
     requires { ⌜ Classed (now classes) ⌝ }
-    requires { ⌜ (start ≤ end) × (end ≤ length (now src)) × (length (now src) ≤ 16384) ⌝ }
+    requires { ⌜ (start ≤ end) × (end ≤ length (now src)) × (length (now src) ≤ maxCanonical) ⌝ }
     requires { ⌜ pos + length (gap due) + length (shown (cut (now src) start end)) ≤ length (now out) ⌝ }
     ensures { λ r. ⌜ Wrote (spelledOne due (atom (cut (now (src .entry)) start end))) pos (now (out .entry)) (now (out .exit)) r ⌝ }
 {
@@ -154,7 +155,7 @@ fn put_hint(
     pos: usize,
 ) -> usize
     requires { ⌜ Classed (now classes) ⌝ }
-    requires { ⌜ (start ≤ end) × (end ≤ length (now src)) × (length (now src) ≤ 16384) ⌝ }
+    requires { ⌜ (start ≤ end) × (end ≤ length (now src)) × (length (now src) ≤ maxCanonical) ⌝ }
     requires { ⌜ pos + length (shown (cut (now src) start end)) + 2 ≤ length (now out) ⌝ }
     ensures { λ r. ⌜ Wrote (bracketed (cut (now (src .entry)) start end)) pos (now (out .entry)) (now (out .exit)) r ⌝ }
 {

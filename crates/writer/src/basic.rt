@@ -2,6 +2,7 @@
 ghost use mathlib.Core.Path.{_≡_};
 ghost use Prim.Native.Nat.{_+_, _*_, _-_, _/_, _≤_, _<_};
 ghost use lib.ListN.{length, drop, getD};
+ghost use Rattle.model.specs.Limits.{maxCanonical};
 ghost use Rattle.model.specs.Answers.{the};
 ghost use Rattle.model.specs.Decode.{decode₁};
 ghost use Rattle.model.specs.Write.{baseAll, basic};
@@ -12,7 +13,7 @@ use letters::letters_of;
 
 // How many octets form 2 of n octets has.
 pub fn basic_len(n: usize) -> usize
-    requires { ⌜ n ≤ 16384 ⌝ }
+    requires { ⌜ n ≤ maxCanonical ⌝ }
     ensures { λ r. ⌜ r ≡ (n + 2) / 3 * 4 + 2 ⌝ }
 {
     (n + 2) / 3 * 4 + 2

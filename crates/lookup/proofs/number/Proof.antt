@@ -1,6 +1,7 @@
 use Prim.Native.Nat.{_+_, _*_}
 use native.Mathlib.Omega.{arith}
 use borrow.Author.Needs.{needs}
+use Rattle.model.specs.Table.{width}
 use Rattle.lookup.proofs.number.Statement.{statement}
 use Rattle.lookup.proofs.number.Tie as tie
 
@@ -17,7 +18,7 @@ shared-slice-read-result : tie.Need-shared-slice-read-result
 shared-slice-read-result c = search needs
 
 cast-result : tie.Need-cast-result
-cast-result c = omega (arith, c .shared-slice-known .given (c .before .args .node * 8 + c .before .args .k))
+cast-result c = omega (arith, c .shared-slice-known .given (c .before .args .node * width + c .before .args .k))
 
 returns : tie.Need-returns
 returns c = search needs

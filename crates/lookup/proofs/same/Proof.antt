@@ -3,8 +3,6 @@ use Rattle.lookup.proofs.Answered.{sheet-length, two-sheets, compared, 
 use borrow.Author.Needs.{needs}
 use Rattle.lookup.proofs.same.Statement.{statement}
 use Rattle.lookup.proofs.same.Tie as tie
-use Rattle.lookup.proofs.alike.alike.Reads as alike-reads
-use Rattle.lookup.proofs.sheet.Reads as sheet-reads
 
 sheet-requires : tie.Need-sheet-requires
 sheet-requires c κs = search needs

@@ -49,11 +49,12 @@ use denote.Triple.Clauses.{ensured, lasts}
 use denote.Triple.Table.{entered, cited}
 use denote.Triple.Walked.{says, needs, Stays, stay-none, stay-none-ref, stay-slice, walkOf, goes-none, goes-none-ref, goes-slice, Walks, ends-at, walked, walk-meets}
 use denote.Exit.{yes}
+use Rattle.model.specs.Limits.{maxNodes}
 use Rattle.answers.specs.declared.Reading.{Reading}
 use Rattle.answers.proofs.Reading as R
 use Rattle.answers.proofs.Reading.Laws as R′
 use Rattle.records.specs.declared.Record.{Record}
-use Rattle.records.specs.Flat.{nil, spelled, filled, touched, Fills}
+use Rattle.records.specs.Flat.{flatLength, nil, spelled, filled, touched, Fills}
 use Rattle.records.proofs.Facts.{holds, fails, one-more, scaled, is-word, length-filled}
 use Rattle.records.proofs.Counting.{counts}
 use Rattle.records.proofs.Spelled.{word, answerTy, recs, Flat, toFlat}
@@ -74,7 +75,7 @@ use Rattle.records.proofs.fill.Code as code
 use Rattle.records.proofs.fill.Code.Mir as mir
 
 abbrev stayed : Stays (fill.ended .signature .params) (fill.ended .kept)
-stayed = (stay-slice (0 ∷ []) tt (plain (λ _. T.the-row)), (stay-none-ref (1 ∷ []) tt (arrayOf (plain (λ _. u32)) 32768) yes, (stay-none (λ _. R.the-row) yes, (stay-none (λ _. usize) yes, tt))))
+stayed = (stay-slice (0 ∷ []) tt (plain (λ _. T.the-row)), (stay-none-ref (1 ∷ []) tt (arrayOf (plain (λ _. u32)) flatLength) yes, (stay-none (λ _. R.the-row) yes, (stay-none (λ _. usize) yes, tt))))
 
 -- the contracts that the proof cites
 module _ {M : Type 1} (𝓤 : URA M) (H : Heap 𝓤) (A : Atoms 𝓤) (mem : Memory → SProp 𝓤) (run : Routine → Fun 𝓤) where
@@ -131,7 +132,7 @@ module _ {M : Type 1} (𝓤 : URA M) (H : Heap 𝓤) (A : Atoms 𝓤) (W : Given
   abbrev to : ℕ → Decode 𝓤 H A mem run .Ghost
   to i = (((κ′, tt), (q′, tt), tt, (f, (i, tt)), (sf ∷ [], (vint w64 i ∷ [], tt))), tt)
 
-  goes : (i : ℕ) → i < 4096 → ent 𝓤 (sep 𝓤 (A .lft κ′ q′) (sem 𝓤 H A Nums)) (Decode 𝓤 H A mem run .pre (to i))
+  goes : (i : ℕ) → i < maxNodes → ent 𝓤 (sep 𝓤 (A .lft κ′ q′) (sem 𝓤 H A Nums)) (Decode 𝓤 H A mem run .pre (to i))
   goes i small =
       qed W (‵ (flft κ′ q′) ∷ ‵ Nums ∷ []) ∵ says ! small $ nothing ! $ move ! (1 ∷ 0 ∷ []) $ join ! $ frame ! $
       nothing ! $ owned ! usize (Is usize) (uint-makes 𝓤 H A W w64) i _ (refl, omega arith) $ fjoin ! $ move ! (1 ∷ 0 ∷ []) $ fjoin ! $ done !
@@ -146,7 +147,7 @@ module _ {M : Type 1} (𝓤 : URA M) (H : Heap 𝓤) (A : Atoms 𝓤) (W : Given
     n-recs : n ≤ length ys
     n-recs = omega (arith, fills .lent)
 
-    n-few : n ≤ 4096
+    n-few : n ≤ maxNodes
     n-few = omega (arith, fills .few)
 
     exits : Room T.the-row (length ys) → ent 𝓤 (⋆ 𝓤 H A (‵ (fobs γ (codedHoleys T.the-row .code (heres T.the-row zs))) ∷ ‵ (fbor κ (Held T.the-row (length zs) b o γ)) ∷ ‵ (flft κ q) ∷ ‵ (flft κ′ q′) ∷ ‵ Nums ∷ [])) (Post vunit)
@@ -291,7 +292,7 @@ module _ {M : Type 1} (𝓤 : URA M) (H : Heap 𝓤) (A : Atoms 𝓤) (W : Given
 
   fill-meets : Meets 𝓤 H A fill.signature (WpFn 𝓤 H (𝓣 .C) (𝓣 .Λ) code.function) (fill.spec 𝓤 H A mem run)
   fill-meets =
-      walk-meets 𝓤 H A fill.ended stayed W (goes-slice 𝓤 H A W 2 0 tt (plain (λ _. T.the-row)), (goes-none-ref 𝓤 H A W 2 (1 ∷ []) tt (arrayOf (plain (λ _. u32)) 32768) yes, (goes-none 𝓤 H A W 2 (λ _. R.the-row) yes (λ κs x f. refl), (goes-none 𝓤 H A W 2 (λ _. usize) yes (λ κs x f. refl), tt))))
+      walk-meets 𝓤 H A fill.ended stayed W (goes-slice 𝓤 H A W 2 0 tt (plain (λ _. T.the-row)), (goes-none-ref 𝓤 H A W 2 (1 ∷ []) tt (arrayOf (plain (λ _. u32)) flatLength) yes, (goes-none 𝓤 H A W 2 (λ _. R.the-row) yes (λ κs x f. refl), (goes-none 𝓤 H A W 2 (λ _. usize) yes (λ κs x f. refl), tt))))
       (fill.clauses 𝓤 H A mem run) (WpFn 𝓤 H (𝓣 .C) (𝓣 .Λ) code.function) (WpFn-mono 𝓤 H (W .laws) 𝓣 code.function) fill-walks
 
 pub fill-spec : {M : Type 1} → stated.statement M

@@ -48,8 +48,9 @@ use denote.Triple.Clauses.{ensured, lasts}
 use denote.Triple.Table.{entered, cited}
 use denote.Triple.Walked.{says, Stays, stay-dropped, stay-ref, walkOf, goes-dropped, goes-ref, Walks, ends-at, walked, walk-meets}
 use denote.Exit.{yes}
+use Rattle.model.specs.Limits.{maxNodes}
 use Rattle.records.specs.declared.Record.{Record}
-use Rattle.records.specs.Flat.{nil, written, flattened, held}
+use Rattle.records.specs.Flat.{flatLength, nil, written, flattened, held}
 use Rattle.records.proofs.Facts.{holds, fails, one-more, scaled, is-word, is-unit}
 use Rattle.records.proofs.Counting.{counts}
 use Rattle.records.proofs.Spelled.{word, recs, Flat, flatTy, toFlat}
@@ -70,7 +71,7 @@ use Rattle.records.proofs.flatten.Code as code
 use Rattle.records.proofs.flatten.Code.Mir as mir
 
 abbrev stayed : Stays (flatten.ended .signature .params) (flatten.ended .kept)
-stayed = (stay-dropped (shrSliceOf (0 ∷ []) tt (plain (λ _. T.the-row))) yes, (stay-ref (1 ∷ []) tt (arrayOf (plain (λ _. u32)) 32768), (stay-dropped (plain (λ _. usize)) yes, tt)))
+stayed = (stay-dropped (shrSliceOf (0 ∷ []) tt (plain (λ _. T.the-row))) yes, (stay-ref (1 ∷ []) tt (arrayOf (plain (λ _. u32)) flatLength), (stay-dropped (plain (λ _. usize)) yes, tt)))
 
 -- the contracts that the proof cites
 module _ {M : Type 1} (𝓤 : URA M) (H : Heap 𝓤) (A : Atoms 𝓤) (mem : Memory → SProp 𝓤) (run : Routine → Fun 𝓤) where
@@ -150,7 +151,7 @@ module _ {M : Type 1} (𝓤 : URA M) (H : Heap 𝓤) (A : Atoms 𝓤) (W : Given
   abbrev to : ℕ → ℕ → GName → Encode 𝓤 H A mem run .Ghost
   to i ν ε = (((ν ∷ [], tt), (fullShare, tt), tt, (f ε (L i), (i, (r i, tt))), (sf ∷ [], (vint w64 i ∷ [], (T′.lowered (r i) ∷ [], tt)))), tt)
 
-  goes : (i ν : ℕ) (ε : GName) → i < 4096 → Is T.the-row (r i) (T′.lowered (r i) ∷ [])
+  goes : (i ν : ℕ) (ε : GName) → i < maxNodes → Is T.the-row (r i) (T′.lowered (r i) ∷ [])
       → ent 𝓤 (sep 𝓤 (A .lft (ν ∷ []) fullShare) (sem 𝓤 H A (MutRef (named 0) (ν ∷ []) Flat .own (f ε (L i)) (sf ∷ [])))) (Encode 𝓤 H A mem run .pre (to i ν ε))
   goes i ν ε small is =
       qed W (‵ (flft (ν ∷ []) fullShare) ∷ ‵ (MutRef (named 0) (ν ∷ []) Flat .own (f ε (L i)) (sf ∷ [])) ∷ []) ∵ says ! small $ nothing ! $ move ! (1 ∷ 0 ∷ []) $ join ! $ frame ! $ nothing ! $ owned ! T.the-row (Is T.the-row) (LL.makes T.the-type T′.the-plain 𝓤 H A) (r i) _ is $ fjoin ! $ owned ! usize (Is usize) (uint-makes 𝓤 H A W w64) i _ (refl, omega arith) $ fjoin ! $ move ! (1 ∷ 0 ∷ []) $ fjoin ! $ done !
@@ -160,7 +161,7 @@ module _ {M : Type 1} (𝓤 : URA M) (H : Heap 𝓤) (A : Atoms 𝓤) (W : Given
     unfolding held
     n-recs = omega arith
 
-    n-few : n ≤ 4096
+    n-few : n ≤ maxNodes
     unfolding held
     n-few = omega arith
 
@@ -276,7 +277,7 @@ module _ {M : Type 1} (𝓤 : URA M) (H : Heap 𝓤) (A : Atoms 𝓤) (W : Given
 
   meets : Meets 𝓤 H A flatten.signature (WpFn 𝓤 H (𝓣 .C) (𝓣 .Λ) code.function) (flatten.spec 𝓤 H A mem run)
   meets =
-      walk-meets 𝓤 H A flatten.ended stayed W (goes-dropped 𝓤 H A W 2 (shrSliceOf (0 ∷ []) tt (plain (λ _. T.the-row))) yes (λ κs x f. refl), (goes-ref 𝓤 H A W 2 1 tt (arrayOf (plain (λ _. u32)) 32768), (goes-dropped 𝓤 H A W 2 (plain (λ _. usize)) yes (λ κs x f. refl), tt)))
+      walk-meets 𝓤 H A flatten.ended stayed W (goes-dropped 𝓤 H A W 2 (shrSliceOf (0 ∷ []) tt (plain (λ _. T.the-row))) yes (λ κs x f. refl), (goes-ref 𝓤 H A W 2 1 tt (arrayOf (plain (λ _. u32)) flatLength), (goes-dropped 𝓤 H A W 2 (plain (λ _. usize)) yes (λ κs x f. refl), tt)))
       (flatten.clauses 𝓤 H A mem run) (WpFn 𝓤 H (𝓣 .C) (𝓣 .Λ) code.function) (WpFn-mono 𝓤 H (W .laws) 𝓣 code.function) walks
 
 pub flatten-spec : {M : Type 1} → stated.statement M

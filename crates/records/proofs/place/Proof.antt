@@ -47,7 +47,7 @@ use Rattle.answers.specs.declared.Place.{Place}
 use Rattle.answers.proofs.Place as P
 use Rattle.answers.proofs.Place.Laws as P′
 use Rattle.records.specs.declared.Record.{Record}
-use Rattle.records.specs.Flat.{part, held, flattened}
+use Rattle.records.specs.Flat.{flatLength, part, held, flattened}
 use Rattle.records.specs.Numbers.{placeOf}
 use Rattle.records.proofs.Facts.{is-unit}
 use Rattle.records.proofs.Spelled.{word, placeTy, bytes, recs, Flat, flatTy, toFlat}
@@ -192,7 +192,7 @@ module _ {M : Type 1} (𝓤 : URA M) (H : Heap 𝓤) (A : Atoms 𝓤) (W : Given
         qed W ((‵ (flft κ₀ q₀) ⊛ ‵ (flft κ₁ q₁) ⊛ ‵ ftrue) ∷ ‵ (owns (ShrSlice (named 0) κ₀ u8 ∷ usize ∷ ShrSlice (named 1) κ₁ T.the-row ∷ usize ∷ usize ∷ bool ∷ []) a vals) ∷ []) ∵ enter ! C Λ code.function (sc ∷ vint w64 len ∷ sr ∷ vint w64 nodes ∷ vint w64 node ∷ vbool hinted ∷ []) _ $
         alloc1 ! (λ l₀. alloc1 ! (λ l₁. alloc1 ! (λ l₂. alloc1 ! (λ l₃. alloc1 ! (λ l₄. alloc1 ! (λ l₅. alloc1 ! (λ l₆. alloc1 ! (λ l₇. alloc1 ! (λ l₈. alloc1 ! (λ l₉. alloc1 ! (λ l₁₀. alloc1 ! (λ l₁₁. alloc0 ! $ params1 ! $
         pass1 ! (init ! 20 refl (tt, (tt, (record { fits = room₀ .0 }, tt)))) $ pass1 ! (init ! 18 refl (tt, record { fits = len-fits })) $ pass1 ! (init ! 16 refl (tt, (tt, (record { fits = room₁ .0 }, tt)))) $ pass1 ! (init ! 14 refl (tt, record { fits = nodes-fits })) $ pass1 ! (init ! 12 refl (tt, record { fits = node-fits })) $ pass1 ! (init ! 10 refl (tt, tt)) $ pass0 ! $
-        assigns ! (rep ! 32768 (lit ! tt)) (from ! (stop !)) (init ! 8 refl (zeros-typed 𝓤 H A W)) $ move ! (8 ∷ []) $ use1 W (‵ (partAt Flat fullShare zeros l₇ 0)) (zeroed 𝓤 H A W l₇) $
+        assigns ! (rep ! flatLength (lit ! tt)) (from ! (stop !)) (init ! 8 refl (zeros-typed 𝓤 H A W)) $ move ! (8 ∷ []) $ use1 W (‵ (partAt Flat fullShare zeros l₇ 0)) (zeroed 𝓤 H A W l₇) $
         move ! (25 ∷ []) $ fsplit ! $ move ! (1 ∷ []) $ fsplit ! $ move ! (1 ∷ []) $ fsplit ! $ move ! (28 ∷ []) $ split ! $ move ! (1 ∷ []) $ split ! $
         keep ! (6 ∷ 3 ∷ 2 ∷ 0 ∷ 8 ∷ 9 ∷ 10 ∷ 11 ∷ 12 ∷ 13 ∷ 14 ∷ 15 ∷ 7 ∷ 16 ∷ 17 ∷ 18 ∷ 19 ∷ 20 ∷ 21 ∷ 22 ∷ 23 ∷ 24 ∷ 25 ∷ 26 ∷ 27 ∷ 28 ∷ 29 ∷ 30 ∷ []) $ flats l₀ l₁ l₂ l₃ l₄ l₅ l₆ l₇ l₈ l₉ l₁₀ l₁₁))))))))))))
 
