@@ -1,5 +1,5 @@
 -- Lexemes at a place of an advanced text.
-use Prim.Native.Nat.{ℕ, _+_, _-_, _≤_, _<_}
+use Prim.Native.Nat.{ℕ, _+_, _*_, _-_, _≤_, _<_}
 use native.Mathlib.Omega.{arith}
 use mathlib.Core.Path.{_≡_, refl, sym, ap, _∙_, subst}
 use mathlib.Core.List.{List}
@@ -20,7 +20,8 @@ use Rattle.scan.specs.Runs.{Skipped, Ran}
 use Rattle.scan.specs.Strings.{Reads, Tells}
 use Rattle.scan.proofs.Places.{one-here}
 use Rattle.decimal.specs.Numbers.{Wide}
-use Rattle.advanced.specs.Lexed.{Again, HintClosed, Closes, ItemAt, Long, Tokened}
+use Rattle.quoted.specs.Pieces.{Unescaped}
+use Rattle.advanced.specs.Lexed.{Again, HintClosed, Closes, ItemAt, Long, Marked, Standing, markOf}
 use Rattle.model.proofs.Stripped as Stripped
 use Rattle.strings.proofs.Found as Found
 use Rattle.scan.specs.declared.Simple.{Simple}
@@ -187,11 +188,48 @@ module _ (src : List ℕ) (at : ℕ) (h : at < length src) (c : ℕ) (k : Class 
       simple-token-at : (end : ℕ) → 14 ≤ c → c ≤ 17 → Ran src (at + 1) end → Tells src (simple (drop at src)) (Is 0 (end - at) at end)
       simple-token-at end a b r = Found.simple-token src at h c k end a b r
 
-  pub token-none : Tokened src at at
-  token-none = record { from = omega arith; within = omega arith; is = λ g. absurd (omega arith) }
+  lex-quoted : (end : ℕ) → c ≡ 1 → Unescaped src (at + 1) end → at + 1 < end → ItemAt src at (Atom 0 (end - (at + 1) - 1) (at + 1) end)
+  lex-quoted end e u g =
+      let q : getD src at 0 ≡ 34 = first-is 34 1 (k .quote) e in
+      lex-atom (λ z. omega arith) (λ z. omega arith) (λ z. omega arith) (Is 0 (end - (at + 1) - 1) (at + 1) end)
+      (Found.simple-marked src at h c k (omega arith) (Is 0 (end - (at + 1) - 1) (at + 1) end) (Found.marked-quoted src at q (Is 0 (end - (at + 1) - 1) (at + 1) end) (u .is g))) 0 (end - (at + 1) - 1) (at + 1) end refl
 
-  pub token-here : 14 ≤ c → c ≤ 17 → (end : ℕ) → Ran src (at + 1) end → Tokened src at end
-  token-here lo hi end r = record { from = omega (arith, r .from); within = r .within; is = λ g. lex-token end (omega arith) (omega arith) r }
+  pub standing-none : Standing src at at
+  standing-none = record { from = omega arith; within = omega arith; wide = λ g. absurd (omega arith); is = λ g. absurd (omega arith) }
+
+  pub standing-token : 14 ≤ c → c ≤ 17 → (end : ℕ) → Ran src (at + 1) end → Standing src at end
+  unfolding markOf
+  standing-token lo hi end r =
+      let m : markOf (getD src at 0) ≡ 0 = unpicked _ _ (ne-eqb _ _ (first-not 34 1 (k .quote) (λ z. omega arith))) in
+      let z : end - at - 2 * 0 ≡ end - at = omega arith in
+      let y : at + 0 ≡ at = omega arith in
+      record {
+        from = omega (arith, r .from);
+        within = r .within;
+        wide = λ g. omega (arith, m);
+        is = λ g. rw (m, z, y) (lex-token end (omega arith) (omega arith) r);
+      }
+
+  pub standing-quoted : c ≡ 1 → (end : ℕ) → Unescaped src (at + 1) end → at + 1 < end → Standing src at end
+  unfolding markOf
+  standing-quoted e end u g =
+      let m : markOf (getD src at 0) ≡ 1 = picked _ _ (eq-eqb _ _ (first-is 34 1 (k .quote) e)) in
+      let z : end - at - 2 * 1 ≡ end - (at + 1) - 1 = omega arith in
+      record {
+        from = omega arith;
+        within = u .within;
+        wide = λ _. omega (arith, m);
+        is = λ _. rw (m, z) (lex-quoted end e u g);
+      }
+
+-- a string's mark
+pub mark-one : (b : ℕ) → b ≡ 34 → Marked b 1
+unfolding markOf
+mark-one b e = record { is = sym (picked _ _ (eq-eqb _ _ e)); few = omega arith }
+
+pub mark-none : (b : ℕ) → (b ≡ 34 → ⊥) → Marked b 0
+unfolding markOf
+mark-none b e = record { is = sym (unpicked _ _ (ne-eqb _ _ e)); few = omega arith }
 
 -- how long a verbatim string is
 pub long-is : (n w : ℕ) → n ≤ maxSource → Wide n w → Long n (w + 1 + n)

@@ -26,7 +26,7 @@ use Rattle.walk.specs.Extent.{Measures}
 use Rattle.walk.proofs.Chained.{walking, walking-shut, walking-step, walking-stop, walking-end, undecoded, decodes}
 use Rattle.scan.specs.Runs.{Skipped}
 use Rattle.scan.proofs.Places.{one-here}
-use Rattle.advanced.specs.Lexed.{Again, Atomed, Hinting, Stepped, ItemAt, Long, Tokened}
+use Rattle.advanced.specs.Lexed.{Again, Atomed, Hinting, Stepped, ItemAt, Long, Marked, Standing}
 use Rattle.walk.specs.declared.Extent.the-variants.{Whole, Refused}
 use Rattle.advanced.specs.declared.Item.{Item}
 use Rattle.advanced.specs.declared.Item.the-variants.{Open, Close, Atom, Hinted, Other}
@@ -144,16 +144,19 @@ module _ (src : List ℕ) (at o d n len : ℕ) (w : Walking src at o d n len) (i
           stepped (atom (s .octets)) next o d (n + 1) (len + a) (record { on = s .on; within = s .within; reads = s .reads }) refl (omega arith)
           (omega (arith, w .few, p .from, s .on), omega (arith, w .few, p .from, s .on), omega (arith, w .few, p .from, s .on), omega (arith, w .few, p .from, s .on, g .low))
 
-      -- a token
-      module _ (end : ℕ) (t : Tokened src i end) (g : i < end) where
-        pub token-small : length src ≤ maxSource → end - i ≤ maxSource
-        token-small b = omega (arith, t .within)
+      -- octets that stand as they are
+      module _ (end : ℕ) (t : Standing src i end) (g : i < end) (m : ℕ) (k : Marked (getD src i 0) m) where
+        pub standing-wide : 2 * m ≤ end - i
+        standing-wide = omega (arith, t .wide g, k .is)
 
-        pub token-less : length src - end < length src - at
-        token-less = omega (arith, t .within, p .from)
+        pub standing-small : length src ≤ maxSource → end - i - 2 * m ≤ maxSource
+        standing-small b = omega (arith, t .within)
 
-        pub token-on : (a : ℕ) → Long (end - i) a → Walking src end o d (n + 1) (len + a)
-        token-on a k = atom-by (Atom 0 (end - i) i end) (t .is g) 0 (end - i) i end refl a k
+        pub standing-on : (a : ℕ) → Long (end - i - 2 * m) a → Walking src end o d (n + 1) (len + a)
+        standing-on a l = atom-by (Atom 0 (end - i - 2 * m) (i + m) end) (rw (k .is) (t .is g)) 0 (end - i - 2 * m) (i + m) end refl a l
+
+      pub standing-less : (end : ℕ) → Standing src i end → i < end → length src - end < length src - at
+      standing-less end t g = omega (arith, t .within, p .from)
 
       module _ (r : Item) (v : ItemAt src i r) where
         pub walk-other : r ≡ Other → Measures (decode₃ src) Refused

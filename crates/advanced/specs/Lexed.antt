@@ -1,8 +1,10 @@
 -- What is said of the lexeme at a place of an advanced text.
-use Prim.Native.Nat.{ℕ, _+_, _≤_, _<_, _-_}
+use Prim.Native.Nat.{ℕ, _+_, _*_, _≤_, _<_, _-_}
 use mathlib.Core.Path.{_≡_}
 use mathlib.Core.List.{List}
-use lib.ListN.{length, drop}
+use lib.ListN.{length, drop, getD}
+use lib.Dec.{eqb}
+use Rattle.base.specs.Choice.{pick}
 use Rattle.model.specs.Edit.{within}
 use Rattle.model.specs.Lexemes.{Lexeme, opening, closing, atom, hinting, closeHint, lexeme}
 use Rattle.model.specs.Strings.{Read, got, refused, skip}
@@ -62,11 +64,20 @@ ItemAt src at (Atom k l b n) = Atomed src (lexeme (drop at src)) at k l b n
 ItemAt src at (Hinted hk hl hb k l b n) = Hinting src (lexeme (drop at src)) at hk hl hb k l b n
 ItemAt src at Other = lexeme (drop at src) ≡ refused
 
--- the token at a place ends at r, or none begins there
-pub record Tokened (src : List ℕ) (at r : ℕ) : Type 0 where
+-- how many octets a string's mark takes on each side, by its first octet: one where it is quoted, none where it is a token
+unfoldable pub markOf : ℕ → ℕ
+markOf b = pick (eqb b 34) 1 0
+
+pub record Marked (b m : ℕ) : Type 0 where
+  pub is : m ≡ markOf b
+  pub few : m ≤ 1
+
+-- the token or quoted string at a place, whose octets stand as they are, ends at r; or none begins there
+pub record Standing (src : List ℕ) (at r : ℕ) : Type 0 where
   pub from : at ≤ r
   pub within : r ≤ length src
-  pub is : at < r → ItemAt src at (Atom 0 (r - at) at r)
+  pub wide : at < r → at + 2 * markOf (getD src at 0) ≤ r
+  pub is : at < r → ItemAt src at (Atom 0 (r - at - 2 * markOf (getD src at 0)) (at + markOf (getD src at 0)) r)
 
 -- how long a verbatim string of n octets is
 pub record Long (n r : ℕ) : Type 0 where

@@ -5,7 +5,7 @@ ghost use Rattle.model.specs.Limits.{maxSource};
 ghost use Rattle.model.specs.Decode.{decode₃};
 ghost use Rattle.walk.specs.Extent.{Measures};
 ghost use Rattle.octets.specs.Classes.{Classed, Lettered};
-ghost use Rattle.advanced.specs.Lexed.{ItemAt, Tokened, Closes, Long};
+ghost use Rattle.advanced.specs.Lexed.{ItemAt, Marked, Standing, Closes, Long};
 use scan::Simple;
 use scan::skip_at;
 use strings::measure_simple;
@@ -79,14 +79,28 @@ fn after_hint(
     }
 }
 
-// The end of the token at a place; the place itself where none begins. Loops ask for a token first, the commonest lexeme by far,
-// so that no `Item` goes through memory for it.
-pub fn token_end(classes: &[u8; 256], src: &[u8], at: usize) -> usize
+// How many octets a string's mark takes on each side, by its first octet.
+pub fn mark(octet: u8) -> usize
+    ensures { λ r. ⌜ Marked octet r ⌝ }
+{
+    if octet == 34 { 1 } else { 0 }
+}
+
+// The end of the token, or of the quoted string without escapes, at a place; the place itself where none begins. Loops ask for these
+// first, the commonest lexemes by far, so that no `Item` goes through memory for them.
+pub fn standing_end(classes: &[u8; 256], src: &[u8], at: usize) -> usize
     requires { ⌜ Classed (now classes) ⌝ }
     requires { ⌜ at < length (now src) ⌝ }
-    ensures { λ r. ⌜ Tokened (now (src .entry)) at r ⌝ }
+    ensures { λ r. ⌜ Standing (now (src .entry)) at r ⌝ }
 {
     let c = octets::class_of(classes, src[at]);
+    if c == 1 {
+        let end = quoted::unescaped_end(classes, src, at + 1);
+        if end > at + 1 {
+            return end;
+        }
+        return at;
+    }
     if c < 14 {
         return at;
     }
@@ -174,10 +188,10 @@ pub fn measure(classes: &[u8; 256], letters: &[u8; 256], src: &[u8]) -> Extent
         if i >= src.len() {
             return Extent::Refused;
         }
-        let end = token_end(classes, src, i);
+        let end = standing_end(classes, src, i);
         if end > i {
             seen += 1;
-            size += verbatim_len(end - i);
+            size += verbatim_len(end - i - 2 * mark(src[i]));
             at = end;
             continue;
         }

@@ -27,7 +27,7 @@ use Rattle.scan.specs.Runs.{Skipped}
 use Rattle.scan.specs.Strings.{bodyOf, octetsOf}
 use Rattle.scan.specs.Writes.{Wrote}
 use Rattle.scan.proofs.Places.{one-here}
-use Rattle.advanced.specs.Lexed.{Again, Atomed, Hinting, Stepped, ItemAt, Tokened}
+use Rattle.advanced.specs.Lexed.{Again, Atomed, Hinting, Stepped, ItemAt, Marked, Standing}
 use Rattle.emitter.specs.Emitted.{Spellable, hintOctets, Hintable, Emittable}
 use Rattle.advanced.specs.declared.Item.{Item}
 use Rattle.advanced.specs.declared.Item.the-variants.{Open, Close, Atom, Hinted, Other}
@@ -236,13 +236,20 @@ module _ (src out₀ : List ℕ) (pos : ℕ) (out : List ℕ) (o at : ℕ) (w : 
             wrote-on (hinting (hints .hint) (hints .octets)) next hint-front (hints .within) out′ o′
             (subst₂ (λ (x y : List ℕ). Wrote (hintOctets x y) o out out′ o′) (ap octetsOf (hints .hint-again .reads)) (ap octetsOf (hints .again .reads)) u)
 
-    -- a token
-    module _ (h : i < length src) (end : ℕ) (t : Tokened src i end) (g : i < end) where
-      pub token-less : length src - end < length src - at
-      token-less = omega (arith, t .within, p .from)
+    -- octets that stand as they are
+    module _ (h : i < length src) (end : ℕ) (t : Standing src i end) (g : i < end) where
+      pub standing-less : length src - end < length src - at
+      standing-less = omega (arith, t .within, p .from)
 
-      pub token-spellable : Spellable src 0 (end - i) i o (length out)
-      token-spellable = atom-spellable h (Atom 0 (end - i) i end) (t .is g) 0 (end - i) i end refl
+      module _ (m : ℕ) (k : Marked (getD src i 0) m) where
+        pub standing-wide : 2 * m ≤ end - i
+        standing-wide = omega (arith, t .wide g, k .is)
 
-      pub token-on : (out′ : List ℕ) (o′ : ℕ) → Wrote (verbatim (octetsOf (bodyOf 0 (end - i) (drop i src)))) o out out′ o′ → Emitting src out₀ pos out′ o′ end
-      token-on out′ o′ u = atom-on h (Atom 0 (end - i) i end) (t .is g) 0 (end - i) i end refl out′ o′ u
+        here : ItemAt src i (Atom 0 (end - i - 2 * m) (i + m) end)
+        here = rw (k .is) (t .is g)
+
+        pub standing-spellable : Spellable src 0 (end - i - 2 * m) (i + m) o (length out)
+        standing-spellable = atom-spellable h (Atom 0 (end - i - 2 * m) (i + m) end) here 0 (end - i - 2 * m) (i + m) end refl
+
+        pub standing-on : (out′ : List ℕ) (o′ : ℕ) → Wrote (verbatim (octetsOf (bodyOf 0 (end - i - 2 * m) (drop (i + m) src)))) o out out′ o′ → Emitting src out₀ pos out′ o′ end
+        standing-on out′ o′ u = atom-on h (Atom 0 (end - i - 2 * m) (i + m) end) here 0 (end - i - 2 * m) (i + m) end refl out′ o′ u

@@ -78,9 +78,10 @@ pub fn emit(
         if i >= src.len() {
             return o;
         }
-        let end = advanced::token_end(classes, src, i);
+        let end = advanced::standing_end(classes, src, i);
         if end > i {
-            o = put_string(classes, letters, src, 0, end - i, i, out, o);
+            let m = advanced::mark(src[i]);
+            o = put_string(classes, letters, src, 0, end - i - 2 * m, i + m, out, o);
             at = end;
             continue;
         }

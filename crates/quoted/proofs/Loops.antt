@@ -13,7 +13,7 @@ use Rattle.scan.specs.Strings.{bodyOf, octetsOf, Tells}
 use Rattle.scan.specs.Writes.{Wrote}
 use Rattle.scan.proofs.Passing.{Passed, passed-none, passed-by, passed-on, passed-last, passed-bad, Writing, stretch-room, write-room, write-by, write-on, write-end, write-never}
 use Rattle.scan.proofs.Places.{part-length}
-use Rattle.quoted.specs.Pieces.{Quotes}
+use Rattle.quoted.specs.Pieces.{Quotes, Unescaped}
 use Rattle.quoted.proofs.PieceSteps.{piece-quote}
 use Rattle.scan.specs.declared.Simple.the-variants.{Is, Not}
 use Rattle.quoted.specs.declared.escapes.Piece.{Piece}
@@ -106,6 +106,14 @@ module _ (src : List ℕ) (at j : ℕ) (s : Stretch (marked 34) src at (take (j 
         ahead = omega (arith, s .on);
         within = omega arith;
       }
+
+  pub unescaped-whole : j < length src → getD src j 0 ≡ 34 → Unescaped src at (j + 1)
+  unescaped-whole h e =
+      let z : j + 1 - at - 1 ≡ j - at = omega (arith, s .on) in
+      record { from = omega (arith, s .on); within = omega arith; is = λ _. subst (λ (n : ℕ). Tells src (marked 34 (drop at src)) (Is 0 n at (j + 1))) (sym z) (plain-whole h e) }
+
+pub unescaped-none : (src : List ℕ) (at : ℕ) → at ≤ length src → Unescaped src at at
+unescaped-none src at h = record { from = omega arith; within = h; is = λ g. absurd (omega arith) }
 
 -- room for a run
 pub run-room : (src : List ℕ) (i j at pos : ℕ) (out₀ out : List ℕ) (o : ℕ) → Stretch (marked 34) src i (take (j - i) (drop i src)) j → Writing (marked 34) src at pos out₀ out i o → o + (j - i) ≤ length out

@@ -1,10 +1,12 @@
 -- Pieces of a quoted string at a place of a source.
-use Prim.Native.Nat.{ℕ, _≤_}
+use Prim.Native.Nat.{ℕ, _-_, _≤_, _<_}
 use mathlib.Core.Path.{_≡_}
 use mathlib.Core.List.{List, [], _∷_}
 use lib.ListN.{length, drop}
 use Rattle.model.specs.Strings.{Read, got, refused, marked}
 use Rattle.scan.specs.Marks.{Chunk, Last}
+use Rattle.scan.specs.Strings.{Tells}
+use Rattle.scan.specs.declared.Simple.the-variants.{Is}
 use Rattle.quoted.specs.declared.escapes.Piece.{Piece}
 use Rattle.quoted.specs.declared.escapes.Piece.the-variants.{One, Gone, Quote, NoPiece}
 
@@ -26,3 +28,9 @@ Quotes src at (One o next) = Chunk (marked 34) src at (o ∷ []) next
 Quotes src at (Gone next) = Chunk (marked 34) src at [] next
 Quotes src at (Quote next) = Last (marked 34) src at [] next
 Quotes src at NoPiece = marked 34 (drop at src) ≡ refused
+
+-- the string whose octets begin at a place has nothing escaped and ends at r, its mark included; or it is another
+pub record Unescaped (src : List ℕ) (at r : ℕ) : Type 0 where
+  pub from : at ≤ r
+  pub within : r ≤ length src
+  pub is : at < r → Tells src (marked 34 (drop at src)) (Is 0 (r - at - 1) at r)

@@ -7,7 +7,7 @@ ghost use Rattle.octets.specs.Classes.{Classed};
 ghost use Rattle.scan.specs.Marks.{Stretch, Body};
 ghost use Rattle.scan.specs.Strings.{Tells, octetsOf};
 ghost use Rattle.scan.specs.Writes.{Wrote};
-ghost use Rattle.quoted.specs.Pieces.{Quotes};
+ghost use Rattle.quoted.specs.Pieces.{Quotes, Unescaped};
 use escapes::Piece;
 use escapes::escape_at;
 use octets::class_of;
@@ -55,6 +55,21 @@ fn plain_end(classes: &[u8; 256], src: &[u8], at: usize) -> usize
         i += 1;
     }
     i
+}
+
+// The place after the closing mark of a string in which nothing is escaped; `at` itself where it is another.
+pub fn unescaped_end(classes: &[u8; 256], src: &[u8], at: usize) -> usize
+    requires { ⌜ Classed (now classes) ⌝ }
+    requires { ⌜ at ≤ length (now src) ⌝ }
+    ensures { λ r. ⌜ Unescaped (now (src .entry)) at r ⌝ }
+{
+    let end = plain_end(classes, src, at);
+    if end < src.len() {
+        if src[end] == 34 {
+            return end + 1;
+        }
+    }
+    at
 }
 
 // How many octets there are, where those up to `from` stand for themselves.

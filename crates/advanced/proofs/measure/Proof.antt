@@ -1,6 +1,6 @@
 use borrow.Author.Needs.{needs}
 use native.Mathlib.Omega.{arith}
-use Rattle.advanced.proofs.Measuring.{walk-none, walk-more, walk-whole, walk-short, token-small, token-less, token-on, open-less, open-on, close-none, close-less, close-on, atom-small, atom-less, atom-on, hint-small, hinted-small, hinted-less, hinted-on, walk-other, Walking}
+use Rattle.advanced.proofs.Measuring.{walk-none, walk-more, walk-whole, walk-short, standing-wide, standing-small, standing-less, standing-on, open-less, open-on, close-none, close-less, close-on, atom-small, atom-less, atom-on, hint-small, hinted-small, hinted-less, hinted-on, walk-other, Walking}
 use lib.ListN.{length}
 use Prim.Native.Nat.{_-_}
 use Rattle.advanced.proofs.measure.Statement.{statement}
@@ -30,8 +30,8 @@ returns-2 c = search (walk-whole, arith)
 returns-3 : tie.Need-returns-3 Inv-loop μ-loop
 returns-3 c = search (walk-short, arith)
 
-token-end-requires : tie.Need-token-end-requires Inv-loop μ-loop
-token-end-requires c κs = search needs
+standing-end-requires : tie.Need-standing-end-requires Inv-loop μ-loop
+standing-end-requires c κs = search needs
 
 add-seen : tie.Need-add-seen Inv-loop μ-loop
 add-seen c = search needs
@@ -39,17 +39,29 @@ add-seen c = search needs
 sub-verbatim-len : tie.Need-sub-verbatim-len Inv-loop μ-loop
 sub-verbatim-len c = search needs
 
+shared-slice-read-mark : tie.Need-shared-slice-read-mark Inv-loop μ-loop
+shared-slice-read-mark c = search needs
+
+mark-requires : tie.Need-mark-requires Inv-loop μ-loop
+mark-requires c κs = search needs
+
+mul-verbatim-len : tie.Need-mul-verbatim-len Inv-loop μ-loop
+mul-verbatim-len c = search needs
+
+sub-verbatim-len-2 : tie.Need-sub-verbatim-len-2 Inv-loop μ-loop
+sub-verbatim-len-2 c = search (standing-wide, arith)
+
 verbatim-len-requires : tie.Need-verbatim-len-requires Inv-loop μ-loop
-verbatim-len-requires c κs = search (token-small, arith)
+verbatim-len-requires c κs = search (standing-small, arith)
 
 add-size : tie.Need-add-size Inv-loop μ-loop
 add-size c = search needs
 
 loop-less : tie.Need-loop-less Inv-loop μ-loop
-loop-less c = search (token-less, arith)
+loop-less c = search (standing-less, arith)
 
 loop-again : tie.Need-loop-again Inv-loop μ-loop
-loop-again c = search (token-on, arith)
+loop-again c = search (standing-on, arith)
 
 lexeme-at-requires : tie.Need-lexeme-at-requires Inv-loop μ-loop
 lexeme-at-requires c κs = search needs
@@ -156,9 +168,13 @@ measure-spec =
     returns
     returns-2
     returns-3
-    token-end-requires
+    standing-end-requires
     add-seen
     sub-verbatim-len
+    shared-slice-read-mark
+    mark-requires
+    mul-verbatim-len
+    sub-verbatim-len-2
     verbatim-len-requires
     add-size
     loop-less

@@ -1,6 +1,6 @@
 use borrow.Author.Needs.{needs}
 use native.Mathlib.Omega.{arith}
-use Rattle.emitter.proofs.Emitting.{emit-start, emit-long, emit-end, token-spellable, token-less, token-on, open-room, open-less, open-on, close-room, close-less, close-on, atom-spellable, atom-less, atom-on, hint-spellable, hint-less, hint-on, emit-other, Emitting}
+use Rattle.emitter.proofs.Emitting.{emit-start, emit-long, emit-end, standing-wide, standing-spellable, standing-less, standing-on, open-room, open-less, open-on, close-room, close-less, close-on, atom-spellable, atom-less, atom-on, hint-spellable, hint-less, hint-on, emit-other, Emitting}
 use lib.ListN.{length}
 use Prim.Native.Nat.{_-_}
 use Rattle.emitter.proofs.emit.Statement.{statement}
@@ -24,20 +24,35 @@ same-length c = search (emit-long, arith)
 returns : tie.Need-returns Inv-loop μ-loop
 returns c = search (emit-end, arith)
 
-token-end-requires : tie.Need-token-end-requires Inv-loop μ-loop
-token-end-requires c κs = search needs
+standing-end-requires : tie.Need-standing-end-requires Inv-loop μ-loop
+standing-end-requires c κs = search needs
+
+shared-slice-read-mark : tie.Need-shared-slice-read-mark Inv-loop μ-loop
+shared-slice-read-mark c = search needs
+
+mark-requires : tie.Need-mark-requires Inv-loop μ-loop
+mark-requires c κs = search needs
 
 sub-put-string : tie.Need-sub-put-string Inv-loop μ-loop
 sub-put-string c = search needs
 
+mul-put-string : tie.Need-mul-put-string Inv-loop μ-loop
+mul-put-string c = search needs
+
+sub-put-string-2 : tie.Need-sub-put-string-2 Inv-loop μ-loop
+sub-put-string-2 c = search (standing-wide, arith)
+
+add-put-string : tie.Need-add-put-string Inv-loop μ-loop
+add-put-string c = search needs
+
 put-string-requires : tie.Need-put-string-requires Inv-loop μ-loop
-put-string-requires c κs = (search needs, (search needs, search (token-spellable, arith)))
+put-string-requires c κs = (search needs, (search needs, search (standing-spellable, arith)))
 
 loop-less : tie.Need-loop-less Inv-loop μ-loop
-loop-less c = search (token-less, arith)
+loop-less c = search (standing-less, arith)
 
 loop-again : tie.Need-loop-again Inv-loop μ-loop
-loop-again c = search (token-on, arith)
+loop-again c = search (standing-on, arith)
 
 lexeme-at-requires : tie.Need-lexeme-at-requires Inv-loop μ-loop
 lexeme-at-requires c κs = search needs
@@ -115,8 +130,13 @@ emit-spec =
     skip-at-requires
     same-length
     returns
-    token-end-requires
+    standing-end-requires
+    shared-slice-read-mark
+    mark-requires
     sub-put-string
+    mul-put-string
+    sub-put-string-2
+    add-put-string
     put-string-requires
     loop-less
     loop-again
