@@ -6,6 +6,7 @@
 
 mod entries;
 mod readers;
+mod records;
 
 use std::env;
 use std::process::ExitCode;
@@ -39,4 +40,5 @@ fn tables() {
     }
     readers::table(gcrypt.as_ref());
     entries::table();
+    records::table();
 }

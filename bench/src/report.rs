@@ -13,7 +13,8 @@ pub enum Cell {
 }
 
 impl Cell {
-    fn show(&self, octets: f64) -> String {
+    /// As it is shown, a time for each of so many octets.
+    pub fn show(&self, octets: f64) -> String {
         match self {
             Cell::Time(figure) => {
                 let (best, median) = (figure.best / octets, figure.median / octets);
