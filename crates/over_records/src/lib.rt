@@ -6,6 +6,7 @@ ghost use Prim.Native.Nat.{_≤_};
 use answers::Place;
 use answers::Reading;
 use records::Record;
+use spelling::HELD;
 
 // `records::replace` or `records::read`, lent the first n of these records, which are then spelled out in the table.
 fn answer_held(
@@ -13,7 +14,7 @@ fn answer_held(
     form: u32,
     text: &[u8],
     canonical: &mut [u8],
-    mut held: [Record; 8750],
+    mut held: [Record; HELD],
     n: usize,
     table: &mut [u32],
     length: usize,
@@ -66,7 +67,7 @@ pub fn replace(
 fn place_held(
     canonical: &[u8],
     length: usize,
-    held: [Record; 8750],
+    held: [Record; HELD],
     n: usize,
     nodes: usize,
     node: usize,
@@ -95,7 +96,7 @@ fn shown_held<'a>(
     hinted: bool,
     canonical: &'a [u8],
     length: usize,
-    held: [Record; 8750],
+    held: [Record; HELD],
     n: usize,
     nodes: usize,
     node: usize,

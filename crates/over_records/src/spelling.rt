@@ -3,12 +3,19 @@ ghost use Prim.Native.Nat.{_+_, _*_, _≤_};
 ghost use lib.ListN.{length};
 use records::Record;
 
+// As many records as the largest table of the corpus has.
+pub const HELD: usize = 8750;
+
 // How many records `count` numbers make, as far as there is space for them.
 pub fn made_of(count: usize) -> usize
     ensures { λ r. ⌜ r ≤ 8750 ⌝ }
     ensures { λ r. ⌜ 8 * r ≤ count ⌝ }
 {
-    if count < 70000 { count / 8 } else { 8750 }
+    if count < HELD * limits::WIDTH {
+        count / limits::WIDTH
+    } else {
+        HELD
+    }
 }
 
 // The record that eight numbers spell.
@@ -54,24 +61,24 @@ fn nil() -> Record {
 }
 
 // The records that a table's numbers make; past them, zeros.
-pub fn records_of(table: &[u32]) -> [Record; 8750] {
-    let mut held: [Record; 8750] = [nil(); 8750];
+pub fn records_of(table: &[u32]) -> [Record; HELD] {
+    let mut held: [Record; HELD] = [nil(); HELD];
     let n = made_of(table.len());
     let mut i: usize = 0;
     while i < n {
-        held[i] = record_at(table, 8 * i);
+        held[i] = record_at(table, limits::WIDTH * i);
         i += 1;
     }
     held
 }
 
 // The numbers of those records, in place of the table's. A remainder stays.
-pub fn spell(held: [Record; 8750], table: &mut [u32]) {
+pub fn spell(held: [Record; HELD], table: &mut [u32]) {
     let n = made_of(table.len());
     let mut i: usize = 0;
     while i < n {
         let r = held[i];
-        put_record(table, 8 * i, r);
+        put_record(table, limits::WIDTH * i, r);
         i += 1;
     }
 }
