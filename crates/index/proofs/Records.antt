@@ -15,7 +15,7 @@ use Rattle.model.specs.Table.{width}
 use Rattle.model.specs.Tree.{nodes}
 use Rattle.walk.specs.Events.{recordAt}
 use Rattle.index.specs.Rows.{rowList}
-use Rattle.index.specs.declared.Row.{Row}
+use Rattle.index.specs.declared.rows.Row.{Row}
 
 unequal : (x y : List ℕ) (k : ℕ) → (getD x k 0 ≡ getD y k 0 → ⊥) → false ≡ equal x y
 unequal x y k n = by-bool (equal x y) (λ t. absurd (n (ap (λ (l : List ℕ). getD l k 0) (equal-true x y t)))) (λ t. sym t)

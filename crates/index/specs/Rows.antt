@@ -4,7 +4,7 @@ use mathlib.Core.Path.{_≡_}
 use mathlib.Core.List.{List, [], _∷_}
 use Rattle.model.specs.Limits.{maxSource}
 use Rattle.model.specs.Table.{width, numbers}
-use Rattle.index.specs.declared.Row.{Row}
+use Rattle.index.specs.declared.rows.Row.{Row}
 
 abbrev pub rowList : Row → List ℕ
 rowList r = r .kind ∷ r .start ∷ r .end ∷ r .nodes ∷ r .«hint_start» ∷ r .«hint_end» ∷ r .«data_start» ∷ r .«data_end» ∷ []

@@ -1,8 +1,8 @@
 use native.Mathlib.Omega.{arith}
 use Rattle.index.proofs.Records.{put-known}
 use borrow.Author.Needs.{needs}
-use Rattle.index.proofs.put_list.Statement.{statement}
-use Rattle.index.proofs.put_list.Tie as tie
+use Rattle.index.proofs.rows.put_list.Statement.{statement}
+use Rattle.index.proofs.rows.put_list.Tie as tie
 
 list-row-requires : tie.Need-list-row-requires
 list-row-requires c κs = search needs

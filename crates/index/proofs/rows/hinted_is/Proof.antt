@@ -1,8 +1,8 @@
 use native.Mathlib.Omega.{arith}
 use Rattle.index.proofs.Records.{is-known}
 use borrow.Author.Needs.{needs}
-use Rattle.index.proofs.hinted_is.Statement.{statement}
-use Rattle.index.proofs.hinted_is.Tie as tie
+use Rattle.index.proofs.rows.hinted_is.Statement.{statement}
+use Rattle.index.proofs.rows.hinted_is.Tie as tie
 
 hinted-row-requires : tie.Need-hinted-row-requires
 hinted-row-requires c κs = search needs

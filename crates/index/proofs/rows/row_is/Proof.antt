@@ -1,8 +1,8 @@
 use native.Mathlib.Omega.{arith}
 use Rattle.index.proofs.Records.{differs-first, differs, same-but-last}
 use borrow.Author.Needs.{needs}
-use Rattle.index.proofs.row_is.Statement.{statement}
-use Rattle.index.proofs.row_is.Tie as tie
+use Rattle.index.proofs.rows.row_is.Statement.{statement}
+use Rattle.index.proofs.rows.row_is.Tie as tie
 
 mul-at : tie.Need-mul-at
 mul-at c = search needs

@@ -1,8 +1,8 @@
 use native.Mathlib.Omega.{arith}
 use Rattle.index.proofs.Records.{put-known}
 use borrow.Author.Needs.{needs}
-use Rattle.index.proofs.put_hinted.Statement.{statement}
-use Rattle.index.proofs.put_hinted.Tie as tie
+use Rattle.index.proofs.rows.put_hinted.Statement.{statement}
+use Rattle.index.proofs.rows.put_hinted.Tie as tie
 
 hinted-row-requires : tie.Need-hinted-row-requires
 hinted-row-requires c κs = search needs

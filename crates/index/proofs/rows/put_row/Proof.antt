@@ -6,8 +6,8 @@ use lib.Seq.{sets}
 use Rattle.base.proofs.Stores.{stores-8}
 use Rattle.index.specs.Rows.{rowList}
 use borrow.Author.Needs.{needs}
-use Rattle.index.proofs.put_row.Statement.{statement}
-use Rattle.index.proofs.put_row.Tie as tie
+use Rattle.index.proofs.rows.put_row.Statement.{statement}
+use Rattle.index.proofs.rows.put_row.Tie as tie
 
 mul-at : tie.Need-mul-at
 mul-at c = search needs

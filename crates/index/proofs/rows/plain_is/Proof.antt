@@ -1,8 +1,8 @@
 use native.Mathlib.Omega.{arith}
 use Rattle.index.proofs.Records.{is-known}
 use borrow.Author.Needs.{needs}
-use Rattle.index.proofs.plain_is.Statement.{statement}
-use Rattle.index.proofs.plain_is.Tie as tie
+use Rattle.index.proofs.rows.plain_is.Statement.{statement}
+use Rattle.index.proofs.rows.plain_is.Tie as tie
 
 plain-row-requires : tie.Need-plain-row-requires
 plain-row-requires c κs = search needs

@@ -1,8 +1,8 @@
 use native.Mathlib.Omega.{arith}
 use Rattle.index.proofs.Records.{is-known}
 use borrow.Author.Needs.{needs}
-use Rattle.index.proofs.list_is.Statement.{statement}
-use Rattle.index.proofs.list_is.Tie as tie
+use Rattle.index.proofs.rows.list_is.Statement.{statement}
+use Rattle.index.proofs.rows.list_is.Tie as tie
 
 list-row-requires : tie.Need-list-row-requires
 list-row-requires c κs = search needs

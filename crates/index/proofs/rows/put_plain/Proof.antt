@@ -1,8 +1,8 @@
 use native.Mathlib.Omega.{arith}
 use Rattle.index.proofs.Records.{put-known}
 use borrow.Author.Needs.{needs}
-use Rattle.index.proofs.put_plain.Statement.{statement}
-use Rattle.index.proofs.put_plain.Tie as tie
+use Rattle.index.proofs.rows.put_plain.Statement.{statement}
+use Rattle.index.proofs.rows.put_plain.Tie as tie
 
 plain-row-requires : tie.Need-plain-row-requires
 plain-row-requires c κs = search needs

@@ -1,0 +1,183 @@
+// A node's record: made of a lexeme's places, stored, and compared.
+ghost use mathlib.Core.Path.{_≡_};
+ghost use Prim.Native.Nat.{_+_, _*_, _≤_, _<_};
+ghost use lib.ListN.{length};
+ghost use lib.Seq.{sets};
+ghost use Rattle.base.specs.Choice.{equal};
+ghost use Rattle.model.specs.Limits.{maxSource};
+ghost use Rattle.model.specs.Table.{width, plainRow, hintedRow, listRow, numbers};
+ghost use Rattle.walk.specs.Events.{recordAt};
+ghost use Rattle.index.specs.Rows.{rowList, RowIs, StringRoom, HintRoom, ListRoom};
+
+// A record: 0 string, 1 string with hint, 2 list; offsets are into the canonical octets.
+pub struct Row {
+    pub kind: u32,
+    pub start: u32,
+    pub end: u32,
+    pub nodes: u32,
+    pub hint_start: u32,
+    pub hint_end: u32,
+    pub data_start: u32,
+    pub data_end: u32,
+}
+
+// The record of a string.
+fn plain_row(at: usize, start: usize, end: usize) -> Row
+    requires { ⌜ (at ≤ maxSource) × (start ≤ maxSource) × (end ≤ maxSource) ⌝ }
+    ensures { λ r. ⌜ RowIs r (plainRow at start end) ⌝ }
+{
+    Row {
+        kind: 0,
+        start: at as u32,
+        end: end as u32,
+        nodes: 1,
+        hint_start: 0,
+        hint_end: 0,
+        data_start: start as u32,
+        data_end: end as u32,
+    }
+}
+
+// The record of a string whose hint stands from `from` to `to`.
+fn hinted_row(at: usize, from: usize, to: usize, start: usize, end: usize) -> Row
+    requires { ⌜ (at ≤ maxSource) × (from ≤ maxSource) × (to ≤ maxSource) × (start ≤ maxSource) × (end ≤ maxSource) ⌝ }
+    ensures { λ r. ⌜ RowIs r (hintedRow at from to start end) ⌝ }
+{
+    Row {
+        kind: 1,
+        start: at as u32,
+        end: end as u32,
+        nodes: 1,
+        hint_start: from as u32,
+        hint_end: to as u32,
+        data_start: start as u32,
+        data_end: end as u32,
+    }
+}
+
+// The record of a list.
+fn list_row(start: usize, end: usize, nodes: usize) -> Row
+    requires { ⌜ (start < end) × (end ≤ maxSource) × (nodes ≤ maxSource) ⌝ }
+    ensures { λ r. ⌜ RowIs r (listRow start end nodes) ⌝ }
+{
+    Row {
+        kind: 2,
+        start: start as u32,
+        end: end as u32,
+        nodes: nodes as u32,
+        hint_start: 0,
+        hint_end: 0,
+        data_start: (start + 1) as u32,
+        data_end: (end - 1) as u32,
+    }
+}
+
+// A record stored.
+fn put_row(table: &mut [u32], node: usize, row: Row)
+    requires { ⌜ width * (node + 1) ≤ length (now table) ⌝ }
+    ensures { λ r. ⌜ now (table .exit) ≡ sets (now (table .entry)) (width * node) (rowList row) ⌝ }
+{
+    let at = node * limits::WIDTH;
+    table[at] = row.kind;
+    table[at + 1] = row.start;
+    table[at + 2] = row.end;
+    table[at + 3] = row.nodes;
+    table[at + 4] = row.hint_start;
+    table[at + 5] = row.hint_end;
+    table[at + 6] = row.data_start;
+    table[at + 7] = row.data_end;
+}
+
+// Whether a record is this one.
+fn row_is(table: &[u32], node: usize, row: Row) -> bool
+    requires { ⌜ (node ≤ maxSource) × (width * (node + 1) ≤ length (now table)) ⌝ }
+    ensures { λ r. ⌜ r ≡ equal (recordAt (now (table .entry)) node) (rowList row) ⌝ }
+{
+    let at = node * limits::WIDTH;
+    if table[at] != row.kind {
+        return false;
+    }
+    if table[at + 1] != row.start {
+        return false;
+    }
+    if table[at + 2] != row.end {
+        return false;
+    }
+    if table[at + 3] != row.nodes {
+        return false;
+    }
+    if table[at + 4] != row.hint_start {
+        return false;
+    }
+    if table[at + 5] != row.hint_end {
+        return false;
+    }
+    if table[at + 6] != row.data_start {
+        return false;
+    }
+    table[at + 7] == row.data_end
+}
+
+// The record of a string stored.
+pub fn put_plain(table: &mut [u32], node: usize, at: usize, start: usize, end: usize)
+    requires { ⌜ StringRoom node (length (now table)) at start end ⌝ }
+    ensures { λ r. ⌜ now (table .exit) ≡ sets (now (table .entry)) (width * node) (numbers (plainRow at start end)) ⌝ }
+{
+    put_row(table, node, plain_row(at, start, end));
+}
+
+// The record of a string with a hint stored.
+pub fn put_hinted(
+    table: &mut [u32],
+    node: usize,
+    at: usize,
+    from: usize,
+    to: usize,
+    start: usize,
+    end: usize,
+)
+    requires { ⌜ HintRoom node (length (now table)) at from to start end ⌝ }
+    ensures { λ r. ⌜ now (table .exit) ≡ sets (now (table .entry)) (width * node) (numbers (hintedRow at from to start end)) ⌝ }
+{
+    put_row(table, node, hinted_row(at, from, to, start, end));
+}
+
+// The record of a list stored.
+pub fn put_list(table: &mut [u32], node: usize, start: usize, end: usize, nodes: usize)
+    requires { ⌜ ListRoom node (length (now table)) start end nodes ⌝ }
+    ensures { λ r. ⌜ now (table .exit) ≡ sets (now (table .entry)) (width * node) (numbers (listRow start end nodes)) ⌝ }
+{
+    put_row(table, node, list_row(start, end, nodes));
+}
+
+// Whether a record is that of this string.
+pub fn plain_is(table: &[u32], node: usize, at: usize, start: usize, end: usize) -> bool
+    requires { ⌜ StringRoom node (length (now table)) at start end ⌝ }
+    ensures { λ r. ⌜ r ≡ equal (recordAt (now (table .entry)) node) (numbers (plainRow at start end)) ⌝ }
+{
+    row_is(table, node, plain_row(at, start, end))
+}
+
+// Whether a record is that of this string with a hint.
+pub fn hinted_is(
+    table: &[u32],
+    node: usize,
+    at: usize,
+    from: usize,
+    to: usize,
+    start: usize,
+    end: usize,
+) -> bool
+    requires { ⌜ HintRoom node (length (now table)) at from to start end ⌝ }
+    ensures { λ r. ⌜ r ≡ equal (recordAt (now (table .entry)) node) (numbers (hintedRow at from to start end)) ⌝ }
+{
+    row_is(table, node, hinted_row(at, from, to, start, end))
+}
+
+// Whether a record is that of this list.
+pub fn list_is(table: &[u32], node: usize, start: usize, end: usize, nodes: usize) -> bool
+    requires { ⌜ ListRoom node (length (now table)) start end nodes ⌝ }
+    ensures { λ r. ⌜ r ≡ equal (recordAt (now (table .entry)) node) (numbers (listRow start end nodes)) ⌝ }
+{
+    row_is(table, node, list_row(start, end, nodes))
+}
