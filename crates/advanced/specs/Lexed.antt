@@ -68,6 +68,7 @@ ItemAt src at Other = lexeme (drop at src) ≡ refused
 unfoldable pub markOf : ℕ → ℕ
 markOf b = pick (eqb b 34) 1 0
 
+-- told with its bound, so that twice it is small
 pub record Marked (b m : ℕ) : Type 0 where
   pub is : m ≡ markOf b
   pub few : m ≤ 1
