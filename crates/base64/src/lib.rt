@@ -19,8 +19,8 @@ use scan::Simple;
 use steps::Group;
 use steps::group_at;
 
-mod bits; // bits.rt: four letters and three octets
-mod steps; // steps.rt: a group letter by letter
+pub mod bits; // bits.rt: four letters and three octets
+pub mod steps; // steps.rt: a group letter by letter
 
 pub use bits::octets;
 

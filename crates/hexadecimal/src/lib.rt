@@ -22,7 +22,7 @@ pub enum Pair {
 }
 
 // The next octet, with whitespace on the way, or the end.
-fn pair_at(classes: &[u8; 256], src: &[u8], at: usize) -> Pair
+pub fn pair_at(classes: &[u8; 256], src: &[u8], at: usize) -> Pair
     requires { ⌜ Classed (now classes) ⌝ }
     requires { ⌜ at ≤ length (now src) ⌝ }
     ensures { λ r. ⌜ Pairs (now (src .entry)) at r ⌝ }
@@ -73,7 +73,7 @@ fn pairs_end(classes: &[u8; 256], src: &[u8], at: usize) -> usize
 }
 
 // The value of a digit, with no branch: a letter's low four bits are 9 less than its value.
-fn value(b: u8) -> u8
+pub fn value(b: u8) -> u8
     requires { ⌜ hexval b < 16 ⌝ }
     ensures { λ r. ⌜ Digit b r ⌝ }
 {

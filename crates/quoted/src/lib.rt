@@ -14,10 +14,10 @@ use octets::class_of;
 use scan::Simple;
 use scan::copy;
 
-mod escapes; // escapes.rt: what stands after a backslash
+pub mod escapes; // escapes.rt: what stands after a backslash
 
 // A piece of the string, or its end.
-fn piece_at(classes: &[u8; 256], src: &[u8], at: usize) -> Piece
+pub fn piece_at(classes: &[u8; 256], src: &[u8], at: usize) -> Piece
     requires { ⌜ Classed (now classes) ⌝ }
     requires { ⌜ at ≤ length (now src) ⌝ }
     ensures { λ r. ⌜ Quotes (now (src .entry)) at r ⌝ }
@@ -42,7 +42,7 @@ fn piece_at(classes: &[u8; 256], src: &[u8], at: usize) -> Piece
 }
 
 // The end of a run of octets that stand for themselves.
-fn plain_end(classes: &[u8; 256], src: &[u8], at: usize) -> usize
+pub fn plain_end(classes: &[u8; 256], src: &[u8], at: usize) -> usize
     requires { ⌜ Classed (now classes) ⌝ }
     requires { ⌜ at ≤ length (now src) ⌝ }
     ensures { λ r. ⌜ Stretch (marked 34) (now (src .entry)) at (take (r - at) (drop at (now (src .entry)))) r ⌝ }
