@@ -1,23 +1,10 @@
 // Runs of octets at a place of a source: whitespace, the octets of a token, and any run copied into lent space.
-// `Simple` is what every crate of strings answers with (specs/Strings.antt says what it tells).
 ghost use Prim.Native.Nat.{_+_, _≤_};
 ghost use lib.ListN.{length, take, drop};
 ghost use Rattle.octets.specs.Classes.{Classed};
 ghost use Rattle.scan.specs.Runs.{Skipped, Ran};
 ghost use Rattle.scan.specs.Writes.{Wrote};
 use octets::class_of;
-
-// A simple string: its kind (0 where its octets stand as they are, else its closing mark), how many octets it has,
-// where its body begins, and the place after it.
-pub enum Simple {
-    Is {
-        kind: u8,
-        len: usize,
-        body: usize,
-        next: usize,
-    },
-    Not,
-}
 
 // The place after whitespace.
 pub fn skip_at(classes: &[u8; 256], src: &[u8], at: usize) -> usize
