@@ -40,7 +40,7 @@ unfolding chain
 lexemes-canon src ls t e h = ap octetsOfLexemes (nest-sound ls t (rw e at h)) ∙ unnest-canon t
 
 -- the lexemes passed stand before the others
-unfoldable prefixed : List Lexeme → Option (List Lexeme) → Option (List Lexeme)
+unfoldable pub prefixed : List Lexeme → Option (List Lexeme) → Option (List Lexeme)
 prefixed p none = none
 prefixed p (some ls) = some (p ++ ls)
 

@@ -54,4 +54,4 @@ Opens form text false = 1 ≤ form → form ≤ 2 → decode form text ≡ decod
 pub record Taken (o : Option Tree) (scratch notes notes′ : List ℕ) (r : Extent) : Type 0 where
   pub measures : Measures o r
   pub octets : (t : Tree) → o ≡ some t → length (canon t) ≤ maxCanonical → take (length (canon t)) scratch ≡ canon t
-  pub notes : (t : Tree) → o ≡ some t → length (canon t) ≤ maxCanonical → depth t ≤ maxDepth → nodes t ≤ length notes → Holds notes′ (nodes t) t
+  pub noted : (t : Tree) → o ≡ some t → length (canon t) ≤ maxCanonical → depth t ≤ maxDepth → nodes t ≤ length notes → Holds notes′ (nodes t) t
