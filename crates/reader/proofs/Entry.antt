@@ -7,27 +7,21 @@ use lib.ListN.{length}
 use Rattle.model.specs.Answers.{unchanged, readingChecks, reading}
 use Rattle.model.specs.Decode.{decode}
 use Rattle.model.specs.Limits.{maxSource, maxNodes}
-use Rattle.advanced.specs.Converted.{thrice, largest}
-use Rattle.texts.specs.Texts.{textVerdict}
-use Rattle.texts.proofs.Rows.{taken, text-refused, text-taken}
+use Rattle.texts.specs.Texts.{textVerdict, Formed}
+use Rattle.texts.proofs.Rows.{text-refused, text-taken}
+use Rattle.texts.proofs.Sizes.{small-takes, long-takes}
 use Rattle.answers.specs.Cases.{outcome, Refuses}
 use Rattle.answers.specs.declared.Reading.{Reading}
-use Rattle.reader.specs.Stored.{readTree, Formed, halved, most, Spaced}
+use Rattle.reader.specs.Stored.{readTree, halved, most, Spaced}
 
 -- ---- local space
 
-module _ (form n : ℕ) where
-  pub short-spaced : Formed form n 128 → (s m : ℕ) → s ≡ 448 → m ≡ 192 → Spaced form n s m
-  short-spaced f s m p q =
-      record { takes = record { low = f .low; high = f .high; lent = record { short = omega (arith, f .short); enough = thrice (omega (arith, f .short)) } }; room = halved (omega (arith, f .short)) }
+module _ (form n s m : ℕ) where
+  pub small-spaced : (bound : ℕ) → Formed form n bound → bound ≤ maxSource → 3 * bound + 64 ≤ s → 3 * bound ≤ 2 * m → Spaced form n s m
+  small-spaced bound f h k l = record { takes = small-takes form n s bound f h k; room = halved (omega (arith, f .short)) }
 
-  pub middle-spaced : Formed form n 1024 → (s m : ℕ) → s ≡ 3136 → m ≡ 1536 → Spaced form n s m
-  middle-spaced f s m p q =
-      record { takes = record { low = f .low; high = f .high; lent = record { short = omega (arith, f .short); enough = thrice (omega (arith, f .short)) } }; room = halved (omega (arith, f .short)) }
-
-  pub long-spaced : Formed form n maxSource → (s m : ℕ) → s ≡ 49216 → m ≡ maxNodes → Spaced form n s m
-  long-spaced f s m p q =
-      record { takes = record { low = f .low; high = f .high; lent = record { short = f .short; enough = largest (omega (arith, f .short)) } }; room = most (omega arith) }
+  pub long-spaced : Formed form n maxSource → maxSource + 16448 ≤ s → maxNodes ≤ m → Spaced form n s m
+  long-spaced f h k = record { takes = long-takes form n s f h; room = most k }
 
 -- ---- rows 1 and 2
 module _ (form : ℕ) (source canonical table : List ℕ) (n : ℕ) (v : n ≡ textVerdict form (length source)) where
@@ -35,13 +29,6 @@ module _ (form : ℕ) (source canonical table : List ℕ) (n : ℕ) (v : n ≡ t
   unfolding reading readingChecks
   read-refused h a f = f .is canonical table ∙ sym (text-refused form source _ _ (λ (k : ℕ). unchanged k canonical table) n v h)
 
-  module _ (h : n ≤ 0) where
-    pub read-formed : (bound : ℕ) → length source ≤ bound → Formed form (length source) bound
-    read-formed bound l = let t = taken form (length source) n v h in record { low = t .low; high = t .high; short = l }
-
-    pub read-long : Formed form (length source) maxSource
-    read-long = read-formed maxSource (taken form (length source) n v h .short)
-
-    pub read-taken : (canonical′ table′ : List ℕ) (a : Reading) → outcome a canonical′ table′ ≡ readTree (decode form source) canonical table → outcome a canonical′ table′ ≡ reading form source canonical table
-    unfolding reading readingChecks readTree
-    read-taken canonical′ table′ a f = f ∙ sym (text-taken form source _ _ (λ (k : ℕ). unchanged k canonical table) n v h)
+  pub read-taken : n ≤ 0 → (canonical′ table′ : List ℕ) (a : Reading) → outcome a canonical′ table′ ≡ readTree (decode form source) canonical table → outcome a canonical′ table′ ≡ reading form source canonical table
+  unfolding reading readingChecks readTree
+  read-taken h canonical′ table′ a f = f ∙ sym (text-taken form source _ _ (λ (k : ℕ). unchanged k canonical table) n v h)

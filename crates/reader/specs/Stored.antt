@@ -33,12 +33,6 @@ readTree o canonical table =
     (filled (the o) 0 0 canonical table)
     (λ n. unchanged n canonical table)
 
--- a text of n octets, no more than a bound, to which rows 1 and 2 don't apply
-pub record Formed (form n bound : ℕ) : Type 0 where
-  pub low : 1 ≤ form
-  pub high : form ≤ 3
-  pub short : n ≤ bound
-
 -- notes for every tree that fits and that a text of n octets can mean
 pub data Noteable (n room : ℕ) : Type 0 where
   halved : 3 * n ≤ 2 * room → Noteable n room

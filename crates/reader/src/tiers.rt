@@ -5,7 +5,8 @@ ghost use Rattle.model.specs.Decode.{decode};
 ghost use Rattle.model.specs.Limits.{maxSource};
 ghost use Rattle.answers.specs.Cases.{outcome};
 ghost use Rattle.octets.specs.Classes.{Classed, Lettered};
-ghost use Rattle.reader.specs.Stored.{readTree, Formed};
+ghost use Rattle.texts.specs.Texts.{Formed};
+ghost use Rattle.reader.specs.Stored.{readTree};
 use answers::Reading;
 use crate::read_in;
 

@@ -33,6 +33,12 @@ pub record Takeable (form n room : ℕ) : Type 0 where
   pub high : form ≤ 3
   pub lent : Lent n room
 
+-- a text of n octets, no more than a bound, to which rows 1 and 2 don't apply
+pub record Formed (form n bound : ℕ) : Type 0 where
+  pub low : 1 ≤ form
+  pub high : form ≤ 3
+  pub short : n ≤ bound
+
 -- a text that begins with a brace
 pub record Braced (text : List ℕ) : Type 0 where
   pub more : 0 < length text
