@@ -21,6 +21,7 @@ use Rattle.walk.specs.Count.{step}
 use Rattle.scan.specs.Runs.{Skipped}
 use Rattle.scan.proofs.Places.{one-here}
 use Rattle.blocks.proofs.Laws.{front-one, front-both}
+use Rattle.sheets.specs.Strung.{plainly, hintedly}
 use Rattle.advanced.specs.Spelled.{Room, Spelled, Spells}
 use Rattle.advanced.specs.Nodes.{Spare, hintOf, HintClosed, HintCloses, HintSpelled, HintSpells, Nodes}
 
@@ -39,6 +40,9 @@ spelled-few src at pos a b e next h s =
 -- the law of three for each octet, at one string
 spelled-low : (src : List ℕ) (at pos : ℕ) (a b : List ℕ) (e next : ℕ) → Spelled src (simple (drop at src)) at pos a b e next → e + 3 * at ≤ pos + 3 * next
 spelled-low src at pos a b e next s = omega (arith, simple-size (simple-sound (drop at src) (s .reads)), length-drop at src, length-drop next src, s .front .place, s .on, s .within)
+
+spelled-small : (src : List ℕ) (at pos : ℕ) (a b : List ℕ) (e next : ℕ) → length src ≤ maxSource → (s : Spelled src (simple (drop at src)) at pos a b e next) → length (s .octets) ≤ maxSource
+spelled-small src at pos a b e next h s = omega (arith, simple-fits (simple-sound (drop at src) (s .reads)), length-drop at src)
 
 pub kept-length : (a b : List ℕ) (i v : ℕ) → length b ≡ length (set a i v) → length b ≡ length a
 kept-length a b i v e = e ∙ length-set a i v
@@ -93,6 +97,7 @@ module _ (src : List ℕ) (at pos : ℕ) (out : List ℕ) (h : at < length src) 
                     within = v .within;
                     few = omega (arith, spelled-few src i (pos + 1) (set out pos 91) out₁ e next (t .short) got-it, v .on, v .front .place, p .from);
                     low = omega (arith, spelled-low src i (pos + 1) (set out pos 91) out₁ e next got-it, v .on, v .front .place, p .from);
+                    small = spelled-small src i (pos + 1) (set out pos 91) out₁ e next (t .short) got-it;
                     front =
                         front-both (91 ∷ []) _ pos (pos + 1) q out (set out pos 91) out₂ (front-one out pos 91 hint-store)
                         (front-both (verbatim (got-it .octets)) (93 ∷ []) (pos + 1) e q (set out pos 91) out₁ out₂ (got-it .front) (v .front));
@@ -134,8 +139,8 @@ module _ (src : List ℕ) (at pos : ℕ) (out : List ℕ) (h : at < length src) 
     unfolding lexeme
     bracketed = ap lexeme (one-here src at h) ∙ unpicked _ _ (ne-eqb _ _ a) ∙ unpicked _ _ (ne-eqb _ _ b) ∙ picked _ _ (eq-eqb _ _ c)
 
-    pub node-unhinted : from ≡ 0 → (d : List ℕ) (q : ℕ) → Nodes src at pos out d q 0
-    node-unhinted z d q = record { none = λ _. bracketed ∙ s .none z; some = λ y. absurd (y refl) }
+    pub node-unhinted : from ≡ 0 → (d : List ℕ) (m q : ℕ) → Nodes src at pos out d m q 0
+    node-unhinted z d m q = record { none = λ _. bracketed ∙ s .none z; some = λ y. absurd (y refl) }
 
     module _ (z : from ≡ 0 → ⊥) where
       hint-got : HintSpelled src at pos out out₁ e from
@@ -144,7 +149,7 @@ module _ (src : List ℕ) (at pos : ℕ) (out : List ℕ) (h : at < length src) 
       pub node-room : length out₁ ≡ length out → Room src from e (length out₁)
       node-room l = record { inside = hint-got .within; short = t .short; space = omega (arith, t .space, hint-got .few, hint-got .on, hint-got .within) }
 
-      pub node-hinted : (out₂ : List ℕ) (q next : ℕ) → Spells src (simple (drop from src)) from e out₁ out₂ q next → Nodes src at pos out out₂ q next
+      pub node-hinted : (out₂ : List ℕ) (q next : ℕ) → Spells src (simple (drop from src)) from e out₁ out₂ q next → Nodes src at pos out out₂ e q next
       unfolding bind step octetsOfLexeme
       node-hinted out₂ q next w =
           record {
@@ -161,6 +166,10 @@ module _ (src : List ℕ) (at pos : ℕ) (out : List ℕ) (h : at < length src) 
                   within = v .within;
                   few = omega (arith, spelled-few src from e out₁ out₂ q next (t .short) v, hint-got .few);
                   low = omega (arith, spelled-low src from e out₁ out₂ q next v, hint-got .low);
+                  strung = hintedly g (v .octets) (pos + 1 + length (verbatim g)) refl
+                      (omega (arith, hint-got .front .place, length-append (verbatim g) (93 ∷ [])))
+                      (record { long = refl; few = hint-got .small })
+                      (record { long = v .front .place; few = spelled-small src from e out₁ out₂ q next (t .short) v });
                   front = rw r at (front-both (91 ∷ (verbatim g ++ (93 ∷ []))) (verbatim (v .octets)) pos e q out out₁ out₂ (hint-got .front) (v .front));
                 };
           }
@@ -172,7 +181,7 @@ module _ (src : List ℕ) (at pos : ℕ) (out : List ℕ) (h : at < length src) 
         ap lexeme (one-here src at h) ∙ unpicked _ _ (ne-eqb _ _ a) ∙ unpicked _ _ (ne-eqb _ _ b) ∙ unpicked _ _ (ne-eqb _ _ c)
         ∙ ap (λ (s : List ℕ). bind (simple s) (λ d k. got (atom d) k)) (sym (one-here src at h))
 
-    pub node-plain : Nodes src at pos out out₁ q next
+    pub node-plain : Nodes src at pos out out₁ 0 q next
     unfolding bind step octetsOfLexeme
     node-plain =
         record {
@@ -187,6 +196,7 @@ module _ (src : List ℕ) (at pos : ℕ) (out : List ℕ) (h : at < length src) 
                 within = v .within;
                 few = omega (arith, spelled-few src at pos out out₁ q next (t .short) v);
                 low = spelled-low src at pos out out₁ q next v;
+                strung = plainly (v .octets) refl refl (record { long = v .front .place; few = spelled-small src at pos out out₁ q next (t .short) v });
                 front = v .front;
               };
         }

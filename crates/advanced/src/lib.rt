@@ -11,12 +11,15 @@ ghost use Rattle.octets.specs.Classes.{Classed, Lettered};
 ghost use Rattle.marks.specs.Decoded.{Spacious, Decodes};
 ghost use Rattle.advanced.specs.Spelled.{Room, Spells};
 ghost use Rattle.advanced.specs.Nodes.{Spare, HintCloses, HintSpells, Nodes};
-ghost use Rattle.advanced.specs.Converted.{Converts, Wrapped, Enough};
+ghost use Rattle.advanced.specs.Converted.{Converts, Wrapped, Lent};
 use blocks::frame;
 use blocks::put_string;
 use decimal::Number;
 use decimal::decimal_at;
 use octets::class_of;
+use sheets::notes::enter;
+use sheets::notes::keep_string;
+use sheets::notes::leave;
 use walk::Extent;
 
 // A string between marks, decoded; the place after it, or 0.
@@ -239,7 +242,8 @@ fn hint(
     close_hint(classes, src, next, out, e, end)
 }
 
-// A string, with its hint where it has one; the place after it, or 0.
+// A string, with its hint where it has one; the place after it, or 0. Where its hint ends in `out`, brackets and all, goes to `mid`: 0
+// where it has none.
 fn node(
     classes: &[u8; 256],
     letters: &[u8; 256],
@@ -247,21 +251,23 @@ fn node(
     at: usize,
     out: &mut [u8],
     pos: usize,
+    mid: &mut usize,
     end: &mut usize,
 ) -> usize
     requires { ⌜ Classed (now classes) ⌝ }
     requires { ⌜ Lettered (now letters) ⌝ }
     requires { ⌜ (at < length (now src)) × Spare (now src) at pos (length (now out)) × (getD (now src) at 0 ≡ 40 → ⊥) × (getD (now src) at 0 ≡ 41 → ⊥) ⌝ }
-    ensures { λ r. ⌜ Nodes (now (src .entry)) at pos (now (out .entry)) (now (out .exit)) (now (end .exit)) r ⌝ }
+    ensures { λ r. ⌜ Nodes (now (src .entry)) at pos (now (out .entry)) (now (out .exit)) (now (mid .exit)) (now (end .exit)) r ⌝ }
 {
     if src[at] == 91 {
-        let mut e: usize = 0;
-        let from = hint(classes, letters, src, at, out, pos, &mut e);
+        let from = hint(classes, letters, src, at, out, pos, mid);
         if from == 0 {
             return 0;
         }
-        return simple(classes, letters, src, from, out, e, end);
+        let behind = *mid;
+        return simple(classes, letters, src, from, out, behind, end);
     }
+    *mid = 0;
     simple(classes, letters, src, at, out, pos, end)
 }
 
@@ -269,16 +275,25 @@ fn node(
 fn wrap(end: usize) -> usize
     ensures { λ r. ⌜ Wrapped end r ⌝ }
 {
-    if end > 16384 { 0 } else { end }
+    if end > limits::CANONICAL { 0 } else { end }
 }
 
-// The canonical octets of a text at the front of `out`, and the sizes of the tree that it means. No limit plays a part.
-pub fn convert(classes: &[u8; 256], letters: &[u8; 256], src: &[u8], out: &mut [u8]) -> Extent
+// The canonical octets of a text at the front of `out`, the sizes of the tree that it means, and its notes. No limit decides whether it
+// means one. Once more octets are written than a sheet has, octets and notes no longer matter.
+pub fn convert(
+    classes: &[u8; 256],
+    letters: &[u8; 256],
+    src: &[u8],
+    out: &mut [u8],
+    notes: &mut [usize],
+) -> Extent
     requires { ⌜ Classed (now classes) ⌝ }
     requires { ⌜ Lettered (now letters) ⌝ }
-    requires { ⌜ (length (now src) ≤ maxSource) × Enough (length (now src)) (length (now out)) ⌝ }
-    ensures { λ r. ⌜ Converts (decode₃ (now (src .entry))) (now (out .exit)) r ⌝ }
+    requires { ⌜ Lent (length (now src)) (length (now out)) ⌝ }
+    ensures { λ r. ⌜ Converts (decode₃ (now (src .entry))) (now (out .exit)) (now (notes .entry)) (now (notes .exit)) r ⌝ }
 {
+    let mut starts: [usize; limits::DEPTH] = [0; limits::DEPTH];
+    let mut numbers: [usize; limits::DEPTH] = [0; limits::DEPTH];
     let mut at: usize = 0;
     let mut o: usize = 0;
     let mut opened: usize = 0;
@@ -303,6 +318,7 @@ pub fn convert(classes: &[u8; 256], letters: &[u8; 256], src: &[u8], out: &mut [
         let b = src[i];
         if b == 40 {
             out[o] = 40;
+            enter(&mut starts, &mut numbers, opened, o, seen);
             o = wrap(o + 1);
             size += 1;
             opened += 1;
@@ -316,17 +332,20 @@ pub fn convert(classes: &[u8; 256], letters: &[u8; 256], src: &[u8], out: &mut [
                 return Extent::Refused;
             }
             opened -= 1;
+            leave(notes, &starts, &numbers, opened, seen, o);
             out[o] = 41;
             o = wrap(o + 1);
             size += 1;
             at = i + 1;
             continue;
         }
+        let mut mid: usize = 0;
         let mut end: usize = 0;
-        let next = node(classes, letters, src, i, out, o, &mut end);
+        let next = node(classes, letters, src, i, out, o, &mut mid, &mut end);
         if next == 0 {
             return Extent::Refused;
         }
+        keep_string(notes, seen, o, mid, end);
         seen += 1;
         size += end - o;
         o = wrap(end);
