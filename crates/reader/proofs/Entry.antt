@@ -7,6 +7,7 @@ use lib.ListN.{length}
 use Rattle.model.specs.Answers.{unchanged, readingChecks, reading}
 use Rattle.model.specs.Decode.{decode}
 use Rattle.model.specs.Limits.{maxSource, maxNodes}
+use Rattle.sheets.specs.Places.{shift}
 use Rattle.texts.specs.Texts.{textVerdict, Formed}
 use Rattle.texts.proofs.Rows.{text-refused, text-taken}
 use Rattle.texts.proofs.Sizes.{small-takes, long-takes}
@@ -17,11 +18,11 @@ use Rattle.reader.specs.Stored.{readTree, halved, most, Spaced}
 -- ---- local space
 
 module _ (form n s m : ℕ) where
-  pub small-spaced : (bound : ℕ) → Formed form n bound → bound ≤ maxSource → 3 * bound + 64 ≤ s → 3 * bound ≤ 2 * m → Spaced form n s m
-  small-spaced bound f h k l = record { takes = small-takes form n s bound f h k; room = halved (omega (arith, f .short)) }
+  pub small-spaced : (bound : ℕ) → Formed form n bound → bound ≤ maxSource → 3 * bound + 64 ≤ s → s < shift → 3 * bound ≤ 2 * m → Spaced form n s m
+  small-spaced bound f h k j l = record { takes = small-takes form n s bound f h k j; room = halved (omega (arith, f .short)) }
 
-  pub long-spaced : Formed form n maxSource → maxSource + 16448 ≤ s → maxNodes ≤ m → Spaced form n s m
-  long-spaced f h k = record { takes = long-takes form n s f h; room = most k }
+  pub long-spaced : Formed form n maxSource → maxSource + 16448 ≤ s → s < shift → maxNodes ≤ m → Spaced form n s m
+  long-spaced f h j k = record { takes = long-takes form n s f h j; room = most k }
 
 -- ---- rows 1 and 2
 module _ (form : ℕ) (source canonical table : List ℕ) (n : ℕ) (v : n ≡ textVerdict form (length source)) where

@@ -18,7 +18,8 @@ use Rattle.marks.specs.Decoded.{Spacious, Decoded, Decodes}
 use Rattle.walk.specs.declared.Extent.{Extent}
 use Rattle.walk.specs.declared.Extent.the-variants.{Refused}
 use Rattle.sheets.specs.Notes.{Noted}
-use Rattle.texts.specs.Texts.{Lent, Braced, Taken}
+use Rattle.advanced.specs.Converted.{Lent}
+use Rattle.texts.specs.Texts.{Braced, Taken}
 use Rattle.texts.proofs.Taking.{lent-room, through, taken-none}
 
 decoded-cases : {G : Type 0} {d k′ : List ℕ} (o : Option (List ℕ)) (k : List ℕ) → decoded o k ≡ got d k′ → (o ≡ some d → k ≡ k′ → G) → G

@@ -13,7 +13,9 @@ use Rattle.model.specs.Decode.{nestings, onlyTree, onlyIn, nest, decode₁, dec
 use Rattle.model.specs.Lexemes.{lexemesBy, strictLexemes}
 use Rattle.model.specs.Tree.{Tree, canon}
 use Rattle.walk.specs.declared.Extent.{Extent}
+use Rattle.advanced.specs.Converted.{Converts}
 use Rattle.texts.specs.Texts.{Takeable, Braced, Enclosed, Opens, Taken}
+use Rattle.texts.proofs.Taking.{converted}
 
 -- ---- form 2 with a brace, or another text
 
@@ -54,9 +56,9 @@ module _ (form : ℕ) (text : List ℕ) (room : ℕ) (g : Takeable form (length 
     as-form : (y : Option Tree) → decode form text ≡ y → Taken y scratch notes notes′ r → Taken (decode form text) scratch notes notes′ r
     as-form y e t = rw e t
 
-    pub form-advanced : form ≡ 3 → Taken (decode₃ text) scratch notes notes′ r → Taken (decode form text) scratch notes notes′ r
+    pub form-advanced : form ≡ 3 → Converts (decode₃ text) scratch notes notes′ r → Taken (decode form text) scratch notes notes′ r
     unfolding decode
-    form-advanced e t = as-form (decode₃ text) (rw e) t
+    form-advanced e t = as-form (decode₃ text) (rw e) (converted (decode₃ text) scratch notes notes′ r t)
 
   module _ (n : form ≡ 3 → ⊥) (b : Bool) (o : Opens form text b) where
     enclosed : b ≡ true → Enclosed form text

@@ -4,25 +4,25 @@ use native.Mathlib.Omega.{arith}
 use mathlib.Core.Path.{_≡_, refl, sym, ap, _∙_, subst}
 use mathlib.Core.Option.{Option, none, some}
 use mathlib.Core.List.{List}
-use lib.ListN.{length, take, drop, length-take}
-use lib.Seq.{take-length}
+use lib.ListN.{length, take, drop}
+use lib.Seq.{take-length, take-at}
 use Rattle.base.proofs.Cases.{none-some}
-use Rattle.model.specs.Answers.{the}
-use Rattle.model.specs.Decode.{decode₁, decode₃}
-use Rattle.model.specs.Limits.{maxSource, maxCanonical, maxDepth}
-use Rattle.model.specs.Tree.{Tree, canon, nodes, depth}
-use Rattle.model.proofs.Exact.{canon-sound, canon-complete}
-use Rattle.walk.specs.Extent.{Wholly, Measures}
+use Rattle.base.proofs.Stores.{sets-all}
+use Rattle.model.specs.Decode.{decode₁}
+use Rattle.model.specs.Limits.{maxSource, maxCanonical}
+use Rattle.model.specs.Tree.{Tree, canon, nodes}
+use Rattle.model.proofs.Exact.{canon-sound}
+use Rattle.walk.specs.Extent.{Measures}
 use Rattle.walk.specs.declared.Extent.{Extent}
-use Rattle.walk.specs.declared.Extent.the-variants.{Whole, Refused}
+use Rattle.walk.specs.declared.Extent.the-variants.{Refused}
 use Rattle.scan.specs.Writes.{Wrote}
 use Rattle.blocks.specs.Fronts.{Front}
 use Rattle.blocks.proofs.Laws.{front-wrote}
-use Rattle.advanced.specs.Converted.{Converts, Enough, thrice, largest}
-use Rattle.sheets.specs.Notes.{Notable, Noted}
-use Rattle.sheets.specs.Told.{Holds}
+use Rattle.advanced.specs.Converted.{Converts, Enough, thrice, largest, Lent}
+use Rattle.sheets.specs.Notes.{noted, Noted}
+use Rattle.sheets.proofs.Keeping.{noted-length}
 use Rattle.sheets.proofs.Owning.{note-holds}
-use Rattle.texts.specs.Texts.{Lent, Taken}
+use Rattle.texts.specs.Texts.{Taken}
 
 -- scratch has room for the text as it stands, and more
 pub lent-room : (n room : ℕ) → Lent n room → n + 64 ≤ room
@@ -66,49 +66,16 @@ module _ (text scratch : List ℕ) (g : Lent (length text) (length scratch)) whe
       through (decode₁ text) text scratch′ notes notes′ r v (g .short) refl (λ _. let z : length text ≡ p = omega (arith, f .place) in rw z (f .same))
 
 -- ---- advanced text
-module _ (text scratch : List ℕ) (x : Extent) (c : Converts (decode₃ text) scratch x) where
-  pub advanced-none : x ≡ Refused → (notes : List ℕ) → Taken (decode₃ text) scratch notes notes Refused
-  unfolding Measures
-  advanced-none e notes = taken-none (decode₃ text) scratch notes notes (subst (Measures (decode₃ text)) e (c .measures))
-
-  module _ (len count deep : ℕ) (e : x ≡ Whole len count deep) where
-    whole : Wholly (decode₃ text) len count deep
-    unfolding Measures
-    whole = subst (Measures (decode₃ text)) e (c .measures)
-
-    same-tree : (t : Tree) → decode₃ text ≡ some t → whole .tree ≡ t
-    same-tree t z = cc (whole .is, z)
-
-    octets-are : len ≤ maxCanonical → take len scratch ≡ canon (whole .tree)
-    unfolding the
-    octets-are h = c .octets len count deep e h ∙ ap (λ (o : Option Tree). canon (the o)) (whole .is)
-
-    -- without notes: they are asked for only where the tree fits
-    unnoted : (notes : List ℕ) → (length (canon (whole .tree)) ≤ maxCanonical → nodes (whole .tree) ≤ length notes → ⊥) → Taken (decode₃ text) scratch notes notes (Whole len count deep)
-    unnoted notes n =
-        record {
-          measures = subst (Measures (decode₃ text)) e (c .measures);
-          octets = λ t z h. let s : whole .tree ≡ t = same-tree t z in rw (← s, ← whole .long) (octets-are (omega (arith, whole .long, ap (λ (t : Tree). length (canon t)) s)));
-          noted = λ t z h d k. let s : whole .tree ≡ t = same-tree t z in absurd (n (rw s h) (rw s k));
-        }
-
-    pub advanced-long : maxCanonical < len → (notes : List ℕ) → Taken (decode₃ text) scratch notes notes (Whole len count deep)
-    advanced-long h notes = unnoted notes (λ a b. omega (arith, whole .long))
-
-    pub advanced-many : (notes : List ℕ) → length notes < count → Taken (decode₃ text) scratch notes notes (Whole len count deep)
-    advanced-many notes h = unnoted notes (λ a b. omega (arith, whole .counted))
-
-    module _ (h : len ≤ maxCanonical) where
-      pub advanced-lent : len ≤ length scratch
-      advanced-lent = omega (arith, length-take len scratch, ap length (octets-are h), whole .long)
-
-      pub advanced-part : len ≡ length (take len scratch)
-      advanced-part = whole .long ∙ sym (ap length (octets-are h))
-
-      pub advanced-short : length (take len scratch) ≤ maxSource
-      advanced-short = omega (arith, advanced-part)
-
-      pub advanced-noted : (notes notes′ : List ℕ) (r : Extent) → Noted (take len scratch) notes notes′ r → Taken (decode₃ text) scratch notes notes′ r
-      advanced-noted notes notes′ r v =
-          let p : take len scratch ≡ canon (whole .tree) = octets-are h in
-          through (decode₃ text) (take len scratch) scratch notes notes′ r v advanced-short (whole .is ∙ sym (ap decode₁ p ∙ canon-complete (whole .tree))) (λ _. rw (← advanced-part))
+pub converted : (o : Option Tree) (scratch notes notes′ : List ℕ) (r : Extent) → Converts o scratch notes notes′ r → Taken o scratch notes notes′ r
+converted o scratch notes notes′ r c =
+    record {
+      measures = c .measures;
+      octets = c .octets;
+      noted = λ t z h d k.
+          record {
+            counted = refl;
+            kept = ap (take (nodes t)) (c .kept (record { tree = t; is = z; short = h; deep = d; fits = k }) ∙ sets-all notes (noted t) (omega (arith, noted-length t)))
+                ∙ take-at (noted t) (drop (length (noted t)) notes) (nodes t) (noted-length t);
+            short = omega arith;
+          };
+    }

@@ -15,7 +15,7 @@ use Rattle.model.specs.Answers.{noForm}
 use Rattle.walk.specs.Extent.{Measures}
 use Rattle.walk.specs.declared.Extent.{Extent}
 use Rattle.sheets.specs.Told.{Holds}
-use Rattle.advanced.specs.Converted.{Enough}
+use Rattle.advanced.specs.Converted.{Lent}
 
 -- rows 1 and 2
 unfoldable pub textVerdict : ℕ → ℕ → ℕ
@@ -23,11 +23,7 @@ textVerdict form len = pick (noForm form) Form (pick (ltb maxSource len) SourceS
 
 -- ---- what is asked
 
--- a text that rows 1 and 2 don't apply to, and scratch that is large enough for it
-pub record Lent (n room : ℕ) : Type 0 where
-  pub short : n ≤ maxSource
-  pub enough : Enough n room
-
+-- a text that rows 1 and 2 don't apply to, and scratch for it
 pub record Takeable (form n room : ℕ) : Type 0 where
   pub low : 1 ≤ form
   pub high : form ≤ 3

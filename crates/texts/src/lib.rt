@@ -2,9 +2,10 @@
 // takes a text takes it through these, and sees nothing of its form.
 ghost use mathlib.Core.Path.{_≡_};
 ghost use lib.ListN.{length};
-ghost use Rattle.model.specs.Decode.{decode₁, decode₂, decode₃, decode};
+ghost use Rattle.model.specs.Decode.{decode₁, decode₂, decode};
 ghost use Rattle.octets.specs.Classes.{Classed, Lettered};
-ghost use Rattle.texts.specs.Texts.{textVerdict, Lent, Takeable, Braced, Opens, Taken};
+ghost use Rattle.advanced.specs.Converted.{Lent};
+ghost use Rattle.texts.specs.Texts.{textVerdict, Takeable, Braced, Opens, Taken};
 use walk::Extent;
 
 // Row 1 or 2, of a form and a text's length; 0 where neither applies.
@@ -77,34 +78,6 @@ fn take_braced(
     sheets::note(part, notes)
 }
 
-// Advanced text is converted. Its notes are those of the octets made.
-fn take_advanced(
-    classes: &[u8; 256],
-    letters: &[u8; 256],
-    text: &[u8],
-    scratch: &mut [u8],
-    notes: &mut [usize],
-) -> Extent
-    requires { ⌜ Classed (now classes) ⌝ }
-    requires { ⌜ Lettered (now letters) ⌝ }
-    requires { ⌜ Lent (length (now text)) (length (now scratch)) ⌝ }
-    ensures { λ r. ⌜ Taken (decode₃ (now (text .entry))) (now (scratch .exit)) (now (notes .entry)) (now (notes .exit)) r ⌝ }
-{
-    match advanced::convert(classes, letters, text, scratch) {
-        Extent::Whole { len, nodes, depth } => {
-            if len > limits::CANONICAL {
-                return Extent::Whole { len, nodes, depth };
-            }
-            if nodes > notes.len() {
-                return Extent::Whole { len, nodes, depth };
-            }
-            let part = &scratch[..len];
-            sheets::note(part, notes)
-        }
-        Extent::Refused => Extent::Refused,
-    }
-}
-
 // The canonical octets of a text at the front of scratch, the sizes of the tree that it means, and the tree's notes as far as they
 // have room. No limit of depth, nodes or octets decides whether the text is one.
 pub fn take(
@@ -121,7 +94,7 @@ pub fn take(
     ensures { λ r. ⌜ Taken (decode form (now (text .entry))) (now (scratch .exit)) (now (notes .entry)) (now (notes .exit)) r ⌝ }
 {
     if form == 3 {
-        return take_advanced(classes, letters, text, scratch, notes);
+        return advanced::convert(classes, letters, text, scratch, notes);
     }
     if braced(form, text) {
         return take_braced(classes, letters, text, scratch, notes);
