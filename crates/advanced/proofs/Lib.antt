@@ -1,2 +1,4 @@
-pub mod Lexing
-pub mod Measuring
+pub mod Found
+pub mod Strings
+pub mod Hints
+pub mod Converting

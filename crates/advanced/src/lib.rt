@@ -1,180 +1,307 @@
-// Advanced text: the lexeme at a place, and the sizes of the tree that a text means.
-ghost use Prim.Native.Nat.{_≤_, _<_};
-ghost use lib.ListN.{length};
-ghost use Rattle.model.specs.Limits.{maxSource};
+// Advanced text into canonical octets in one pass, in lent scratch of which only the front is promised.
+ghost use mathlib.Core.Path.{_≡_};
+ghost use mathlib.Core.Bool.{true};
+ghost use Prim.Native.Nat.{_+_, _≤_, _<_};
+ghost use lib.ListN.{length, drop, getD};
 ghost use Rattle.model.specs.Decode.{decode₃};
-ghost use Rattle.walk.specs.Extent.{Measures};
+ghost use Rattle.model.specs.Limits.{maxSource};
+ghost use Rattle.model.specs.Octets.{isDigit};
+ghost use Rattle.model.specs.Strings.{bind, decimal, marked, afterNumber, simple};
 ghost use Rattle.octets.specs.Classes.{Classed, Lettered};
-ghost use Rattle.advanced.specs.Lexed.{ItemAt, Marked, Standing, Closes, Long};
-use scan::Simple;
-use scan::skip_at;
-use strings::measure_simple;
+ghost use Rattle.marks.specs.Decoded.{Spacious, Decodes};
+ghost use Rattle.advanced.specs.Spelled.{Room, Spells};
+ghost use Rattle.advanced.specs.Nodes.{Spare, HintCloses, HintSpells, Nodes};
+ghost use Rattle.advanced.specs.Converted.{Converts, Wrapped, Lent};
+use blocks::frame;
+use blocks::put_string;
+use decimal::Number;
+use decimal::decimal_at;
+use octets::class_of;
+use sheets::notes::enter;
+use sheets::notes::keep_string;
+use sheets::notes::leave;
 use walk::Extent;
 
-// A lexeme and the place after it. A string, and its hint, are told as `Simple` tells them.
-pub enum Item {
-    Open {
-        next: usize,
-    },
-    Close {
-        next: usize,
-    },
-    Atom {
-        kind: u8,
-        len: usize,
-        body: usize,
-        next: usize,
-    },
-    Hinted {
-        hint_kind: u8,
-        hint_len: usize,
-        hint_body: usize,
-        kind: u8,
-        len: usize,
-        body: usize,
-        next: usize,
-    },
-    Other,
-}
-
-// What follows a hint of kind hk, with hl octets from hb on.
-fn after_hint(
+// A string between marks, decoded; the place after it, or 0.
+fn decode(
     classes: &[u8; 256],
     letters: &[u8; 256],
     src: &[u8],
     at: usize,
-    hk: u8,
-    hl: usize,
-    hb: usize,
-) -> Item
+    out: &mut [u8],
+    pos: usize,
+    count: &mut usize,
+) -> usize
     requires { ⌜ Classed (now classes) ⌝ }
     requires { ⌜ Lettered (now letters) ⌝ }
-    requires { ⌜ (at ≤ length (now src)) × (length (now src) ≤ maxSource) ⌝ }
-    ensures { λ r. ⌜ Closes (now (src .entry)) at hk hl hb r ⌝ }
+    requires { ⌜ (at < length (now src)) × Spacious (now src) (at + 1) pos (length (now out)) ⌝ }
+    ensures { λ r. ⌜ Decodes (now (src .entry)) (marked (getD (now (src .entry)) at 0) (drop (at + 1) (now (src .entry)))) at pos (now (out .entry)) (now (out .exit)) (now (count .exit)) r ⌝ }
 {
-    let j = skip_at(classes, src, at);
-    if j >= src.len() {
-        return Item::Other;
+    let b = src[at];
+    if b == 34 {
+        return marks::quotes(classes, src, at + 1, out, pos, count);
     }
-    if src[j] != 93 {
-        return Item::Other;
+    if b == 35 {
+        return marks::hex(classes, src, at + 1, out, pos, count);
     }
-    let k = skip_at(classes, src, j + 1);
-    match measure_simple(classes, letters, src, k) {
-        Simple::Is {
-            kind,
-            len,
-            body,
-            next,
-        } => Item::Hinted {
-            hint_kind: hk,
-            hint_len: hl,
-            hint_body: hb,
-            kind,
-            len,
-            body,
-            next,
-        },
-        Simple::Not => Item::Other,
+    if b == 124 {
+        return marks::base(classes, letters, src, at + 1, 124, out, pos, count);
     }
+    0
 }
 
-// How many octets a string's mark takes on each side, by its first octet.
-pub fn mark(octet: u8) -> usize
-    ensures { λ r. ⌜ Marked octet r ⌝ }
-{
-    if octet == 34 { 1 } else { 0 }
-}
-
-// The end of the token, or of the quoted string without escapes, at a place; the place itself where none begins. Loops ask for these
-// first, the commonest lexemes by far, so that no `Item` goes through memory for them.
-pub fn standing_end(classes: &[u8; 256], src: &[u8], at: usize) -> usize
+// A string between marks, decoded behind room for two digits and a colon, and framed; the place after it, or 0.
+fn framed(
+    classes: &[u8; 256],
+    letters: &[u8; 256],
+    src: &[u8],
+    at: usize,
+    out: &mut [u8],
+    pos: usize,
+    end: &mut usize,
+) -> usize
     requires { ⌜ Classed (now classes) ⌝ }
-    requires { ⌜ at < length (now src) ⌝ }
-    ensures { λ r. ⌜ Standing (now (src .entry)) at r ⌝ }
+    requires { ⌜ Lettered (now letters) ⌝ }
+    requires { ⌜ (at < length (now src)) × Room (now src) at pos (length (now out)) ⌝ }
+    ensures { λ r. ⌜ Spells (now (src .entry)) (marked (getD (now (src .entry)) at 0) (drop (at + 1) (now (src .entry)))) at pos (now (out .entry)) (now (out .exit)) (now (end .exit)) r ⌝ }
 {
-    let c = octets::class_of(classes, src[at]);
-    if c == 1 {
-        let end = quoted::unescaped_end(classes, src, at + 1);
-        if end > at + 1 {
-            return end;
-        }
-        return at;
+    let mut n: usize = 0;
+    let next = decode(classes, letters, src, at, out, pos + 3, &mut n);
+    if next == 0 {
+        return 0;
     }
+    *end = frame(out, pos, n);
+    next
+}
+
+// The same; a quoted string in which nothing is escaped, the commonest by far, is copied to its place at once.
+fn between(
+    classes: &[u8; 256],
+    letters: &[u8; 256],
+    src: &[u8],
+    at: usize,
+    out: &mut [u8],
+    pos: usize,
+    end: &mut usize,
+) -> usize
+    requires { ⌜ Classed (now classes) ⌝ }
+    requires { ⌜ Lettered (now letters) ⌝ }
+    requires { ⌜ (at < length (now src)) × Room (now src) at pos (length (now out)) ⌝ }
+    ensures { λ r. ⌜ Spells (now (src .entry)) (marked (getD (now (src .entry)) at 0) (drop (at + 1) (now (src .entry)))) at pos (now (out .entry)) (now (out .exit)) (now (end .exit)) r ⌝ }
+{
+    if src[at] != 34 {
+        return framed(classes, letters, src, at, out, pos, end);
+    }
+    let stop = quoted::unescaped_end(classes, src, at + 1);
+    if stop < at + 2 {
+        return framed(classes, letters, src, at, out, pos, end);
+    }
+    *end = put_string(src, at + 1, stop - at - 2, out, pos);
+    stop
+}
+
+// What follows a length: a colon and as many octets, or a string between marks that has as many.
+fn after_number(
+    classes: &[u8; 256],
+    letters: &[u8; 256],
+    src: &[u8],
+    at: usize,
+    n: usize,
+    out: &mut [u8],
+    pos: usize,
+    end: &mut usize,
+) -> usize
+    requires { ⌜ Classed (now classes) ⌝ }
+    requires { ⌜ Lettered (now letters) ⌝ }
+    requires { ⌜ Room (now src) at pos (length (now out)) ⌝ }
+    ensures { λ r. ⌜ Spells (now (src .entry)) (afterNumber n (drop at (now (src .entry)))) at pos (now (out .entry)) (now (out .exit)) (now (end .exit)) r ⌝ }
+{
+    if at >= src.len() {
+        return 0;
+    }
+    if src[at] == 58 {
+        let body = at + 1;
+        if n > src.len() - body {
+            return 0;
+        }
+        *end = put_string(src, body, n, out, pos);
+        return body + n;
+    }
+    let mut m: usize = 0;
+    let next = decode(classes, letters, src, at, out, pos + 3, &mut m);
+    if next == 0 {
+        return 0;
+    }
+    if m != n {
+        return 0;
+    }
+    *end = frame(out, pos, m);
+    next
+}
+
+// A string that begins with its length.
+fn counted(
+    classes: &[u8; 256],
+    letters: &[u8; 256],
+    src: &[u8],
+    at: usize,
+    out: &mut [u8],
+    pos: usize,
+    end: &mut usize,
+) -> usize
+    requires { ⌜ Classed (now classes) ⌝ }
+    requires { ⌜ Lettered (now letters) ⌝ }
+    requires { ⌜ (at < length (now src)) × Room (now src) at pos (length (now out)) × (isDigit (getD (now src) at 0) ≡ true) ⌝ }
+    ensures { λ r. ⌜ Spells (now (src .entry)) (bind (decimal (getD (now (src .entry)) at 0) (drop (at + 1) (now (src .entry)))) afterNumber) at pos (now (out .entry)) (now (out .exit)) (now (end .exit)) r ⌝ }
+{
+    match decimal_at(src, at) {
+        Number::Value { value, next } => {
+            after_number(classes, letters, src, next, value, out, pos, end)
+        }
+        Number::NoNumber => 0,
+    }
+}
+
+// Any simple string, written as a verbatim string; the place after it, or 0. Where it ends in `out` goes to `end`.
+pub fn simple(
+    classes: &[u8; 256],
+    letters: &[u8; 256],
+    src: &[u8],
+    at: usize,
+    out: &mut [u8],
+    pos: usize,
+    end: &mut usize,
+) -> usize
+    requires { ⌜ Classed (now classes) ⌝ }
+    requires { ⌜ Lettered (now letters) ⌝ }
+    requires { ⌜ Room (now src) at pos (length (now out)) ⌝ }
+    ensures { λ r. ⌜ Spells (now (src .entry)) (simple (drop at (now (src .entry)))) at pos (now (out .entry)) (now (out .exit)) (now (end .exit)) r ⌝ }
+{
+    if at >= src.len() {
+        return 0;
+    }
+    let c = class_of(classes, src[at]);
     if c < 14 {
-        return at;
+        return between(classes, letters, src, at, out, pos, end);
     }
     if c > 17 {
-        return at;
+        return counted(classes, letters, src, at, out, pos, end);
     }
-    scan::run_end(classes, src, at + 1)
+    let stop = scan::run_end(classes, src, at + 1);
+    *end = put_string(src, at, stop - at, out, pos);
+    stop
 }
 
-// The lexeme at a place.
-pub fn lexeme_at(classes: &[u8; 256], letters: &[u8; 256], src: &[u8], at: usize) -> Item
+// The closing bracket of a hint, with whitespace on both sides; the place after them, or 0.
+fn close_hint(
+    classes: &[u8; 256],
+    src: &[u8],
+    at: usize,
+    out: &mut [u8],
+    pos: usize,
+    end: &mut usize,
+) -> usize
+    requires { ⌜ Classed (now classes) ⌝ }
+    requires { ⌜ (at ≤ length (now src)) × (pos < length (now out)) ⌝ }
+    ensures { λ r. ⌜ HintCloses (now (src .entry)) at pos (now (out .entry)) (now (out .exit)) (now (end .exit)) r ⌝ }
+{
+    let j = scan::skip_at(classes, src, at);
+    if j >= src.len() {
+        return 0;
+    }
+    if src[j] != 93 {
+        return 0;
+    }
+    out[pos] = 93;
+    *end = pos + 1;
+    scan::skip_at(classes, src, j + 1)
+}
+
+// A hint, from its bracket on, with its brackets; the place where its string begins, or 0.
+fn hint(
+    classes: &[u8; 256],
+    letters: &[u8; 256],
+    src: &[u8],
+    at: usize,
+    out: &mut [u8],
+    pos: usize,
+    end: &mut usize,
+) -> usize
     requires { ⌜ Classed (now classes) ⌝ }
     requires { ⌜ Lettered (now letters) ⌝ }
-    requires { ⌜ (at < length (now src)) × (length (now src) ≤ maxSource) ⌝ }
-    ensures { λ r. ⌜ ItemAt (now (src .entry)) at r ⌝ }
+    requires { ⌜ (at < length (now src)) × Spare (now src) at pos (length (now out)) ⌝ }
+    ensures { λ r. ⌜ HintSpells (now (src .entry)) at pos (now (out .entry)) (now (out .exit)) (now (end .exit)) r ⌝ }
 {
-    let c = octets::class_of(classes, src[at]);
-    if c == 6 {
-        return Item::Open { next: at + 1 };
+    out[pos] = 91;
+    let i = scan::skip_at(classes, src, at + 1);
+    let mut e: usize = 0;
+    let next = simple(classes, letters, src, i, out, pos + 1, &mut e);
+    if next == 0 {
+        return 0;
     }
-    if c == 7 {
-        return Item::Close { next: at + 1 };
-    }
-    if c == 8 {
-        let i = skip_at(classes, src, at + 1);
-        match measure_simple(classes, letters, src, i) {
-            Simple::Is {
-                kind,
-                len,
-                body,
-                next,
-            } => after_hint(classes, letters, src, next, kind, len, body),
-            Simple::Not => Item::Other,
-        }
-    } else {
-        match measure_simple(classes, letters, src, at) {
-            Simple::Is {
-                kind,
-                len,
-                body,
-                next,
-            } => Item::Atom {
-                kind,
-                len,
-                body,
-                next,
-            },
-            Simple::Not => Item::Other,
-        }
-    }
+    close_hint(classes, src, next, out, e, end)
 }
 
-// How long a verbatim string of n octets is.
-pub fn verbatim_len(n: usize) -> usize
-    requires { ⌜ n ≤ maxSource ⌝ }
-    ensures { λ r. ⌜ Long n r ⌝ }
-{
-    decimal::width(n) + 1 + n
-}
-
-// The sizes of the tree that a text means. No limit plays a part.
-pub fn measure(classes: &[u8; 256], letters: &[u8; 256], src: &[u8]) -> Extent
+// A string, with its hint where it has one; the place after it, or 0. Where its hint ends in `out`, brackets and all, goes to `mid`: 0
+// where it has none.
+fn node(
+    classes: &[u8; 256],
+    letters: &[u8; 256],
+    src: &[u8],
+    at: usize,
+    out: &mut [u8],
+    pos: usize,
+    mid: &mut usize,
+    end: &mut usize,
+) -> usize
     requires { ⌜ Classed (now classes) ⌝ }
     requires { ⌜ Lettered (now letters) ⌝ }
-    requires { ⌜ length (now src) ≤ maxSource ⌝ }
-    ensures { λ r. ⌜ Measures (decode₃ (now (src .entry))) r ⌝ }
+    requires { ⌜ (at < length (now src)) × Spare (now src) at pos (length (now out)) × (getD (now src) at 0 ≡ 40 → ⊥) × (getD (now src) at 0 ≡ 41 → ⊥) ⌝ }
+    ensures { λ r. ⌜ Nodes (now (src .entry)) at pos (now (out .entry)) (now (out .exit)) (now (mid .exit)) (now (end .exit)) r ⌝ }
 {
+    if src[at] == 91 {
+        let from = hint(classes, letters, src, at, out, pos, mid);
+        if from == 0 {
+            return 0;
+        }
+        let behind = *mid;
+        return simple(classes, letters, src, from, out, behind, end);
+    }
+    *mid = 0;
+    simple(classes, letters, src, at, out, pos, end)
+}
+
+// Where writing goes on: at the front again once more octets are written than a sheet may have.
+fn wrap(end: usize) -> usize
+    ensures { λ r. ⌜ Wrapped end r ⌝ }
+{
+    if end > limits::CANONICAL { 0 } else { end }
+}
+
+// The canonical octets of a text at the front of `out`, the sizes of the tree that it means, and its notes. No limit decides whether it
+// means one. Once more octets are written than a sheet has, octets and notes no longer matter.
+pub fn convert(
+    classes: &[u8; 256],
+    letters: &[u8; 256],
+    src: &[u8],
+    out: &mut [u8],
+    notes: &mut [usize],
+) -> Extent
+    requires { ⌜ Classed (now classes) ⌝ }
+    requires { ⌜ Lettered (now letters) ⌝ }
+    requires { ⌜ Lent (length (now src)) (length (now out)) ⌝ }
+    ensures { λ r. ⌜ Converts (decode₃ (now (src .entry))) (now (out .exit)) (now (notes .entry)) (now (notes .exit)) r ⌝ }
+{
+    let mut starts: [usize; limits::DEPTH] = [0; limits::DEPTH];
+    let mut numbers: [usize; limits::DEPTH] = [0; limits::DEPTH];
     let mut at: usize = 0;
+    let mut o: usize = 0;
     let mut opened: usize = 0;
     let mut deepest: usize = 0;
     let mut seen: usize = 0;
     let mut size: usize = 0;
     loop {
-        let i = skip_at(classes, src, at);
+        let i = scan::skip_at(classes, src, at);
         if walk::closed(opened, seen) {
             if i < src.len() {
                 return Extent::Refused;
@@ -188,55 +315,40 @@ pub fn measure(classes: &[u8; 256], letters: &[u8; 256], src: &[u8]) -> Extent
         if i >= src.len() {
             return Extent::Refused;
         }
-        let end = standing_end(classes, src, i);
-        if end > i {
+        let b = src[i];
+        if b == 40 {
+            out[o] = 40;
+            enter(&mut starts, &mut numbers, opened, o, seen);
+            o = wrap(o + 1);
+            size += 1;
+            opened += 1;
+            deepest = walk::larger(deepest, opened);
             seen += 1;
-            size += verbatim_len(end - i - 2 * mark(src[i]));
-            at = end;
+            at = i + 1;
             continue;
         }
-        match lexeme_at(classes, letters, src, i) {
-            Item::Open { next } => {
-                opened += 1;
-                deepest = walk::larger(deepest, opened);
-                seen += 1;
-                size += 1;
-                at = next;
-            }
-            Item::Close { next } => {
-                if opened == 0 {
-                    return Extent::Refused;
-                }
-                opened -= 1;
-                size += 1;
-                at = next;
-            }
-            Item::Atom {
-                kind: _,
-                len,
-                body: _,
-                next,
-            } => {
-                seen += 1;
-                size += verbatim_len(len);
-                at = next;
-            }
-            Item::Hinted {
-                hint_kind: _,
-                hint_len,
-                hint_body: _,
-                kind: _,
-                len,
-                body: _,
-                next,
-            } => {
-                seen += 1;
-                size += verbatim_len(hint_len) + verbatim_len(len) + 2;
-                at = next;
-            }
-            Item::Other => {
+        if b == 41 {
+            if opened == 0 {
                 return Extent::Refused;
             }
+            opened -= 1;
+            leave(notes, &starts, &numbers, opened, seen, o);
+            out[o] = 41;
+            o = wrap(o + 1);
+            size += 1;
+            at = i + 1;
+            continue;
         }
+        let mut mid: usize = 0;
+        let mut end: usize = 0;
+        let next = node(classes, letters, src, i, out, o, &mut mid, &mut end);
+        if next == 0 {
+            return Extent::Refused;
+        }
+        keep_string(notes, seen, o, mid, end);
+        seen += 1;
+        size += end - o;
+        o = wrap(end);
+        at = next;
     }
 }

@@ -4,4 +4,3 @@ pub mod Ends
 pub mod LetterSteps
 pub mod GroupSteps
 pub mod Runs
-pub mod Loops

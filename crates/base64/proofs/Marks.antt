@@ -4,17 +4,15 @@ use native.Mathlib.Omega.{arith}
 use mathlib.Core.Path.{_≡_, refl}
 use Rattle.base.specs.Choice.{member}
 use Rattle.model.specs.Octets.{isWhitespace, letter}
-use Rattle.model.specs.Strings.{marked}
-use Rattle.scan.specs.Strings.{bodyOf}
 use Rattle.base64.specs.Steps.{Closing}
 
 pub bar : Closing 124
-unfolding letter isWhitespace member bodyOf marked
-bar = record { no-letter = refl; no-pad = λ e. omega arith; no-white = refl; body = λ len s. refl }
+unfolding letter isWhitespace member
+bar = record { no-letter = refl; no-pad = λ e. omega arith; no-white = refl }
 
 pub brace : Closing 125
-unfolding letter isWhitespace member bodyOf
-brace = record { no-letter = refl; no-pad = λ e. omega arith; no-white = refl; body = λ len s. refl }
+unfolding letter isWhitespace member
+brace = record { no-letter = refl; no-pad = λ e. omega arith; no-white = refl }
 
 -- a letter is no pad
 pub pad-no-letter : (e : ℕ) → letter e < 64 → e ≡ 61 → ⊥

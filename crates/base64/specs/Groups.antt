@@ -3,10 +3,9 @@ use Prim.Native.Nat.{ℕ, _+_, _*_, _≤_}
 use mathlib.Core.Path.{_≡_}
 use mathlib.Core.List.{List, []}
 use lib.ListN.{length}
-use lib.Seq.{sets}
 use Rattle.model.specs.Strings.{unbase}
 use Rattle.model.proofs.Streams.{between}
-use Rattle.scan.specs.Marks.{Stretch, Body}
+use Rattle.scan.specs.Marks.{Stretch}
 use Rattle.base64.specs.Steps.{Closing}
 
 -- groups side by side from `at` to `next`, whichever mark follows
@@ -17,14 +16,3 @@ pub record Grouped (src : List ℕ) (at next : ℕ) : Type 0 where
   pub size : length octets ≡ 3 * groups
   pub within : next ≤ length src
   pub stretch : (mark : ℕ) → Closing mark → Stretch (between mark unbase []) src at octets next
-
--- the same, and their octets are written from `pos` on
-pub record GroupedOut (src : List ℕ) (at pos : ℕ) (before after : List ℕ) (next : ℕ) : Type 0 where
-  pub run : Grouped src at next
-  pub written : after ≡ sets before pos (run .octets)
-
--- base-64 is read up to some mark, and its octets have room from `pos` on
-pub record Roomy (src : List ℕ) (at pos room : ℕ) : Type 0 where
-  pub mark : ℕ
-  pub closing : Closing mark
-  pub body : Body (between mark unbase []) src at pos room

@@ -8,7 +8,6 @@ use Rattle.base.specs.Choice.{pick}
 use Rattle.model.specs.Octets.{isWhitespace, letter}
 use Rattle.model.specs.Strings.{Read, got, refused, bind, unbase, decoded}
 use Rattle.model.proofs.Streams.{between}
-use Rattle.scan.specs.Strings.{bodyOf}
 use Rattle.base64.specs.declared.steps.Letter.{Letter}
 use Rattle.base64.specs.declared.steps.Letter.the-variants.{Char, Pad, End, NoLetter}
 use Rattle.base64.specs.declared.steps.Group.{Group}
@@ -20,8 +19,6 @@ pub record Closing (mark : ℕ) : Type 0 where
   pub no-letter : letter mark ≡ 64
   pub no-pad : mark ≡ 61 → ⊥
   pub no-white : isWhitespace mark ≡ false
-  -- strings of this kind are base-64
-  pub body : (len : ℕ) (s : List ℕ) → bodyOf mark len s ≡ between mark unbase [] s
 
 -- one more letter or pad, whatever was read before
 pub record OneMore (mark : ℕ) (src : List ℕ) (at octet next : ℕ) : Type 0 where

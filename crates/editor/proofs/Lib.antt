@@ -1,3 +1,2 @@
 pub mod Replacing
-pub mod Written
 pub mod Entry

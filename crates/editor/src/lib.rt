@@ -1,98 +1,77 @@
 // Replacing: a node of a sheet gives way to the tree of a text, in place. Text, sheet, table, node and room are judged before
 // anything is written, so that a refusal changes nothing.
+mod tiers; // tiers.rt: local space for a text
+
 ghost use mathlib.Core.Path.{_≡_};
-ghost use Rattle.model.specs.Decode.{decode₂};
+ghost use lib.ListN.{length};
+ghost use Rattle.model.specs.Decode.{decode};
 ghost use Rattle.model.specs.Answers.{replacing};
 ghost use Rattle.answers.specs.Cases.{outcome};
 ghost use Rattle.octets.specs.Classes.{Classed, Lettered};
-ghost use Rattle.texts.specs.Texts.{decodeBy, Short, Braced};
+ghost use Rattle.texts.specs.Texts.{Takeable};
 ghost use Rattle.plan.specs.Planned.{replaceTree};
+ghost use Rattle.editor.specs.Placed.{Placeable, Placed};
 use answers::Reading;
 use answers::refused;
 use plan::Plan;
 use plan::Sizes;
-use texts::Unbraced;
 use walk::Extent;
 
-// By a text in advanced or in canonical form.
-fn replace_text(
-    classes: &[u8; 256],
-    letters: &[u8; 256],
-    advanced: bool,
-    text: &[u8],
+// A node of a sheet of `old` octets and `held` nodes gives way to the tree of these sizes whose octets stand in scratch.
+fn place(
     canonical: &mut [u8],
     table: &mut [u32],
-    length: usize,
-    nodes: usize,
+    old: usize,
+    held: usize,
     node: usize,
+    scratch: &[u8],
+    text: Sizes,
 ) -> Reading
-    requires { ⌜ Classed (now classes) ⌝ }
-    requires { ⌜ Lettered (now letters) ⌝ }
-    requires { ⌜ Short (now text) ⌝ }
-    ensures { λ r. ⌜ outcome r (now (canonical .exit)) (now (table .exit)) ≡ replaceTree (decodeBy advanced (now (text .entry))) (now (canonical .entry)) length (now (table .entry)) nodes node ⌝ }
+    requires { ⌜ Placeable (now scratch) text ⌝ }
+    ensures { λ r. ⌜ Placed (now (scratch .entry)) text (now (canonical .entry)) (now (canonical .exit)) old (now (table .entry)) (now (table .exit)) held node r ⌝ }
 {
-    match texts::measure(classes, letters, advanced, text) {
-        Extent::Whole {
-            len,
-            nodes: count,
-            depth,
+    let len = text.len;
+    match plan::judge(canonical, old, table, held, node, text) {
+        Plan::Fits {
+            start,
+            end,
+            length,
+            nodes,
         } => {
-            let sizes = Sizes {
-                len,
-                nodes: count,
-                depth,
-            };
-            match plan::judge(canonical, length, table, nodes, node, sizes) {
-                Plan::Fits {
-                    start,
-                    end,
-                    length: whole,
-                    nodes: all,
-                } => {
-                    splice::gap(canonical, start, end, length, len);
-                    texts::put(classes, letters, advanced, text, len, canonical, start);
-                    splice::finish(canonical, table, length, nodes, whole, all)
-                }
-                Plan::Misfit { number } => refused(number),
-            }
+            splice::gap(canonical, start, end, old, len);
+            scan::copy(scratch, 0, len, canonical, start);
+            splice::finish(canonical, table, old, held, length, nodes)
         }
-        Extent::Refused => refused(3),
+        Plan::Misfit { number } => refused(number),
     }
 }
 
-// By base-64 in braces: what it decodes to is taken as canonical text.
-fn replace_braced(
+// By a text that rows 1 and 2 don't apply to, in the local space lent. Of the text only octets and sizes are asked for, so that one
+// note is room enough.
+fn replace_in(
     classes: &[u8; 256],
     letters: &[u8; 256],
+    form: u32,
     text: &[u8],
     canonical: &mut [u8],
     table: &mut [u32],
-    length: usize,
-    nodes: usize,
+    old: usize,
+    held: usize,
     node: usize,
+    scratch: &mut [u8],
 ) -> Reading
     requires { ⌜ Classed (now classes) ⌝ }
     requires { ⌜ Lettered (now letters) ⌝ }
-    requires { ⌜ Braced (now text) ⌝ }
-    ensures { λ r. ⌜ outcome r (now (canonical .exit)) (now (table .exit)) ≡ replaceTree (decode₂ (now (text .entry))) (now (canonical .entry)) length (now (table .entry)) nodes node ⌝ }
+    requires { ⌜ Takeable form (length (now text)) (length (now scratch)) ⌝ }
+    ensures { λ r. ⌜ outcome r (now (canonical .exit)) (now (table .exit)) ≡ replaceTree (decode form (now (text .entry))) (now (canonical .entry)) old (now (table .entry)) held node ⌝ }
 {
-    let mut decoded: [u8; limits::DECODED] = [0; limits::DECODED];
-    match texts::unbrace(classes, letters, text, &mut decoded) {
-        Unbraced::Octets { len } => {
-            let part = &decoded[..len];
-            replace_text(
-                classes,
-                letters,
-                false,
-                part,
-                canonical,
-                table,
-                length,
-                nodes,
-                node,
-            )
+    let mut notes: [usize; 1] = [0; 1];
+    match texts::take(classes, letters, form, text, scratch, &mut notes) {
+        Extent::Whole { len, nodes, depth } => {
+            let sizes = Sizes { len, nodes, depth };
+            place(canonical, table, old, held, node, scratch, sizes)
         }
-        Unbraced::NoOctets => refused(3),
+        Extent::Refused => refused(3),
     }
 }
 
@@ -116,28 +95,17 @@ pub fn replace(
     }
     let classes = octets::classes();
     let letters = octets::letters();
-    if texts::braced(form, text) {
-        replace_braced(
-            &classes,
-            &letters,
-            text,
-            canonical,
-            table,
-            length,
-            nodes,
-            node,
-        )
-    } else {
-        replace_text(
-            &classes,
-            &letters,
-            form == 3,
-            text,
-            canonical,
-            table,
-            length,
-            nodes,
-            node,
-        )
+    if text.len() <= limits::SHORT {
+        return tiers::replace_short(
+            &classes, &letters, form, text, canonical, table, length, nodes, node,
+        );
     }
+    if text.len() <= limits::MIDDLE {
+        return tiers::replace_middle(
+            &classes, &letters, form, text, canonical, table, length, nodes, node,
+        );
+    }
+    tiers::replace_long(
+        &classes, &letters, form, text, canonical, table, length, nodes, node,
+    )
 }

@@ -3,7 +3,6 @@ use Prim.Native.Nat.{ℕ, _+_, _*_, _<_}
 use mathlib.Core.Path.{_≡_}
 use mathlib.Core.List.{List, [], _∷_}
 use lib.ListN.{length, drop}
-use lib.Seq.{sets}
 use Rattle.model.specs.Octets.{hexval}
 use Rattle.model.specs.Strings.{refused, marked}
 use Rattle.scan.specs.Marks.{Stretch, Chunk, Last}
@@ -26,10 +25,3 @@ pub record Paired (src : List ℕ) (at next : ℕ) : Type 0 where
   pub octets : List ℕ
   pub long : at + 2 * length octets ≡ next
   pub stretch : Stretch (marked 35) src at octets next
-
--- the same, and their octets are written from `pos` on
-pub record PairedOut (src : List ℕ) (at pos : ℕ) (before after : List ℕ) (next : ℕ) : Type 0 where
-  pub octets : List ℕ
-  pub long : at + 2 * length octets ≡ next
-  pub stretch : Stretch (marked 35) src at octets next
-  pub written : after ≡ sets before pos octets

@@ -19,5 +19,18 @@ pub const WIDTH: usize = 8;
 // Numbers of the largest table.
 pub const NUMBERS: usize = NODES * WIDTH;
 
-// Octets that base-64 of a source's length makes.
-pub const DECODED: usize = SOURCE / 4 * 3;
+// Local space for a text comes in three sizes, so that a short text does not pay for clearing the largest. A text of n octets makes
+// at most 3n canonical octets, hence at most 3n / 2 nodes.
+
+// Octets of a short text, of its scratch, and its notes.
+pub const SHORT: usize = 128;
+pub const SHORT_SCRATCH: usize = 3 * SHORT + 64;
+pub const SHORT_NOTES: usize = 3 * SHORT / 2;
+
+// The same of one of middle length.
+pub const MIDDLE: usize = 1024;
+pub const MIDDLE_SCRATCH: usize = 3 * MIDDLE + 64;
+pub const MIDDLE_NOTES: usize = 3 * MIDDLE / 2;
+
+// Octets of scratch for the longest: what is written past the largest sheet starts again at the front.
+pub const LONG_SCRATCH: usize = SOURCE + CANONICAL + 64;

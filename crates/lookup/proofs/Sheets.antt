@@ -20,7 +20,7 @@ use Rattle.model.specs.Tree.{Tree, canon, nodes, depth}
 use Rattle.model.proofs.Exact.{canon-sound}
 use Rattle.walk.specs.Extent.{Wholly, Measures}
 use Rattle.walk.proofs.Tabled.{table-length}
-use Rattle.index.specs.Indexed.{Judgeable, owned}
+use Rattle.sheets.specs.Owned.{Judgeable, owned}
 use Rattle.walk.specs.declared.Extent.{Extent}
 use Rattle.walk.specs.declared.Extent.the-variants.{Whole, Refused}
 

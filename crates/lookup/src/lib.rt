@@ -57,7 +57,7 @@ pub fn own_sheet(canonical: &[u8], length: usize, table: &[u32], nodes: usize) -
         return false;
     }
     let part = &canonical[..length];
-    index::own(part, table, nodes)
+    sheets::own(part, table, nodes)
 }
 
 // The k-th number of a node's record.

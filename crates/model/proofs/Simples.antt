@@ -45,7 +45,7 @@ unfolding decoded
 reading-cases none k h g = never h
 reading-cases (some e) k h g = g e refl h
 
-marked-sound : (m : ℕ) (s : List ℕ) {d k : List ℕ} → marked m s ≡ got d k → Marked (m ∷ s) d k
+pub marked-sound : (m : ℕ) (s : List ℕ) {d k : List ℕ} → marked m s ≡ got d k → Marked (m ∷ s) d k
 unfolding marked
 marked-sound m s {d} {k} e =
     pick-cases (eqb m 34) _ _ e

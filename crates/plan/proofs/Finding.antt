@@ -8,7 +8,7 @@ use mathlib.Core.List.{List}
 use lib.ListN.{length, getD}
 use lib.Dec.{leb}
 use borrow.Author.Tests.{le-leb, lt-leb}
-use Rattle.model.specs.Table.{width}
+use Rattle.model.specs.Table.{width, records}
 use Rattle.base.specs.Choice.{not, isNone}
 use Rattle.model.specs.Answers.{verdict, the, roomChecks, ownTree, unchanged, filled}
 use Rattle.model.specs.Edit.{replace}
@@ -42,7 +42,7 @@ module _ (canonical : List ℕ) (len : ℕ) (table : List ℕ) (count node : ℕ
     module _ (h : node < count) where
       -- rows 4 to 6 are left
       rooms-left : verdict (treeChecks (some u) canonical len table count node)
-          ≡ roomVerdict (depth (replace t node u)) (nodes (replace t node u)) (length (canon (replace t node u))) (length canonical) (length table)
+          ≡ roomVerdict (depth (replace t node u)) (nodes (replace t node u)) (length (canon (replace t node u))) (length canonical) (records table)
       unfolding treeChecks isNone the
       rooms-left =
           verdict-past 3 (isNone (some u)) _ refl
@@ -51,12 +51,12 @@ module _ (canonical : List ℕ) (len : ℕ) (table : List ℕ) (count node : ℕ
           ∙ ap (λ (o : Option Tree). verdict (roomChecks (replace (the o) node u) canonical table)) e
           ∙ rooms (replace t node u) canonical table
 
-      pub node-refused : (n : ℕ) → n ≡ roomVerdict (depth (replace t node u)) (nodes (replace t node u)) (length (canon (replace t node u))) (length canonical) (length table) → 0 < n
+      pub node-refused : (n : ℕ) → n ≡ roomVerdict (depth (replace t node u)) (nodes (replace t node u)) (length (canon (replace t node u))) (length canonical) (records table) → 0 < n
           → replaceTree (some u) canonical len table count node ≡ unchanged n canonical table
       unfolding replaceTree
       node-refused n v k = judged-refused _ _ _ n (rooms-left ∙ sym v) k
 
-      pub node-accepted : roomVerdict (depth (replace t node u)) (nodes (replace t node u)) (length (canon (replace t node u))) (length canonical) (length table) ≡ 0
+      pub node-accepted : roomVerdict (depth (replace t node u)) (nodes (replace t node u)) (length (canon (replace t node u))) (length canonical) (records table) ≡ 0
           → replaceTree (some u) canonical len table count node ≡ filled (replace t node u) len count canonical table
       unfolding replaceTree the
       node-accepted v = judged-accepted _ _ _ (rooms-left ∙ v) ∙ ap (λ (o : Option Tree). filled (replace (the o) node u) len count canonical table) e

@@ -8,6 +8,7 @@ use lib.Dec.{ltb}
 use borrow.Author.Tests.{le-ltb, ltb-false}
 use Rattle.model.specs.Limits.{maxDepth}
 use Rattle.model.specs.Edit.{replace}
+use Rattle.model.specs.Table.{records}
 use Rattle.model.specs.Tree.{Tree, canon, nodes, depth}
 use Rattle.reader.specs.Stored.{roomVerdict}
 use Rattle.reader.proofs.Rooms.{Lodged, roomy}
@@ -38,13 +39,13 @@ module _ (canonical : List ℕ) (len : ℕ) (table : List ℕ) (count node : ℕ
     pub plan-resizable : Resizable table len count node start end n text
     plan-resizable = record { tree = entered .tree; at = entered .at; small = small }
 
-    module _ (to : Sizes) (z : Resized table len count node start end n text to) (row : ℕ) (v : row ≡ roomVerdict (to .depth) (to .nodes) (to .len) (length canonical) (length table)) where
+    module _ (to : Sizes) (z : Resized table len count node start end n text to) (row : ℕ) (v : row ≡ roomVerdict (to .depth) (to .nodes) (to .len) (length canonical) (records table)) where
       weighed : (u : Tree) → Sized u text → Weighed (replace (entered .tree) node u) to
       weighed u s = z .is (entered .tree) (entered .at) u s
 
       verdict-of : (u : Tree) → Sized u text
-          → row ≡ roomVerdict (depth (replace (entered .tree) node u)) (nodes (replace (entered .tree) node u)) (length (canon (replace (entered .tree) node u))) (length canonical) (length table)
-      verdict-of u s = let x = weighed u s in v ∙ same-verdict (length canonical) (length table) (to .depth) (depth (replace (entered .tree) node u)) (x .deep) (x .counted) (x .long)
+          → row ≡ roomVerdict (depth (replace (entered .tree) node u)) (nodes (replace (entered .tree) node u)) (length (canon (replace (entered .tree) node u))) (length canonical) (records table)
+      verdict-of u s = let x = weighed u s in v ∙ same-verdict (length canonical) (records table) (to .depth) (depth (replace (entered .tree) node u)) (x .deep) (x .counted) (x .long)
 
       inside : node < count
       inside = omega (arith, entered .at .inside, entered .at .counted)
@@ -57,12 +58,12 @@ module _ (canonical : List ℕ) (len : ℕ) (table : List ℕ) (count node : ℕ
       unfolding Plans
       plan-fits h =
           let none : row ≡ 0 = omega arith in
-          let g : Lodged (to .depth) (to .nodes) (to .len) (length canonical) (length table) = roomy (to .depth) (to .nodes) (to .len) (length canonical) (length table) (sym v ∙ none) in
+          let g : Lodged (to .depth) (to .nodes) (to .len) (length canonical) (records table) = roomy (to .depth) (to .nodes) (to .len) (length canonical) (records table) (sym v ∙ none) in
           record {
             n = n;
             found = entered;
             takes = λ u s.
                 let x = weighed u s in
-                record { long = x .long; counted = x .counted; shallow = ltb-false maxDepth _ (sym (x .deep) ∙ le-ltb maxDepth (to .depth) (g .shallow)); recorded = g .recorded; short = g .small; lent = g .lent };
+                record { long = x .long; counted = x .counted; shallow = ltb-false maxDepth _ (sym (x .deep) ∙ le-ltb maxDepth (to .depth) (g .shallow)); recorded = omega (arith, g .recorded); few = g .few; short = g .small; lent = g .lent };
             answer = λ u s. node-accepted canonical len table count node (entered .tree) (entered .own) u inside (sym (verdict-of u s) ∙ none);
           }

@@ -117,6 +117,7 @@ pub record Taking (t′ : Tree) (canonical table : List ℕ) (len′ count′ : 
   pub counted : count′ ≡ nodes t′
   pub shallow : depth t′ ≤ maxDepth
   pub recorded : width * count′ ≤ length table
+  pub few : count′ ≤ maxNodes
   pub short : len′ ≤ maxCanonical
   pub lent : len′ ≤ length canonical
 

@@ -108,7 +108,13 @@ pub fn judge(
     match find(canonical, length, table, nodes, node) {
         Found::Node { start, end, count } => {
             let to = resize(table, length, nodes, node, start, end, count, text);
-            let row = reader::room(to.len, to.nodes, to.depth, canonical.len(), table.len());
+            let row = reader::room(
+                to.len,
+                to.nodes,
+                to.depth,
+                canonical.len(),
+                table.len() / limits::WIDTH,
+            );
             if row > 0 {
                 return Plan::Misfit { number: row };
             }

@@ -2,11 +2,9 @@
 use Prim.Native.Nat.{ℕ, _-_, _≤_, _<_}
 use mathlib.Core.Path.{_≡_}
 use mathlib.Core.List.{List, [], _∷_}
-use lib.ListN.{length, drop}
+use lib.ListN.{length, take, drop}
 use Rattle.model.specs.Strings.{Read, got, refused, marked}
 use Rattle.scan.specs.Marks.{Chunk, Last}
-use Rattle.scan.specs.Strings.{Tells}
-use Rattle.scan.specs.declared.Simple.the-variants.{Is}
 use Rattle.quoted.specs.declared.escapes.Piece.{Piece}
 use Rattle.quoted.specs.declared.escapes.Piece.the-variants.{One, Gone, Quote, NoPiece}
 
@@ -33,4 +31,4 @@ Quotes src at NoPiece = marked 34 (drop at src) ≡ refused
 pub record Unescaped (src : List ℕ) (at r : ℕ) : Type 0 where
   pub from : at ≤ r
   pub within : r ≤ length src
-  pub is : at < r → Tells src (marked 34 (drop at src)) (Is 0 (r - at - 1) at r)
+  pub is : at < r → marked 34 (drop at src) ≡ got (take (r - at - 1) (drop at src)) (drop r src)

@@ -1,4 +1,3 @@
 pub mod Rooms
-pub mod Finishing
 pub mod Storing
 pub mod Entry

@@ -14,60 +14,58 @@ use Rattle.base.proofs.Cases.{pick-cases, picked, unpicked}
 use Rattle.base.proofs.Stores.{sets-all}
 use Rattle.model.specs.Answers.{when, verdict, judged, the, roomChecks, settled, unchanged, filled}
 use Rattle.model.specs.Limits.{maxDepth, maxNodes, maxCanonical, Accepted, Syntax, Depth, Nodes, Size}
-use Rattle.model.specs.Table.{width, numbers, records}
+use Rattle.model.specs.Table.{records}
 use Rattle.model.specs.Tree.{Tree, canon, nodes, depth}
 use Rattle.model.proofs.Judging.{judged-accepted, judged-refused}
 use Rattle.walk.specs.Count.{count}
 use Rattle.reader.specs.Stored.{roomVerdict, readTree}
 
-module _ (deep count len octets numbers : ℕ) where
-  pub room-deep : maxDepth < deep → 4 ≡ roomVerdict deep count len octets numbers
+module _ (deep count len octets records : ℕ) where
+  pub room-deep : maxDepth < deep → 4 ≡ roomVerdict deep count len octets records
   unfolding roomVerdict
   room-deep h = sym (picked _ _ (lt-ltb maxDepth deep h))
 
   module _ (a : deep ≤ maxDepth) where
-    pub room-nodes : maxNodes < count → 5 ≡ roomVerdict deep count len octets numbers
+    pub room-nodes : maxNodes < count → 5 ≡ roomVerdict deep count len octets records
     unfolding roomVerdict
     room-nodes h = sym (unpicked _ _ (le-ltb maxDepth deep a) ∙ picked _ _ (lt-ltb maxNodes count h))
 
     module _ (b : count ≤ maxNodes) where
-      pub room-records : numbers / width < count → 5 ≡ roomVerdict deep count len octets numbers
+      pub room-records : records < count → 5 ≡ roomVerdict deep count len octets records
       unfolding roomVerdict
-      room-records h = sym (unpicked _ _ (le-ltb maxDepth deep a) ∙ unpicked _ _ (le-ltb maxNodes count b) ∙ picked _ _ (lt-ltb (numbers / width) count h))
+      room-records h = sym (unpicked _ _ (le-ltb maxDepth deep a) ∙ unpicked _ _ (le-ltb maxNodes count b) ∙ picked _ _ (lt-ltb records count h))
 
-      module _ (c : count ≤ numbers / width) where
-        firsts : roomVerdict deep count len octets numbers ≡ pick (ltb maxCanonical len) 6 (pick (ltb octets len) 6 0)
+      module _ (c : count ≤ records) where
+        firsts : roomVerdict deep count len octets records ≡ pick (ltb maxCanonical len) 6 (pick (ltb octets len) 6 0)
         unfolding roomVerdict
-        firsts = unpicked _ _ (le-ltb maxDepth deep a) ∙ unpicked _ _ (le-ltb maxNodes count b) ∙ unpicked _ _ (le-ltb (numbers / width) count c)
+        firsts = unpicked _ _ (le-ltb maxDepth deep a) ∙ unpicked _ _ (le-ltb maxNodes count b) ∙ unpicked _ _ (le-ltb records count c)
 
-        pub room-size : maxCanonical < len → 6 ≡ roomVerdict deep count len octets numbers
+        pub room-size : maxCanonical < len → 6 ≡ roomVerdict deep count len octets records
         room-size h = sym (firsts ∙ picked _ _ (lt-ltb maxCanonical len h))
 
-        pub room-lent : len ≤ maxCanonical → octets < len → 6 ≡ roomVerdict deep count len octets numbers
+        pub room-lent : len ≤ maxCanonical → octets < len → 6 ≡ roomVerdict deep count len octets records
         room-lent h k = sym (firsts ∙ unpicked _ _ (le-ltb maxCanonical len h) ∙ picked _ _ (lt-ltb octets len k))
 
-        pub room-good : len ≤ maxCanonical → len ≤ octets → 0 ≡ roomVerdict deep count len octets numbers
+        pub room-good : len ≤ maxCanonical → len ≤ octets → 0 ≡ roomVerdict deep count len octets records
         room-good h k = sym (firsts ∙ unpicked _ _ (le-ltb maxCanonical len h) ∙ unpicked _ _ (le-ltb octets len k))
 
 -- what holds where none applies
-pub record Lodged (deep count len octets numbers : ℕ) : Type 0 where
+pub record Lodged (deep count len octets records : ℕ) : Type 0 where
   pub shallow : deep ≤ maxDepth
   pub few : count ≤ maxNodes
-  pub recorded : width * count ≤ numbers
+  pub recorded : count ≤ records
   pub small : len ≤ maxCanonical
   pub lent : len ≤ octets
 
-pub roomy : (deep count len octets numbers : ℕ) → roomVerdict deep count len octets numbers ≡ 0 → Lodged deep count len octets numbers
+pub roomy : (deep count len octets records : ℕ) → roomVerdict deep count len octets records ≡ 0 → Lodged deep count len octets records
 unfolding roomVerdict
-roomy deep count len octets numbers e =
+roomy deep count len octets records e =
     pick-cases (ltb maxDepth deep) _ _ e (λ t h. absurd (omega arith))
     (λ a h. pick-cases (ltb maxNodes count) _ _ h (λ t i. absurd (omega arith))
-    (λ b i. pick-cases (ltb (numbers / width) count) _ _ i (λ t j. absurd (omega arith))
+    (λ b i. pick-cases (ltb records count) _ _ i (λ t j. absurd (omega arith))
     (λ c j. pick-cases (ltb maxCanonical len) _ _ j (λ t k. absurd (omega arith))
     (λ d k. pick-cases (ltb octets len) _ _ k (λ t l. absurd (omega arith))
-    (λ f l.
-    let c′ : count ≤ numbers / width = ltb-false _ _ c in
-    record { shallow = ltb-false _ _ a; few = ltb-false _ _ b; recorded = omega arith; small = ltb-false _ _ d; lent = ltb-false _ _ f })))))
+    (λ f l. record { shallow = ltb-false _ _ a; few = ltb-false _ _ b; recorded = ltb-false _ _ c; small = ltb-false _ _ d; lent = ltb-false _ _ f })))))
 
 -- ---- the model's checks
 
@@ -75,7 +73,7 @@ split : {A : Type 0} (a b : Bool) (x y : A) → pick (either a b) x y ≡ pick a
 split true b x y = refl
 split false b x y = refl
 
-pub rooms : (t : Tree) (canonical table : List ℕ) → verdict (roomChecks t canonical table) ≡ roomVerdict (depth t) (nodes t) (length (canon t)) (length canonical) (length table)
+pub rooms : (t : Tree) (canonical table : List ℕ) → verdict (roomChecks t canonical table) ≡ roomVerdict (depth t) (nodes t) (length (canon t)) (length canonical) (records table)
 unfolding verdict roomChecks roomVerdict
 rooms t canonical table =
     ap (pick (ltb maxDepth (depth t)) Depth)
@@ -88,15 +86,15 @@ module _ (o : Option Tree) (canonical table : List ℕ) where
   tree-none e = rw e
 
   module _ (t : Tree) (e : o ≡ some t) where
-    verdict-is : verdict (when Syntax (isNone o) ∷ roomChecks (the o) canonical table) ≡ roomVerdict (depth t) (nodes t) (length (canon t)) (length canonical) (length table)
+    verdict-is : verdict (when Syntax (isNone o) ∷ roomChecks (the o) canonical table) ≡ roomVerdict (depth t) (nodes t) (length (canon t)) (length canonical) (records table)
     unfolding verdict isNone the
     verdict-is = rw e (rooms t canonical table)
 
-    pub tree-refused : (n : ℕ) → n ≡ roomVerdict (depth t) (nodes t) (length (canon t)) (length canonical) (length table) → 0 < n → readTree o canonical table ≡ unchanged n canonical table
+    pub tree-refused : (n : ℕ) → n ≡ roomVerdict (depth t) (nodes t) (length (canon t)) (length canonical) (records table) → 0 < n → readTree o canonical table ≡ unchanged n canonical table
     unfolding readTree
     tree-refused n h k = judged-refused _ _ _ n (verdict-is ∙ sym h) k
 
-    pub tree-accepted : roomVerdict (depth t) (nodes t) (length (canon t)) (length canonical) (length table) ≡ 0 → readTree o canonical table ≡ filled t 0 0 canonical table
+    pub tree-accepted : roomVerdict (depth t) (nodes t) (length (canon t)) (length canonical) (records table) ≡ 0 → readTree o canonical table ≡ filled t 0 0 canonical table
     unfolding readTree the
     tree-accepted h = judged-accepted _ _ _ (verdict-is ∙ h) ∙ ap (λ (x : Option Tree). filled (the x) 0 0 canonical table) e
 

@@ -1,115 +1,130 @@
--- A text measured, judged, written and indexed: what is left is what the tree that it means gives.
-use Prim.Native.Nat.{ℕ, _+_, _≤_, _<_}
+-- A text taken and judged, its octets put and its table filled: what is left is what the tree that it means gives.
+use Prim.Native.Nat.{ℕ, _+_, _*_, _/_, _≤_, _<_}
 use native.Mathlib.Omega.{arith}
 use mathlib.Core.Path.{_≡_, refl, sym, ap, ap₂, _∙_, subst}
-use mathlib.Core.Option.{Option, some}
-use mathlib.Core.Bool.{Bool}
-use mathlib.Core.List.{List, _++_}
-use lib.ListN.{length, take, drop}
-use lib.Seq.{take-at, sets, length-sets}
-use Rattle.base.proofs.Stores.{sets-all}
+use mathlib.Core.Option.{Option, none, some}
+use mathlib.Core.List.{List, []}
+use lib.ListN.{length, take, drop, length-take}
+use lib.Seq.{sets}
 use Rattle.model.specs.Answers.{the, Outcome, filled}
-use Rattle.model.specs.Decode.{decode₁}
-use Rattle.model.specs.Limits.{Accepted, maxSource}
-use Rattle.model.specs.Table.{tableOf}
+use Rattle.model.specs.Decode.{decode}
+use Rattle.model.specs.Limits.{Accepted, maxNodes, maxSource}
+use Rattle.model.specs.Table.{width, records, tableOf}
 use Rattle.model.specs.Tree.{Tree, canon, nodes, depth}
-use Rattle.model.proofs.Exact.{canon-complete}
+use Rattle.model.proofs.Laws.{nodes-within-half}
 use Rattle.walk.specs.Extent.{Wholly, Measures}
-use Rattle.walk.proofs.Tabled.{table-length}
-use Rattle.scan.specs.Writes.{Wrote}
-use Rattle.texts.specs.Texts.{decodeBy, Puttable}
-use Rattle.answers.specs.Cases.{outcome, Refuses}
-use Rattle.reader.specs.Stored.{roomVerdict, readTree, Finishable, Finished}
-use Rattle.reader.proofs.Rooms.{Lodged, roomy, tree-none, tree-refused, tree-accepted, settled-front}
-use Rattle.answers.specs.declared.Reading.{Reading}
 use Rattle.walk.specs.declared.Extent.{Extent}
 use Rattle.walk.specs.declared.Extent.the-variants as extent
+use Rattle.walk.proofs.Tabled.{table-length}
+use Rattle.scan.specs.Writes.{Wrote}
+use Rattle.sheets.specs.Told.{Holds, Fillable, Filled}
+use Rattle.texts.specs.Texts.{Takeable, Taken}
+use Rattle.texts.proofs.Sizes.{tripled}
+use Rattle.answers.specs.Cases.{outcome, Refuses}
+use Rattle.answers.specs.declared.Refusal.{Refusal}
+use Rattle.answers.specs.declared.Reading.{Reading}
+use Rattle.answers.specs.declared.Reading.the-variants as reading
+use Rattle.reader.specs.Stored.{roomVerdict, readTree, Noteable, halved, most, Spaced, Accepting, Puts}
+use Rattle.reader.proofs.Rooms.{Lodged, roomy, tree-none, tree-refused, tree-accepted, settled-front}
 
 same-verdict : (o k : ℕ) {d d′ n n′ l l′ : ℕ} → d ≡ d′ → n ≡ n′ → l ≡ l′ → roomVerdict d n l o k ≡ roomVerdict d′ n′ l′ o k
 same-verdict o k p q r = λ i. roomVerdict (p i) (q i) (r i) o k
 
--- ---- whatever the form: o is the text's tree, if it has one
-module _ (o : Option Tree) (canonical table : List ℕ) (x : Extent) (m : Measures o x) where
-  pub store-none : x ≡ extent.Refused → (r : Reading) → Refuses 3 r → outcome r canonical table ≡ readTree o canonical table
+same-outcome : {a a′ b b′ : ℕ} {c c′ d d′ : List ℕ} → a ≡ a′ → b ≡ b′ → c ≡ c′ → d ≡ d′
+    → _≡_ {A = Outcome} (record { number = Accepted; octets = a; count = b; canonical = c; table = d }) (record { number = Accepted; octets = a′; count = b′; canonical = c′; table = d′ })
+same-outcome p q r s = λ i. record { number = Accepted; octets = p i; count = q i; canonical = r i; table = s i }
+
+-- ---- all but the table
+
+module _ (o : Option Tree) (canonical notes : List ℕ) (n k : ℕ) (h : 0 < k) where
+  puts-refused : (r : Reading) → Refuses k r → ((table : List ℕ) → records table ≡ n → outcome r canonical table ≡ readTree o canonical table) → Puts o canonical canonical n notes r
+  unfolding Puts outcome
+  puts-refused (reading.Accepted len count) f g = let z : 0 ≡ k = ap (λ (x : Outcome). x .number) (f .is [] []) in absurd (omega arith)
+  puts-refused (reading.Refused x) f g = g
+
+module _ (form : ℕ) (source canonical scratch : List ℕ) (n : ℕ) (notes notes′ : List ℕ) (x : Extent) (m : Taken (decode form source) scratch notes notes′ x) where
+  abbrev meant : Option Tree
+  meant = decode form source
+
+  pub put-none : x ≡ extent.Refused → (r : Reading) → Refuses 3 r → Puts meant canonical canonical n notes′ r
   unfolding Measures
-  store-none e r f = f .is canonical table ∙ sym (tree-none o canonical table (subst (Measures o) e m))
+  put-none e r f =
+      puts-refused meant canonical notes′ n 3 (omega arith) r f
+      (λ table z. f .is canonical table ∙ sym (tree-none meant canonical table (subst (Measures meant) e (m .measures))))
 
   module _ (len count deep : ℕ) (e : x ≡ extent.Whole len count deep) where
-    pub measured : Wholly o len count deep
+    whole : Wholly meant len count deep
     unfolding Measures
-    measured = subst (Measures o) e m
+    whole = subst (Measures meant) e (m .measures)
 
-    sized : roomVerdict (depth (measured .tree)) (nodes (measured .tree)) (length (canon (measured .tree))) (length canonical) (length table) ≡ roomVerdict deep count len (length canonical) (length table)
-    sized = same-verdict (length canonical) (length table) (sym (measured .deepest)) (sym (measured .counted)) (sym (measured .long))
+    abbrev tree : Tree
+    tree = whole .tree
 
-    module _ (n : ℕ) (h : n ≡ roomVerdict deep count len (length canonical) (length table)) where
-      pub store-refused : 0 < n → (r : Reading) → Refuses n r → outcome r canonical table ≡ readTree o canonical table
-      store-refused k r f = f .is canonical table ∙ sym (tree-refused o canonical table (measured .tree) (measured .is) n (h ∙ sym sized) k)
+    sized : (k : ℕ) → roomVerdict (depth tree) (nodes tree) (length (canon tree)) (length canonical) k ≡ roomVerdict deep count len (length canonical) k
+    sized k = same-verdict (length canonical) k (sym (whole .deepest)) (sym (whole .counted)) (sym (whole .long))
 
-      module _ (k : n ≤ 0) where
-        good : roomVerdict deep count len (length canonical) (length table) ≡ 0
+    module _ (k : ℕ) (h : k ≡ roomVerdict deep count len (length canonical) n) where
+      pub put-refused : 0 < k → (r : Reading) → Refuses k r → Puts meant canonical canonical n notes′ r
+      put-refused l r f =
+          puts-refused meant canonical notes′ n k l r f
+          (λ table z. f .is canonical table ∙ sym (tree-refused meant canonical table tree (whole .is) k (h ∙ sym (rw z (sized n))) l))
+
+      module _ (l : k ≤ 0) where
+        good : roomVerdict deep count len (length canonical) n ≡ 0
         good = sym h ∙ omega arith
 
-        pub fitting-room : Lodged deep count len (length canonical) (length table)
-        fitting-room = roomy deep count len (length canonical) (length table) good
+        lodged : Lodged deep count len (length canonical) n
+        lodged = roomy deep count len (length canonical) n good
 
-        -- the canonical form was written from the front
-        module _ (canonical′ : List ℕ) (p : ℕ) (w : Wrote (canon (measured .tree)) 0 canonical canonical′ p) where
-          written-is : canonical′ ≡ canon (measured .tree) ++ drop (length (canon (measured .tree))) canonical
-          written-is = w .same ∙ sets-all canonical (canon (measured .tree)) (omega (arith, measured .long, fitting-room .lent))
+        front-is : take len scratch ≡ canon tree
+        front-is = ap (λ (i : ℕ). take i scratch) (whole .long) ∙ m .octets tree (whole .is) (omega (arith, whole .long, lodged .small))
 
-          written-long : length canonical′ ≡ length canonical
-          written-long = ap length (w .same) ∙ length-sets canonical 0 (canon (measured .tree))
+        pub put-source : 0 + len ≤ length scratch
+        put-source = omega (arith, length-take len scratch, ap length front-is, whole .long)
 
-          front-is : take len canonical′ ≡ canon (measured .tree)
-          front-is = ap₂ take (measured .long) written-is ∙ take-at (canon (measured .tree)) (drop (length (canon (measured .tree))) canonical) (length (canon (measured .tree))) refl
+        pub put-room : 0 + len ≤ length canonical
+        put-room = omega (arith, lodged .lent)
 
-          front-decodes : decode₁ (take len canonical′) ≡ some (measured .tree)
-          front-decodes = ap decode₁ front-is ∙ canon-complete (measured .tree)
+        -- the notes have room for the tree, whichever size they have
+        module _ (space : ℕ) (s : Spaced form (length source) space (length notes)) where
+          room : nodes tree ≤ length notes
+          room = by (s .room)
+            where
+              by : Noteable (length source) (length notes) → nodes tree ≤ length notes
+              by (halved z) = omega (arith, nodes-within-half tree, tripled form source tree (whole .is))
+              by (most z) = omega (arith, whole .counted, lodged .few)
 
-          pub store-finishable : Finishable canonical′ len count (length table)
-          store-finishable =
+          held : Holds notes′ count tree
+          held = subst (λ (i : ℕ). Holds notes′ i tree) (sym (whole .counted)) (m .noted tree (whole .is) (omega (arith, whole .long, lodged .small)) (omega (arith, whole .deepest, lodged .shallow)) room)
+
+          pub put-accepted : (canonical′ : List ℕ) (p : ℕ) → Wrote (take len (drop 0 scratch)) 0 canonical canonical′ p → Puts meant canonical canonical′ n notes′ (reading.Accepted len count)
+          unfolding Puts outcome filled
+          put-accepted canonical′ p w =
               record {
-                tree = measured .tree;
-                inside = omega (arith, written-long, fitting-room .lent);
-                is = front-decodes;
-                deep = omega (arith, measured .deepest, fitting-room .shallow);
-                counted = measured .counted;
-                fits = omega (arith, measured .counted, fitting-room .recorded);
-                short = omega (arith, fitting-room .small);
+                tree = tree;
+                held = held;
+                recorded = lodged .recorded;
+                is = λ table z.
+                    same-outcome (whole .long) (whole .counted)
+                    (w .same ∙ ap (sets canonical 0) front-is ∙ sym (settled-front canonical (canon tree) (omega (arith, whole .long, lodged .lent))))
+                    (sym (settled-front table (tableOf tree) (omega (arith, table-length tree, whole .counted, lodged .recorded, z))))
+                    ∙ sym (tree-accepted meant canonical table tree (whole .is) (rw z (sized n) ∙ good));
               }
 
-          pub store-accepted : (table′ : List ℕ) (r : Reading) → Finished canonical′ len count table table′ r → outcome r canonical′ table′ ≡ readTree o canonical table
-          unfolding filled the
-          store-accepted table′ r f =
-              f .tells canonical′ table′
-              ∙ same-outcome (measured .long) (measured .counted)
-              (w .same ∙ sym (settled-front canonical (canon (measured .tree)) (omega (arith, measured .long, fitting-room .lent))))
-              (f .wrote ∙ ap (λ (y : Option Tree). sets table 0 (tableOf (the y))) front-decodes
-              ∙ sym (settled-front table (tableOf (measured .tree)) (omega (arith, table-length (measured .tree), measured .counted, fitting-room .recorded))))
-              ∙ sym (tree-accepted o canonical table (measured .tree) (measured .is) (sized ∙ good))
-            where
-              same-outcome : {a a′ b b′ : ℕ} {c c′ d d′ : List ℕ} → a ≡ a′ → b ≡ b′ → c ≡ c′ → d ≡ d′
-                  → _≡_ {A = Outcome} (record { number = Accepted; octets = a; count = b; canonical = c; table = d }) (record { number = Accepted; octets = a′; count = b′; canonical = c′; table = d′ })
-              same-outcome p q r s = λ i. record { number = Accepted; octets = p i; count = q i; canonical = r i; table = s i }
+-- ---- and the table
 
--- ---- the text's canonical octets are put
-module _ (b : Bool) (source canonical table : List ℕ) (short : length source ≤ maxSource) (x : Extent) (m : Measures (decodeBy b source) x) (len count deep : ℕ) (e : x ≡ extent.Whole len count deep) (n : ℕ) (h : n ≡ roomVerdict deep count len (length canonical) (length table)) (k : n ≤ 0) where
-  abbrev meant : Wholly (decodeBy b source) len count deep
-  meant = measured (decodeBy b source) canonical table x m len count deep e
+module _ (o : Option Tree) (canonical canonical′ notes table : List ℕ) (n : ℕ) (z : n ≡ length table / width) (r : Reading) (m : Puts o canonical canonical′ n notes r) where
+  module _ (len count : ℕ) (e : r ≡ reading.Accepted len count) where
+    accepting : Accepting o canonical canonical′ n notes len count
+    unfolding Puts
+    accepting = subst (Puts o canonical canonical′ n notes) e m
 
-  pub put-room : Puttable b source len 0 (length canonical)
-  put-room =
-      let f : Lodged deep count len (length canonical) (length table) = fitting-room (decodeBy b source) canonical table x m len count deep e n h k in
-      record { tree = meant .tree; is = meant .is; long = meant .long; fits = omega (arith, f .lent); near = omega arith; short = short }
+    pub fill-room : Fillable notes count (length table)
+    fill-room = record { tree = accepting .tree; held = accepting .held; fits = omega (arith, accepting .recorded) }
 
-  module _ (canonical′ : List ℕ) (p : ℕ) (w : Wrote (canon (the (decodeBy b source))) 0 canonical canonical′ p) where
-    as-meant : Wrote (canon (meant .tree)) 0 canonical canonical′ p
-    unfolding the
-    as-meant = subst (λ (y : Option Tree). Wrote (canon (the y)) 0 canonical canonical′ p) (meant .is) w
+    pub fill-accepted : (table′ : List ℕ) → Filled notes count table table′ → outcome (reading.Accepted len count) canonical′ table′ ≡ readTree o canonical table
+    fill-accepted table′ f = ap (outcome (reading.Accepted len count) canonical′) (f .fills (accepting .tree) (accepting .held)) ∙ accepting .is table (sym z)
 
-    pub put-finishable : Finishable canonical′ len count (length table)
-    put-finishable = store-finishable (decodeBy b source) canonical table x m len count deep e n h k canonical′ p as-meant
-
-    pub put-accepted : (table′ : List ℕ) (r : Reading) → Finished canonical′ len count table table′ r → outcome r canonical′ table′ ≡ readTree (decodeBy b source) canonical table
-    put-accepted table′ r f = store-accepted (decodeBy b source) canonical table x m len count deep e n h k canonical′ p as-meant table′ r f
+  pub fill-refused : (f : Refusal) → r ≡ reading.Refused f → outcome (reading.Refused f) canonical′ table ≡ readTree o canonical table
+  unfolding Puts
+  fill-refused f e = let g : (table : List ℕ) → records table ≡ n → outcome (reading.Refused f) canonical′ table ≡ readTree o canonical table = subst (Puts o canonical canonical′ n notes) e m in g table (sym z)

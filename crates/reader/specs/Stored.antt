@@ -1,26 +1,28 @@
 -- Reading by steps: what is judged of a tree's sizes, and what a text's tree, if it has one, gives.
-use Prim.Native.Nat.{ℕ, _*_, _/_, _≤_}
+use Prim.Native.Nat.{ℕ, _*_, _≤_}
 use mathlib.Core.Path.{_≡_}
-use mathlib.Core.Option.{Option, some}
+use mathlib.Core.Option.{Option}
 use mathlib.Core.List.{List, _∷_}
-use lib.ListN.{length, take}
+use lib.ListN.{length}
 use lib.Seq.{sets}
 use lib.Dec.{ltb}
 use Rattle.base.specs.Choice.{pick, isNone}
-use Rattle.model.specs.Tree.{Tree, nodes, depth}
-use Rattle.model.specs.Table.{width, tableOf}
-use Rattle.model.specs.Decode.{decode₁}
-use Rattle.model.specs.Limits.{maxDepth, maxNodes, maxCanonical, Accepted, Syntax, Depth, Nodes, Size, maxSource}
+use Rattle.model.specs.Tree.{Tree}
+use Rattle.model.specs.Table.{records, tableOf}
+use Rattle.model.specs.Limits.{maxDepth, maxNodes, maxCanonical, Accepted, Syntax, Depth, Nodes, Size}
 use Rattle.model.specs.Answers.{Outcome, when, judged, the, roomChecks, filled, unchanged}
 use Rattle.answers.specs.declared.Reading.{Reading}
+use Rattle.answers.specs.declared.Reading.the-variants as reading
 use Rattle.answers.specs.Cases.{outcome}
+use Rattle.sheets.specs.Told.{Holds}
+use Rattle.texts.specs.Texts.{Takeable}
 
 -- rows 4 to 6, by the sizes of the tree and of the room
 unfoldable pub roomVerdict : ℕ → ℕ → ℕ → ℕ → ℕ → ℕ
-roomVerdict deep count len octets numbers =
+roomVerdict deep count len octets records =
     pick (ltb maxDepth deep) Depth
     (pick (ltb maxNodes count) Nodes
-    (pick (ltb (numbers / width) count) Nodes
+    (pick (ltb records count) Nodes
     (pick (ltb maxCanonical len) Size
     (pick (ltb octets len) Size Accepted))))
 
@@ -31,17 +33,23 @@ readTree o canonical table =
     (filled (the o) 0 0 canonical table)
     (λ n. unchanged n canonical table)
 
--- the octets up to a length are a tree's canonical form, and its records have room
-pub record Finishable (canonical : List ℕ) (len count numbers : ℕ) : Type 0 where
-  pub tree : Tree
-  pub inside : len ≤ length canonical
-  pub is : decode₁ (take len canonical) ≡ some tree
-  pub deep : depth tree ≤ maxDepth
-  pub counted : count ≡ nodes tree
-  pub fits : width * nodes tree ≤ numbers
-  pub short : len ≤ maxSource
+-- notes for every tree that fits and that a text of n octets can mean
+pub data Noteable (n room : ℕ) : Type 0 where
+  halved : 3 * n ≤ 2 * room → Noteable n room
+  most : maxNodes ≤ room → Noteable n room
 
--- the table was written, and the answer tells the sizes
-pub record Finished (canonical : List ℕ) (len count : ℕ) (table table′ : List ℕ) (r : Reading) : Type 0 where
-  pub wrote : table′ ≡ sets table 0 (tableOf (the (decode₁ (take len canonical))))
-  pub tells : (c t : List ℕ) → outcome r c t ≡ record { number = Accepted; octets = len; count = count; canonical = c; table = t }
+-- local space for a text of n octets
+pub record Spaced (form n scratch notes : ℕ) : Type 0 where
+  pub takes : Takeable form n scratch
+  pub room : Noteable n notes
+
+-- accepted, but for the table: the notes are a tree's, it has room in n records, and with its table the answer is the tree's
+pub record Accepting (o : Option Tree) (canonical canonical′ : List ℕ) (n : ℕ) (notes : List ℕ) (len count : ℕ) : Type 0 where
+  pub tree : Tree
+  pub held : Holds notes count tree
+  pub recorded : count ≤ n
+  pub is : (table : List ℕ) → records table ≡ n → outcome (reading.Accepted len count) canonical′ (sets table 0 (tableOf tree)) ≡ readTree o canonical table
+
+unfoldable pub Puts : Option Tree → List ℕ → List ℕ → ℕ → List ℕ → Reading → Type 0
+Puts o canonical canonical′ n notes (reading.Accepted len count) = Accepting o canonical canonical′ n notes len count
+Puts o canonical canonical′ n notes (reading.Refused f) = (table : List ℕ) → records table ≡ n → outcome (reading.Refused f) canonical′ table ≡ readTree o canonical table

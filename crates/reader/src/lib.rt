@@ -1,21 +1,21 @@
-// Reading: a text of any form into canonical octets and the node table. A text is measured first, so that syntax is judged
-// before any limit, and nothing is written until nothing can be refused any more.
+// Reading: a text of any form into canonical octets and the node table. The text becomes octets and notes in local space first, so
+// that syntax is judged before any limit, and nothing lent is written until nothing can be refused any more.
+mod tiers; // tiers.rt: local space for a text
+
 ghost use mathlib.Core.Path.{_≡_};
 ghost use lib.ListN.{length};
-ghost use Rattle.model.specs.Decode.{decode₂};
+ghost use Rattle.model.specs.Decode.{decode};
 ghost use Rattle.model.specs.Answers.{reading};
 ghost use Rattle.answers.specs.Cases.{outcome};
 ghost use Rattle.octets.specs.Classes.{Classed, Lettered};
-ghost use Rattle.texts.specs.Texts.{decodeBy, Short, Braced};
-ghost use Rattle.reader.specs.Stored.{roomVerdict, readTree, Finishable, Finished};
+ghost use Rattle.reader.specs.Stored.{roomVerdict, readTree, Spaced, Puts};
 use answers::Reading;
 use answers::refused;
-use texts::Unbraced;
 use walk::Extent;
 
-// The first of rows 4 to 6 that applies to a tree of these sizes, in this room; 0 where none does.
-pub fn room(len: usize, nodes: usize, depth: usize, octets: usize, numbers: usize) -> u32
-    ensures { λ r. ⌜ r ≡ roomVerdict depth nodes len octets numbers ⌝ }
+// The first of rows 4 to 6 that applies to a tree of these sizes, in room for so many octets and records; 0 where none does.
+pub fn room(len: usize, nodes: usize, depth: usize, octets: usize, records: usize) -> u32
+    ensures { λ r. ⌜ r ≡ roomVerdict depth nodes len octets records ⌝ }
 {
     if depth > limits::DEPTH {
         return 4;
@@ -23,7 +23,7 @@ pub fn room(len: usize, nodes: usize, depth: usize, octets: usize, numbers: usiz
     if nodes > limits::NODES {
         return 5;
     }
-    if nodes > numbers / limits::WIDTH {
+    if nodes > records {
         return 5;
     }
     if len > limits::CANONICAL {
@@ -35,63 +35,60 @@ pub fn room(len: usize, nodes: usize, depth: usize, octets: usize, numbers: usiz
     0
 }
 
-// The table of the canonical octets that were just written.
-fn finish(canonical: &[u8], len: usize, nodes: usize, table: &mut [u32]) -> Reading
-    requires { ⌜ Finishable (now canonical) len nodes (length (now table)) ⌝ }
-    ensures { λ r. ⌜ Finished (now (canonical .entry)) len nodes (now (table .entry)) (now (table .exit)) r ⌝ }
-{
-    let part = &canonical[..len];
-    index::index(part, table);
-    Reading::Accepted { length: len, nodes }
-}
-
-// A text in advanced or in canonical form.
-fn read_text(
+// All but the table, for which so many records are lent: the text judged and its octets put. The notes tell the table.
+pub fn put(
     classes: &[u8; 256],
     letters: &[u8; 256],
-    advanced: bool,
+    form: u32,
     source: &[u8],
     canonical: &mut [u8],
-    table: &mut [u32],
+    records: usize,
+    scratch: &mut [u8],
+    notes: &mut [usize],
 ) -> Reading
     requires { ⌜ Classed (now classes) ⌝ }
     requires { ⌜ Lettered (now letters) ⌝ }
-    requires { ⌜ Short (now source) ⌝ }
-    ensures { λ r. ⌜ outcome r (now (canonical .exit)) (now (table .exit)) ≡ readTree (decodeBy advanced (now (source .entry))) (now (canonical .entry)) (now (table .entry)) ⌝ }
+    requires { ⌜ Spaced form (length (now source)) (length (now scratch)) (length (now notes)) ⌝ }
+    ensures { λ r. ⌜ Puts (decode form (now (source .entry))) (now (canonical .entry)) (now (canonical .exit)) records (now (notes .exit)) r ⌝ }
 {
-    match texts::measure(classes, letters, advanced, source) {
+    match texts::take(classes, letters, form, source, scratch, notes) {
         Extent::Whole { len, nodes, depth } => {
-            let row = room(len, nodes, depth, canonical.len(), table.len());
+            let row = room(len, nodes, depth, canonical.len(), records);
             if row > 0 {
                 return refused(row);
             }
-            texts::put(classes, letters, advanced, source, len, canonical, 0);
-            finish(canonical, len, nodes, table)
+            scan::copy(scratch, 0, len, canonical, 0);
+            Reading::Accepted { length: len, nodes }
         }
         Extent::Refused => refused(3),
     }
 }
 
-// Base-64 in braces: what it decodes to is read as canonical text.
-fn read_braced(
+// A text that rows 1 and 2 don't apply to, in the local space lent.
+fn read_in(
     classes: &[u8; 256],
     letters: &[u8; 256],
+    form: u32,
     source: &[u8],
     canonical: &mut [u8],
     table: &mut [u32],
+    scratch: &mut [u8],
+    notes: &mut [usize],
 ) -> Reading
     requires { ⌜ Classed (now classes) ⌝ }
     requires { ⌜ Lettered (now letters) ⌝ }
-    requires { ⌜ Braced (now source) ⌝ }
-    ensures { λ r. ⌜ outcome r (now (canonical .exit)) (now (table .exit)) ≡ readTree (decode₂ (now (source .entry))) (now (canonical .entry)) (now (table .entry)) ⌝ }
+    requires { ⌜ Spaced form (length (now source)) (length (now scratch)) (length (now notes)) ⌝ }
+    ensures { λ r. ⌜ outcome r (now (canonical .exit)) (now (table .exit)) ≡ readTree (decode form (now (source .entry))) (now (canonical .entry)) (now (table .entry)) ⌝ }
 {
-    let mut decoded: [u8; limits::DECODED] = [0; limits::DECODED];
-    match texts::unbrace(classes, letters, source, &mut decoded) {
-        Unbraced::Octets { len } => {
-            let part = &decoded[..len];
-            read_text(classes, letters, false, part, canonical, table)
+    let records = table.len() / limits::WIDTH;
+    match put(
+        classes, letters, form, source, canonical, records, scratch, notes,
+    ) {
+        Reading::Accepted { length, nodes } => {
+            sheets::fill(notes, nodes, table);
+            Reading::Accepted { length, nodes }
         }
-        Unbraced::NoOctets => refused(3),
+        Reading::Refused { refusal } => Reading::Refused { refusal },
     }
 }
 
@@ -106,9 +103,11 @@ pub fn read(form: u32, source: &[u8], canonical: &mut [u8], table: &mut [u32]) -
     }
     let classes = octets::classes();
     let letters = octets::letters();
-    if texts::braced(form, source) {
-        read_braced(&classes, &letters, source, canonical, table)
-    } else {
-        read_text(&classes, &letters, form == 3, source, canonical, table)
+    if source.len() <= limits::SHORT {
+        return tiers::read_short(&classes, &letters, form, source, canonical, table);
     }
+    if source.len() <= limits::MIDDLE {
+        return tiers::read_middle(&classes, &letters, form, source, canonical, table);
+    }
+    tiers::read_long(&classes, &letters, form, source, canonical, table)
 }

@@ -1,4 +1,3 @@
 pub mod Runs
 pub mod Writes
 pub mod Marks
-pub mod Strings

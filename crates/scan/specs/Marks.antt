@@ -25,11 +25,3 @@ pub record Last (f : List ℕ → Read (List ℕ)) (src : List ℕ) (at : ℕ) (
   pub on : at < next
   pub within : next ≤ length src
   pub ends : f (drop at src) ≡ got g (drop next src)
-
--- f reads octets from `at` on, and they have room from `pos` on
-pub record Body (f : List ℕ → Read (List ℕ)) (src : List ℕ) (at pos room : ℕ) : Type 0 where
-  pub octets : List ℕ
-  pub rest : List ℕ
-  pub reads : f (drop at src) ≡ got octets rest
-  pub inside : at ≤ length src
-  pub fits : pos + length octets ≤ room

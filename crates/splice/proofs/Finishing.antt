@@ -11,7 +11,7 @@ use Rattle.model.specs.Decode.{decode₁}
 use Rattle.model.specs.Table.{width, tableOf}
 use Rattle.model.specs.Tree.{Tree}
 use Rattle.walk.proofs.Tabled.{table-length}
-use Rattle.index.specs.Indexed.{Indexable}
+use Rattle.sheets.specs.Owned.{Indexable}
 use Rattle.answers.specs.Cases.{outcome}
 use Rattle.splice.specs.Rewritten.{Movable, Rewritable, Rewritten}
 use Rattle.splice.proofs.Spliced.{zeroed}
@@ -30,13 +30,15 @@ module _ (canonical : List ℕ) (numbers old oldCount len count : ℕ) (g : Rewr
   pub finish-part : len ≡ length (take len canonical)
   finish-part = sym (length-take-le len canonical (g .lent))
 
-  pub finish-indexable : Indexable (take len canonical) numbers
+  pub finish-indexable : Indexable (take len canonical) count numbers
   finish-indexable =
       record {
         tree = g .tree;
         is = g .is;
         deep = g .deep;
-        fits = omega (arith, g .recorded, g .counted);
+        counted = g .counted;
+        few = g .few .0;
+        fits = g .recorded;
         short = omega (arith, length-take-le len canonical (g .lent), g .short);
       }
 

@@ -32,7 +32,7 @@ pub record Rewritable (canonical : List ℕ) (numbers old oldCount len count : �
   pub lent : len ≤ length canonical
   pub oldLent : old ≤ length canonical
   pub oldRecorded : width * oldCount ≤ numbers
-  pub few : (count ≤ maxCanonical) × (oldCount ≤ maxNodes)
+  pub few : (count ≤ maxNodes) × (oldCount ≤ maxNodes)
 
 pub record Rewritten (canonical table : List ℕ) (old oldCount len count : ℕ) (canonical′ table′ : List ℕ) (r : Reading) : Type 0 where
   pub octets : canonical′ ≡ sets canonical len (replicate (old - len) 0)

@@ -33,7 +33,7 @@ pub fn finish(
     ensures { λ r. ⌜ Rewritten (now (canonical .entry)) (now (table .entry)) old held len count (now (canonical .exit)) (now (table .exit)) r ⌝ }
 {
     let part = &canonical[..len];
-    index::index(part, table);
+    sheets::index(part, count, table);
     moves::zero(canonical, len, walk::larger(old, len));
     moves::zero_numbers(
         table,

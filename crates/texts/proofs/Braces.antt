@@ -1,37 +1,26 @@
 -- Base-64 in braces: what is decoded, and that it has room.
 use Prim.Native.Nat.{ℕ, _+_, _*_, _≤_, _<_}
 use native.Mathlib.Omega.{arith}
-use mathlib.Core.Path.{_≡_, refl, sym, ap, ap₂, _∙_, subst}
+use mathlib.Core.Path.{_≡_, refl, sym, ap, _∙_}
 use mathlib.Core.Option.{Option, none, some}
-use mathlib.Core.List.{List, [], _∷_, _++_}
+use mathlib.Core.List.{List, [], _∷_}
 use lib.ListN.{length, take, drop, getD, length-drop, drop-of-length-le}
-use lib.Seq.{take-at, sets, length-sets}
 use Rattle.base.specs.Choice.{chain}
-use Rattle.base.proofs.Stores.{sets-all}
 use Rattle.model.specs.Decode.{decode₁, unbrace, decode₂}
-use Rattle.model.specs.Strings.{Read, got, refused, bind, first, upto, lastly, unbase, decoded}
+use Rattle.model.specs.Limits.{maxSource}
+use Rattle.model.specs.Strings.{Read, got, refused, bind, upto, lastly, unbase, decoded}
 use Rattle.model.proofs.Marks.{upto-sound, base-sound}
 use Rattle.model.proofs.ReadCases.{bind-cases, never}
-use Rattle.model.proofs.Sizes.{upto-size}
+use Rattle.model.proofs.Sizes.{upto-size, base-size}
 use Rattle.model.proofs.Streams.{between}
-use Rattle.model.proofs.Stripped.{Base64, no-letter, four, three, two}
-use Rattle.scan.specs.Marks.{Body}
-use Rattle.scan.specs.Strings.{octetsOf, Reads, Tells}
-use Rattle.scan.specs.Writes.{Wrote}
 use Rattle.scan.proofs.Places.{one-here}
-use Rattle.base64.specs.Steps.{Closing}
-use Rattle.base64.proofs.Marks.{brace}
-use Rattle.texts.specs.Texts.{mostDecoded, Braced, Unbraces}
-use Rattle.texts.specs.declared.Unbraced.the-variants.{Octets, NoOctets}
-use Rattle.scan.specs.declared.Simple.{Simple}
-use Rattle.scan.specs.declared.Simple.the-variants.{Is, Not}
-
--- base-64 gives at most three octets for four letters
-base-quarter : {l d : List ℕ} → Base64 l d → 4 * length d ≤ 3 * length l
-base-quarter no-letter = omega arith
-base-quarter (four t u v w h) = omega (arith, base-quarter h)
-base-quarter (three t u v l p) = omega arith
-base-quarter (two t u l p) = omega arith
+use Rattle.marks.specs.Decoded.{Spacious, Decoded, Decodes}
+use Rattle.walk.specs.declared.Extent.{Extent}
+use Rattle.walk.specs.declared.Extent.the-variants.{Refused}
+use Rattle.sheets.specs.Notes.{Noted}
+use Rattle.advanced.specs.Converted.{Lent}
+use Rattle.texts.specs.Texts.{Braced, Taken}
+use Rattle.texts.proofs.Taking.{lent-room, through, taken-none}
 
 decoded-cases : {G : Type 0} {d k′ : List ℕ} (o : Option (List ℕ)) (k : List ℕ) → decoded o k ≡ got d k′ → (o ≡ some d → k ≡ k′ → G) → G
 unfolding decoded
@@ -50,8 +39,8 @@ braces-cases s e g = bind-cases (upto 125 s) _ e (λ l k′ h₁ h₂. decoded-c
 
 module _ (s d k : List ℕ) (e : between 125 unbase [] s ≡ got d k) where
   -- how long it is
-  braces-short : 4 * length d ≤ 3 * length s
-  braces-short = braces-cases s e (λ l h₁ h₂. omega (arith, base-quarter (base-sound l h₂), upto-size (upto-sound 125 s h₁)))
+  braces-short : length d ≤ length s
+  braces-short = braces-cases s e (λ l h₁ h₂. omega (arith, base-size (base-sound l h₂), upto-size (upto-sound 125 s h₁)))
 
   -- nothing follows
   braces-whole : k ≡ [] → decode₂ (123 ∷ s) ≡ decode₁ d
@@ -90,50 +79,43 @@ braces-none s e = by (upto 125 s) refl
 abbrev inside : List ℕ → Read (List ℕ)
 inside text = between 125 unbase [] (drop 1 text)
 
-module _ (text : List ℕ) (g : Braced text) where
+module _ (text scratch : List ℕ) (g : Braced text × Lent (length text) (length scratch)) where
   text-is : text ≡ 123 ∷ drop 1 text
-  text-is = let z : drop 0 text ≡ getD text 0 0 ∷ drop (0 + 1) text = one-here text 0 (g .more) in z ∙ ap (λ (b : ℕ). b ∷ drop 1 text) (g .first)
+  text-is = let z : drop 0 text ≡ getD text 0 0 ∷ drop (0 + 1) text = one-here text 0 (g .0 .more) in z ∙ ap (λ (b : ℕ). b ∷ drop 1 text) (g .0 .first)
 
-  pub brace-start : (1 ≤ length text) × Closing 125
-  brace-start = (g .more, brace)
+  pub brace-room : Spacious text 1 0 (length scratch)
+  brace-room = record { inside = g .0 .more; space = omega (arith, lent-room (length text) (length scratch) (g .1)) }
 
-  module _ (r : Simple) (w : Tells text (inside text) r) where
-    pub brace-not : r ≡ Not → (decoded′ : List ℕ) → Unbraces text decoded′ NoOctets
-    unfolding Tells Unbraces
-    brace-not e decoded′ = ap decode₂ text-is ∙ braces-none (drop 1 text) (subst (Tells text (inside text)) e w)
+  module _ (scratch′ : List ℕ) (len next : ℕ) (w : Decodes text (inside text) 1 0 scratch scratch′ len next) where
+    pub brace-none : next ≡ 0 → (notes : List ℕ) → Taken (decode₂ text) scratch′ notes notes Refused
+    brace-none z notes = taken-none (decode₂ text) scratch′ notes notes (ap decode₂ text-is ∙ braces-none (drop 1 text) (w .none z))
 
-    module _ (kind len body next : ℕ) (e : r ≡ Is kind len body next) where
-      told : Reads text (inside text) kind len body next
-      unfolding Tells
-      told = subst (Tells text (inside text)) e w
+    module _ (n : next ≡ 0 → ⊥) where
+      told : Decoded text (inside text) 1 0 scratch scratch′ len next
+      told = w .some n
 
-      pub brace-more : next < length text → (decoded′ : List ℕ) → Unbraces text decoded′ NoOctets
-      unfolding Unbraces
-      brace-more h decoded′ =
-          ap decode₂ text-is ∙ braces-more (drop 1 text) (told .octets) (drop next text) (told .reads) (getD text next 0) (drop (next + 1) text) (one-here text next h)
+      pub brace-more : next < length text → (notes : List ℕ) → Taken (decode₂ text) scratch′ notes notes Refused
+      brace-more h notes =
+          taken-none (decode₂ text) scratch′ notes notes
+          (ap decode₂ text-is ∙ braces-more (drop 1 text) (told .octets) (drop next text) (told .reads) (getD text next 0) (drop (next + 1) text) (one-here text next h))
 
-      len-few : len ≤ mostDecoded
-      len-few = omega (arith, g .short, told .size, braces-short (drop 1 text) (told .octets) (drop next text) (told .reads), length-drop 1 text)
+      len-is : len ≡ length (told .octets)
+      len-is = omega (arith, told .front .place)
 
-      pub brace-room : (room : ℕ) → room ≡ mostDecoded → Body (between 125 unbase []) text 1 0 room × Closing 125
-      brace-room room h = (record { octets = told .octets; rest = drop next text; reads = told .reads; inside = g .more; fits = omega (arith, told .size, len-few) }, brace)
+      pub brace-lent : len ≤ length scratch′
+      brace-lent = omega (arith, told .front .fits, told .front .long)
 
-      module _ (h : length text ≤ next) (out out′ : List ℕ) (long : length out ≡ mostDecoded) (p : ℕ) (u : Wrote (octetsOf (inside text)) 0 out out′ p) where
-        octets-are : octetsOf (inside text) ≡ told .octets
-        unfolding octetsOf
-        octets-are = rw (told .reads)
+      part-is : take len scratch′ ≡ told .octets
+      part-is = let z : 0 + len ≡ len = omega arith in rw z at (told .front .same)
 
-        out-is : out′ ≡ told .octets ++ drop (length (told .octets)) out
-        out-is = u .same ∙ ap (sets out 0) octets-are ∙ sets-all out (told .octets) (omega (arith, told .size, len-few))
+      pub brace-part : len ≡ length (take len scratch′)
+      brace-part = len-is ∙ sym (ap length part-is)
 
-        part-is : take len out′ ≡ told .octets
-        part-is = ap₂ take (sym (told .size)) out-is ∙ take-at (told .octets) (drop (length (told .octets)) out) (length (told .octets)) refl
+      pub brace-short : length (take len scratch′) ≤ maxSource
+      brace-short = omega (arith, brace-part, len-is, braces-short (drop 1 text) (told .octets) (drop next text) (told .reads), length-drop 1 text, g .1 .short)
 
-        pub brace-octets : Unbraces text out′ (Octets len)
-        unfolding Unbraces
-        brace-octets =
-            record {
-              lent = omega (arith, ap length (u .same), length-sets out 0 (octetsOf (inside text)), len-few);
-              short = omega (arith, len-few);
-              is = (ap decode₂ text-is ∙ braces-whole (drop 1 text) (told .octets) (drop next text) (told .reads) (drop-of-length-le text h)) ∙ ap decode₁ (sym part-is);
-            }
+      pub brace-noted : length text ≤ next → (notes notes′ : List ℕ) (r : Extent) → Noted (take len scratch′) notes notes′ r → Taken (decode₂ text) scratch′ notes notes′ r
+      brace-noted h notes notes′ r v =
+          through (decode₂ text) (take len scratch′) scratch′ notes notes′ r v brace-short
+          (ap decode₂ text-is ∙ braces-whole (drop 1 text) (told .octets) (drop next text) (told .reads) (drop-of-length-le text h) ∙ ap decode₁ (sym part-is))
+          (λ _. rw (← brace-part))

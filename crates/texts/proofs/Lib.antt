@@ -1,4 +1,5 @@
+pub mod Taking
 pub mod Braces
 pub mod Forms
 pub mod Rows
-pub mod Opened
+pub mod Sizes

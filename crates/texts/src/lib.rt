@@ -1,21 +1,12 @@
-// A text of any form: rows 1 and 2, how large the tree is that it means, and that tree's canonical octets. Whatever takes a text
-// takes it through these.
+// A text of any form becomes canonical octets in scratch, in one pass, with the sizes of its tree and a note for each node. Whatever
+// takes a text takes it through these, and sees nothing of its form.
 ghost use mathlib.Core.Path.{_≡_};
 ghost use lib.ListN.{length};
-ghost use Rattle.model.specs.Answers.{the};
-ghost use Rattle.model.specs.Tree.{canon};
-ghost use Rattle.walk.specs.Extent.{Measures};
+ghost use Rattle.model.specs.Decode.{decode₁, decode₂, decode};
 ghost use Rattle.octets.specs.Classes.{Classed, Lettered};
-ghost use Rattle.scan.specs.Writes.{Wrote};
-ghost use Rattle.texts.specs.Texts.{textVerdict, decodeBy, Short, Opens, Braced, Unbraces, Puttable};
-use scan::Simple;
+ghost use Rattle.advanced.specs.Converted.{Lent};
+ghost use Rattle.texts.specs.Texts.{textVerdict, Takeable, Braced, Opens, Taken};
 use walk::Extent;
-
-// How many octets stood in braces.
-pub enum Unbraced {
-    Octets { len: usize },
-    NoOctets,
-}
 
 // Row 1 or 2, of a form and a text's length; 0 where neither applies.
 pub fn row(form: u32, len: usize) -> u32
@@ -34,7 +25,7 @@ pub fn row(form: u32, len: usize) -> u32
 }
 
 // Whether a text is base-64 in braces, by its form and its first octet.
-pub fn braced(form: u32, text: &[u8]) -> bool
+fn braced(form: u32, text: &[u8]) -> bool
     ensures { λ r. ⌜ Opens form (now (text .entry)) r ⌝ }
 {
     if form != 2 {
@@ -43,73 +34,70 @@ pub fn braced(form: u32, text: &[u8]) -> bool
     if text.len() == 0 {
         return false;
     }
-    if text[0] != 123 {
+    if text[0] != b'{' {
         return false;
     }
     true
 }
 
-// The octets that stand in braces as base-64: at most three quarters of the text.
-pub fn unbrace(
+// Canonical text is its own octets.
+fn take_canonical(text: &[u8], scratch: &mut [u8], notes: &mut [usize]) -> Extent
+    requires { ⌜ Lent (length (now text)) (length (now scratch)) ⌝ }
+    ensures { λ r. ⌜ Taken (decode₁ (now (text .entry))) (now (scratch .exit)) (now (notes .entry)) (now (notes .exit)) r ⌝ }
+{
+    let len = text.len();
+    if len > limits::CANONICAL {
+        return sheets::note(text, notes);
+    }
+    scan::copy(text, 0, len, scratch, 0);
+    sheets::note(text, notes)
+}
+
+// Base-64 in braces: what it decodes to is canonical text.
+fn take_braced(
     classes: &[u8; 256],
     letters: &[u8; 256],
     text: &[u8],
-    decoded: &mut [u8; limits::DECODED],
-) -> Unbraced
+    scratch: &mut [u8],
+    notes: &mut [usize],
+) -> Extent
     requires { ⌜ Classed (now classes) ⌝ }
     requires { ⌜ Lettered (now letters) ⌝ }
-    requires { ⌜ Braced (now text) ⌝ }
-    ensures { λ r. ⌜ Unbraces (now (text .entry)) (now (decoded .exit)) r ⌝ }
+    requires { ⌜ Braced (now text) × Lent (length (now text)) (length (now scratch)) ⌝ }
+    ensures { λ r. ⌜ Taken (decode₂ (now (text .entry))) (now (scratch .exit)) (now (notes .entry)) (now (notes .exit)) r ⌝ }
 {
-    match base64::base_size(classes, letters, text, 1, 125) {
-        Simple::Is {
-            kind: _,
-            len,
-            body: _,
-            next,
-        } => {
-            if next < text.len() {
-                return Unbraced::NoOctets;
-            }
-            base64::base_put(classes, letters, text, 1, 125, decoded, 0);
-            Unbraced::Octets { len }
-        }
-        Simple::Not => Unbraced::NoOctets,
+    let mut len: usize = 0;
+    let next = marks::base(classes, letters, text, 1, b'}', scratch, 0, &mut len);
+    if next == 0 {
+        return Extent::Refused;
     }
+    if next < text.len() {
+        return Extent::Refused;
+    }
+    let part = &scratch[..len];
+    sheets::note(part, notes)
 }
 
-// The sizes of the tree that a text means, in advanced or in canonical form. No limit plays a part.
-pub fn measure(classes: &[u8; 256], letters: &[u8; 256], advanced: bool, text: &[u8]) -> Extent
-    requires { ⌜ Classed (now classes) ⌝ }
-    requires { ⌜ Lettered (now letters) ⌝ }
-    requires { ⌜ Short (now text) ⌝ }
-    ensures { λ r. ⌜ Measures (decodeBy advanced (now (text .entry))) r ⌝ }
-{
-    if advanced {
-        advanced::measure(classes, letters, text)
-    } else {
-        canonical::measure(text)
-    }
-}
-
-// The canonical octets of the tree, `len` in number, from `pos` on; the place after them.
-pub fn put(
+// The canonical octets of a text at the front of scratch, the sizes of the tree that it means, and the tree's notes as far as they
+// have room. No limit of depth, nodes or octets decides whether the text is one.
+pub fn take(
     classes: &[u8; 256],
     letters: &[u8; 256],
-    advanced: bool,
+    form: u32,
     text: &[u8],
-    len: usize,
-    out: &mut [u8],
-    pos: usize,
-) -> usize
+    scratch: &mut [u8],
+    notes: &mut [usize],
+) -> Extent
     requires { ⌜ Classed (now classes) ⌝ }
     requires { ⌜ Lettered (now letters) ⌝ }
-    requires { ⌜ Puttable advanced (now text) len pos (length (now out)) ⌝ }
-    ensures { λ r. ⌜ Wrote (canon (the (decodeBy advanced (now (text .entry))))) pos (now (out .entry)) (now (out .exit)) r ⌝ }
+    requires { ⌜ Takeable form (length (now text)) (length (now scratch)) ⌝ }
+    ensures { λ r. ⌜ Taken (decode form (now (text .entry))) (now (scratch .exit)) (now (notes .entry)) (now (notes .exit)) r ⌝ }
 {
-    if advanced {
-        emitter::emit(classes, letters, text, out, pos)
-    } else {
-        scan::copy(text, 0, len, out, pos)
+    if form == 3 {
+        return advanced::convert(classes, letters, text, scratch, notes);
     }
+    if braced(form, text) {
+        return take_braced(classes, letters, text, scratch, notes);
+    }
+    take_canonical(text, scratch, notes)
 }

@@ -1,0 +1,174 @@
+use Prim.Native.Nat.{_-_}
+use lib.ListN.{length}
+use Rattle.advanced.proofs.Converting.{Converting, convert-none, convert-inside, convert-long, convert-notes, convert-stacks, convert-more, convert-whole, convert-short, one-room, one-less, open-on, close-none, close-leaving, close-on, node-spare, node-none, node-from, node-fits, node-less, node-keepable, node-on}
+use native.Mathlib.Omega.{arith}
+use borrow.Author.Needs.{needs}
+use Rattle.advanced.proofs.convert.Statement.{statement}
+use Rattle.advanced.proofs.convert.Tie as tie
+
+abbrev Inv-loop : tie.InvT-loop
+Inv-loop classes letters src out₀ notes₀ starts₀ numbers₀ at₀ o₀ opened₀ deepest₀ seen₀ size₀ out notes starts numbers at o opened deepest seen size =
+    Converting src out₀ notes₀ out starts numbers notes at size o opened deepest seen
+
+abbrev μ-loop : tie.MeasureT-loop
+μ-loop classes letters src out₀ notes₀ starts₀ numbers₀ at₀ o₀ opened₀ deepest₀ seen₀ size₀ out notes starts numbers at o opened deepest seen size = length src - at
+
+loop-holds : tie.Need-loop-holds Inv-loop μ-loop
+loop-holds c = search (convert-none, arith)
+
+skip-at-requires : tie.Need-skip-at-requires Inv-loop μ-loop
+skip-at-requires c κs = (search needs, search (convert-inside, arith))
+
+same-length : tie.Need-same-length Inv-loop μ-loop
+same-length c = search (convert-long, arith)
+
+same-length-2 : tie.Need-same-length-2 Inv-loop μ-loop
+same-length-2 c = search (convert-notes, arith)
+
+returns : tie.Need-returns Inv-loop μ-loop
+returns c = search (convert-more, arith)
+
+same-length-3 : tie.Need-same-length-3 Inv-loop μ-loop
+same-length-3 c = search (convert-long, arith)
+
+same-length-4 : tie.Need-same-length-4 Inv-loop μ-loop
+same-length-4 c = search (convert-notes, arith)
+
+returns-2 : tie.Need-returns-2 Inv-loop μ-loop
+returns-2 c = search (convert-whole, arith)
+
+same-length-5 : tie.Need-same-length-5 Inv-loop μ-loop
+same-length-5 c = search (convert-long, arith)
+
+same-length-6 : tie.Need-same-length-6 Inv-loop μ-loop
+same-length-6 c = search (convert-notes, arith)
+
+returns-3 : tie.Need-returns-3 Inv-loop μ-loop
+returns-3 c = search (convert-short, arith)
+
+slice-write-out : tie.Need-slice-write-out Inv-loop μ-loop
+slice-write-out c = search (one-room, arith)
+
+enter-requires : tie.Need-enter-requires Inv-loop μ-loop
+enter-requires c κs = search (convert-stacks, arith)
+
+loop-less : tie.Need-loop-less Inv-loop μ-loop
+loop-less c = search (one-less, arith)
+
+loop-again : tie.Need-loop-again Inv-loop μ-loop
+loop-again c = search (open-on, arith)
+
+same-length-7 : tie.Need-same-length-7 Inv-loop μ-loop
+same-length-7 c = search (convert-long, arith)
+
+same-length-8 : tie.Need-same-length-8 Inv-loop μ-loop
+same-length-8 c = search (convert-notes, arith)
+
+returns-4 : tie.Need-returns-4 Inv-loop μ-loop
+returns-4 c = search (close-none, arith)
+
+leave-requires : tie.Need-leave-requires Inv-loop μ-loop
+leave-requires c κs = search (close-leaving, arith)
+
+slice-write-out-2 : tie.Need-slice-write-out-2 Inv-loop μ-loop
+slice-write-out-2 c = search (one-room, arith)
+
+loop-less-2 : tie.Need-loop-less-2 Inv-loop μ-loop
+loop-less-2 c = search (one-less, arith)
+
+loop-again-2 : tie.Need-loop-again-2 Inv-loop μ-loop
+loop-again-2 c = search (close-on, arith)
+
+node-requires : tie.Need-node-requires Inv-loop μ-loop
+node-requires c κs = (search needs, (search needs, (search needs, search (node-spare, arith), search needs, search needs)))
+
+same-length-10 : tie.Need-same-length-10 Inv-loop μ-loop
+same-length-10 c = search (convert-notes, arith)
+
+returns-5 : tie.Need-returns-5 Inv-loop μ-loop
+returns-5 c = search (node-none, arith)
+
+keep-string-requires : tie.Need-keep-string-requires Inv-loop μ-loop
+keep-string-requires c κs =
+    let made = c .before .before .before .before in
+    let here = made .before .before .before .before .before .before .before in
+    let start = here .before .before in
+    node-keepable _ _ _ _ _ _ _ _ _ _ _ _ _ (start .before .before .loop .inv) _ (start .before .skip-at .ensures) _ (start .closed .ensures) (here .before .if1 .left) (here .if3 .left) _ _ _ _ (made .node .ensures) (c .before .if7 .left)
+
+sub-size : tie.Need-sub-size Inv-loop μ-loop
+sub-size c =
+    let made = c .before .before .before .before .before .before .before in
+    let here = made .before .before .before .before .before .before .before in
+    let start = here .before .before in
+    node-from _ _ _ _ _ _ _ _ _ _ _ _ _ (start .before .before .loop .inv) _ (start .before .skip-at .ensures) _ (start .closed .ensures) (here .before .if1 .left) (here .if3 .left) _ _ _ _ (made .node .ensures) (c .before .before .before .before .if7 .left)
+
+add-size-3 : tie.Need-add-size-3 Inv-loop μ-loop
+add-size-3 c =
+    let made = c .before .before .before .before .before .before .before in
+    let here = made .before .before .before .before .before .before .before in
+    let start = here .before .before in
+    node-fits _ _ _ _ _ _ _ _ _ _ _ _ _ (start .before .before .loop .inv) _ (start .before .skip-at .ensures) _ (start .closed .ensures) (here .before .if1 .left) (here .if3 .left) _ _ _ _ (made .node .ensures) (c .before .before .before .before .if7 .left)
+
+loop-less-3 : tie.Need-loop-less-3 Inv-loop μ-loop
+loop-less-3 c = search (node-less, arith)
+
+loop-again-3 : tie.Need-loop-again-3 Inv-loop μ-loop
+loop-again-3 c =
+    let made = c .before .before .before .before .before .before .before .before in
+    let here = made .before .before .before .before .before .before .before in
+    let start = here .before .before in
+    node-on _ _ _ _ _ _ _ _ _ _ _ _ _ (start .before .before .loop .inv) _ (start .before .skip-at .ensures) _ (start .closed .ensures) (here .before .if1 .left) (here .if3 .left) _ _ _ _ (made .node .ensures) (c .before .before .before .before .before .if7 .left) _ (c .wrap3 .ensures) _ (c .before .before .before .keep-string .ensures)
+
+pub convert-spec : {M : Type 1} → statement M
+convert-spec =
+    tie.close
+    (tie.spec
+    Inv-loop
+    μ-loop
+    loop-holds
+    skip-at-requires
+    (λ c κs. search needs)
+    same-length
+    same-length-2
+    returns
+    same-length-3
+    same-length-4
+    returns-2
+    same-length-5
+    same-length-6
+    returns-3
+    (λ c. search needs)
+    slice-write-out
+    enter-requires
+    (λ c. search needs)
+    (λ c κs. search needs)
+    (λ c. search needs)
+    (λ c. search needs)
+    (λ c κs. search needs)
+    (λ c. search needs)
+    (λ c. search needs)
+    loop-less
+    loop-again
+    same-length-7
+    same-length-8
+    returns-4
+    (λ c. search needs)
+    leave-requires
+    slice-write-out-2
+    (λ c. search needs)
+    (λ c κs. search needs)
+    (λ c. search needs)
+    (λ c. search needs)
+    loop-less-2
+    loop-again-2
+    node-requires
+    (λ c. search needs)
+    same-length-10
+    returns-5
+    keep-string-requires
+    (λ c. search needs)
+    sub-size
+    add-size-3
+    (λ c κs. search needs)
+    loop-less-3
+    loop-again-3)

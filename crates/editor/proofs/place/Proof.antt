@@ -1,0 +1,44 @@
+use Rattle.editor.proofs.Replacing.{place-misfit, place-gap, place-source, place-room, place-rewritable, place-accepted}
+use native.Mathlib.Omega.{arith}
+use borrow.Author.Needs.{needs}
+use Rattle.editor.proofs.place.Statement.{statement}
+use Rattle.editor.proofs.place.Tie as tie
+
+gap-requires : tie.Need-gap-requires
+gap-requires c κs = search (place-gap, arith)
+
+copy-requires : tie.Need-copy-requires
+copy-requires c κs = (search (place-source, arith), search (place-room, arith))
+
+finish-requires : tie.Need-finish-requires
+finish-requires c κs =
+    let copied = c .before .before .before .before in
+    let moved = copied .before .before .before .before in
+    let found = moved .before .before .before in
+    let judged = found .before .before in
+    let entry = judged .before .before .before .before .before .before in
+    place-rewritable _ _ _ _ _ _ _ (entry .pre) _ (judged .judge .ensures) _ _ _ _ (found .start .given .1) _ (moved .gap .ensures) _ _ (copied .copy .ensures)
+
+returns : tie.Need-returns
+returns c = search (place-accepted, arith)
+
+returns-2 : tie.Need-returns-2
+returns-2 c = search (place-misfit, arith)
+
+pub place-spec : {M : Type 1} → statement M
+place-spec =
+    tie.close
+    (tie.spec
+    (λ c κs. search needs)
+    (λ c. search needs)
+    gap-requires
+    copy-requires
+    finish-requires
+    (λ c. search needs)
+    (λ c κs. search needs)
+    (λ c. search needs)
+    (λ c. search needs)
+    returns
+    (λ c. search needs)
+    (λ c. search needs)
+    returns-2)

@@ -1,0 +1,104 @@
+// Local space for a text, in three sizes: a short text does not pay for clearing the largest.
+ghost use mathlib.Core.Path.{_≡_};
+ghost use lib.ListN.{length};
+ghost use Rattle.model.specs.Decode.{decode};
+ghost use Rattle.model.specs.Limits.{maxSource};
+ghost use Rattle.answers.specs.Cases.{outcome};
+ghost use Rattle.octets.specs.Classes.{Classed, Lettered};
+ghost use Rattle.texts.specs.Texts.{Formed};
+ghost use Rattle.plan.specs.Planned.{replaceTree};
+use answers::Reading;
+use crate::replace_in;
+
+pub fn replace_short(
+    classes: &[u8; 256],
+    letters: &[u8; 256],
+    form: u32,
+    text: &[u8],
+    canonical: &mut [u8],
+    table: &mut [u32],
+    old: usize,
+    held: usize,
+    node: usize,
+) -> Reading
+    requires { ⌜ Classed (now classes) ⌝ }
+    requires { ⌜ Lettered (now letters) ⌝ }
+    requires { ⌜ Formed form (length (now text)) 128 ⌝ }
+    ensures { λ r. ⌜ outcome r (now (canonical .exit)) (now (table .exit)) ≡ replaceTree (decode form (now (text .entry))) (now (canonical .entry)) old (now (table .entry)) held node ⌝ }
+{
+    let mut scratch: [u8; limits::SHORT_SCRATCH] = [0; limits::SHORT_SCRATCH];
+    replace_in(
+        classes,
+        letters,
+        form,
+        text,
+        canonical,
+        table,
+        old,
+        held,
+        node,
+        &mut scratch,
+    )
+}
+
+pub fn replace_middle(
+    classes: &[u8; 256],
+    letters: &[u8; 256],
+    form: u32,
+    text: &[u8],
+    canonical: &mut [u8],
+    table: &mut [u32],
+    old: usize,
+    held: usize,
+    node: usize,
+) -> Reading
+    requires { ⌜ Classed (now classes) ⌝ }
+    requires { ⌜ Lettered (now letters) ⌝ }
+    requires { ⌜ Formed form (length (now text)) 1024 ⌝ }
+    ensures { λ r. ⌜ outcome r (now (canonical .exit)) (now (table .exit)) ≡ replaceTree (decode form (now (text .entry))) (now (canonical .entry)) old (now (table .entry)) held node ⌝ }
+{
+    let mut scratch: [u8; limits::MIDDLE_SCRATCH] = [0; limits::MIDDLE_SCRATCH];
+    replace_in(
+        classes,
+        letters,
+        form,
+        text,
+        canonical,
+        table,
+        old,
+        held,
+        node,
+        &mut scratch,
+    )
+}
+
+pub fn replace_long(
+    classes: &[u8; 256],
+    letters: &[u8; 256],
+    form: u32,
+    text: &[u8],
+    canonical: &mut [u8],
+    table: &mut [u32],
+    old: usize,
+    held: usize,
+    node: usize,
+) -> Reading
+    requires { ⌜ Classed (now classes) ⌝ }
+    requires { ⌜ Lettered (now letters) ⌝ }
+    requires { ⌜ Formed form (length (now text)) maxSource ⌝ }
+    ensures { λ r. ⌜ outcome r (now (canonical .exit)) (now (table .exit)) ≡ replaceTree (decode form (now (text .entry))) (now (canonical .entry)) old (now (table .entry)) held node ⌝ }
+{
+    let mut scratch: [u8; limits::LONG_SCRATCH] = [0; limits::LONG_SCRATCH];
+    replace_in(
+        classes,
+        letters,
+        form,
+        text,
+        canonical,
+        table,
+        old,
+        held,
+        node,
+        &mut scratch,
+    )
+}

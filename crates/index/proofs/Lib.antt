@@ -1,4 +1,0 @@
-pub mod Records
-pub mod Places
-pub mod Indexing
-pub mod Owning

@@ -1,0 +1,81 @@
+-- A text taken, whatever its form: what going through its octets tells is what is told of the text.
+use Prim.Native.Nat.{ℕ, _+_, _*_, _-_, _≤_, _<_}
+use native.Mathlib.Omega.{arith}
+use mathlib.Core.Path.{_≡_, refl, sym, ap, _∙_, subst}
+use mathlib.Core.Option.{Option, none, some}
+use mathlib.Core.List.{List}
+use lib.ListN.{length, take, drop}
+use lib.Seq.{take-length, take-at}
+use Rattle.base.proofs.Cases.{none-some}
+use Rattle.base.proofs.Stores.{sets-all}
+use Rattle.model.specs.Decode.{decode₁}
+use Rattle.model.specs.Limits.{maxSource, maxCanonical}
+use Rattle.model.specs.Tree.{Tree, canon, nodes}
+use Rattle.model.proofs.Exact.{canon-sound}
+use Rattle.walk.specs.Extent.{Measures}
+use Rattle.walk.specs.declared.Extent.{Extent}
+use Rattle.walk.specs.declared.Extent.the-variants.{Refused}
+use Rattle.scan.specs.Writes.{Wrote}
+use Rattle.blocks.specs.Fronts.{Front}
+use Rattle.blocks.proofs.Laws.{front-wrote}
+use Rattle.advanced.specs.Converted.{Converts, Enough, thrice, largest, Lent}
+use Rattle.sheets.specs.Notes.{noted, Noted}
+use Rattle.sheets.proofs.Keeping.{noted-length}
+use Rattle.sheets.proofs.Owning.{note-holds}
+use Rattle.texts.specs.Texts.{Taken}
+
+-- scratch has room for the text as it stands, and more
+pub lent-room : (n room : ℕ) → Lent n room → n + 64 ≤ room
+lent-room n room g = by (g .enough)
+  where
+    by : Enough n room → n + 64 ≤ room
+    by (thrice h) = omega arith
+    by (largest h) = omega arith
+
+-- ---- octets gone through, of which the text means the same
+module _ (o : Option Tree) (part scratch notes notes′ : List ℕ) (r : Extent) (v : Noted part notes notes′ r) (short : length part ≤ maxSource) (e : o ≡ decode₁ part) where
+  pub through : (length part ≤ maxCanonical → take (length part) scratch ≡ part) → Taken o scratch notes notes′ r
+  through f =
+      record {
+        measures = subst (λ (y : Option Tree). Measures y r) (sym e) (v .measures);
+        octets = λ t z h.
+            let p : part ≡ canon t = canon-sound part t (sym e ∙ z) in
+            subst (λ (x : List ℕ). take (length x) scratch ≡ x) p (f (omega (arith, ap length p)));
+        noted = λ t z h d k. note-holds part notes notes′ r v short (record { tree = t; is = sym e ∙ z; deep = d; fits = k });
+      }
+
+-- nothing is meant
+pub taken-none : (o : Option Tree) (scratch notes notes′ : List ℕ) → o ≡ none → Taken o scratch notes notes′ Refused
+unfolding Measures
+taken-none o scratch notes notes′ e =
+    record { measures = e; octets = λ t z h. none-some (sym e ∙ z); noted = λ t z h d k. none-some (sym e ∙ z) }
+
+-- ---- canonical text
+module _ (text : List ℕ) (room : ℕ) (g : Lent (length text) room) (notes notes′ : List ℕ) (r : Extent) (v : Noted text notes notes′ r) where
+  pub canonical-long : maxCanonical < length text → (scratch : List ℕ) → Taken (decode₁ text) scratch notes notes′ r
+  canonical-long h scratch = through (decode₁ text) text scratch notes notes′ r v (g .short) refl (λ k. absurd (omega arith))
+
+module _ (text scratch : List ℕ) (g : Lent (length text) (length scratch)) where
+  pub canonical-room : (0 + length text ≤ length text) × (0 + length text ≤ length scratch)
+  canonical-room = (omega arith, omega (arith, lent-room (length text) (length scratch) g))
+
+  pub canonical-copied : (scratch′ : List ℕ) (p : ℕ) → Wrote (take (length text) (drop 0 text)) 0 scratch scratch′ p → (notes notes′ : List ℕ) (r : Extent) → Noted text notes notes′ r → Taken (decode₁ text) scratch′ notes notes′ r
+  canonical-copied scratch′ p w notes notes′ r v =
+      let q : Wrote text 0 scratch scratch′ p = subst (λ (x : List ℕ). Wrote x 0 scratch scratch′ p) (take-length text) w in
+      let f : Front text 0 scratch scratch′ p = front-wrote text 0 p scratch scratch′ q (canonical-room .1) in
+      through (decode₁ text) text scratch′ notes notes′ r v (g .short) refl (λ _. let z : length text ≡ p = omega (arith, f .place) in rw z (f .same))
+
+-- ---- advanced text
+pub converted : (o : Option Tree) (scratch notes notes′ : List ℕ) (r : Extent) → Converts o scratch notes notes′ r → Taken o scratch notes notes′ r
+converted o scratch notes notes′ r c =
+    record {
+      measures = c .measures;
+      octets = c .octets;
+      noted = λ t z h d k.
+          record {
+            counted = refl;
+            kept = ap (take (nodes t)) (c .kept (record { tree = t; is = z; short = h; deep = d; fits = k }) ∙ sets-all notes (noted t) (omega (arith, noted-length t)))
+                ∙ take-at (noted t) (drop (length (noted t)) notes) (nodes t) (noted-length t);
+            short = omega arith;
+          };
+    }
