@@ -158,8 +158,11 @@ pub fn same(a: &[u8], a_length: usize, b: &[u8], b_length: usize, default_hint: 
         if sheet(b, b_length) {
             let left = &a[..a_length];
             let right = &b[..b_length];
-            let same = alike::alike(left, right, default_hint);
-            Comparing::Accepted { same }
+            if alike::alike(left, right, default_hint) {
+                Comparing::Accepted { same: true }
+            } else {
+                Comparing::Accepted { same: false }
+            }
         } else {
             refused_comparing(7)
         }

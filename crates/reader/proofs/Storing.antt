@@ -3,7 +3,7 @@ use Prim.Native.Nat.{ℕ, _+_, _≤_, _<_}
 use native.Mathlib.Omega.{arith}
 use mathlib.Core.Path.{_≡_, refl, sym, ap, ap₂, _∙_, subst}
 use mathlib.Core.Option.{Option, some}
-use mathlib.Core.Bool.{Bool}
+use mathlib.Core.Bool.{Bool, true}
 use mathlib.Core.List.{List, _++_}
 use lib.ListN.{length, take, drop}
 use lib.Seq.{take-at, sets, length-sets}
@@ -90,8 +90,8 @@ module _ (o : Option Tree) (canonical table : List ℕ) (x : Extent) (m : Measur
               ∙ sym (tree-accepted o canonical table (measured .tree) (measured .is) (sized ∙ good))
             where
               same-outcome : {a a′ b b′ : ℕ} {c c′ d d′ : List ℕ} → a ≡ a′ → b ≡ b′ → c ≡ c′ → d ≡ d′
-                  → _≡_ {A = Outcome} (record { number = Accepted; octets = a; count = b; canonical = c; table = d }) (record { number = Accepted; octets = a′; count = b′; canonical = c′; table = d′ })
-              same-outcome p q r s = λ i. record { number = Accepted; octets = p i; count = q i; canonical = r i; table = s i }
+                  → _≡_ {A = Outcome} (record { accepted = true; number = Accepted; octets = a; count = b; canonical = c; table = d }) (record { accepted = true; number = Accepted; octets = a′; count = b′; canonical = c′; table = d′ })
+              same-outcome p q r s = λ i. record { accepted = true; number = Accepted; octets = p i; count = q i; canonical = r i; table = s i }
 
 -- ---- the text's canonical octets are put
 module _ (b : Bool) (source canonical table : List ℕ) (short : length source ≤ maxSource) (x : Extent) (m : Measures (decodeBy b source) x) (len count deep : ℕ) (e : x ≡ extent.Whole len count deep) (n : ℕ) (h : n ≡ roomVerdict deep count len (length canonical) (length table)) (k : n ≤ 0) where

@@ -1,6 +1,7 @@
 -- Reading by steps: what is judged of a tree's sizes, and what a text's tree, if it has one, gives.
 use Prim.Native.Nat.{ℕ, _*_, _/_, _≤_}
 use mathlib.Core.Path.{_≡_}
+use mathlib.Core.Bool.{true}
 use mathlib.Core.Option.{Option, some}
 use mathlib.Core.List.{List, _∷_}
 use lib.ListN.{length, take}
@@ -44,4 +45,4 @@ pub record Finishable (canonical : List ℕ) (len count numbers : ℕ) : Type 0 
 -- the table was written, and the answer tells the sizes
 pub record Finished (canonical : List ℕ) (len count : ℕ) (table table′ : List ℕ) (r : Reading) : Type 0 where
   pub wrote : table′ ≡ sets table 0 (tableOf (the (decode₁ (take len canonical))))
-  pub tells : (c t : List ℕ) → outcome r c t ≡ record { number = Accepted; octets = len; count = count; canonical = c; table = t }
+  pub tells : (c t : List ℕ) → outcome r c t ≡ record { accepted = true; number = Accepted; octets = len; count = count; canonical = c; table = t }
