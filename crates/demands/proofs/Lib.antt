@@ -8,3 +8,4 @@ pub mod Refused
 pub mod Afresh
 pub mod Records
 pub mod Lent
+pub mod Space
