@@ -1,4 +1,5 @@
 pub mod Rows
+pub mod Numbers
 pub mod Rooms
 pub mod Read
 pub mod Written
