@@ -18,7 +18,7 @@ use Rattle.lookup.proofs.Sheets.{tree-of, none-of, Sheet, sheet-of}
 use Rattle.answers.specs.declared.Comparing.{Comparing}
 use Rattle.answers.specs.declared.Comparing.the-variants.{Accepted}
 
-by-rows : (b : Bool) (y : Bool) → judged (when 7 b ∷ []) (record { number = 0; yes = y }) (λ n. uncompared n) ≡ pick b (uncompared 7) (told (Accepted y))
+by-rows : (b : Bool) (y : Bool) → judged (when 7 b ∷ []) (record { accepted = true; number = 0; yes = y }) (λ n. uncompared n) ≡ pick b (uncompared 7) (told (Accepted y))
 unfolding judged verdict told
 by-rows true y = refl
 by-rows false y = refl
@@ -61,10 +61,10 @@ module _ (a : List ℕ) (n : ℕ) (b : List ℕ) (m : ℕ) where
               rightShort = omega (arith, ap length (k .is), k .fitting .long);
             })
 
-        pub compared : (x : List ℕ) (s : Bool) → s ≡ same (the (decode₁ (take n a))) (the (decode₁ (take m b))) x → told (Accepted s) ≡ comparing a n b m x
+        pub compared : (x : List ℕ) (s : Bool) → s ≡ same (the (decode₁ (take n a))) (the (decode₁ (take m b))) x → (y : Bool) → s ≡ y → told (Accepted y) ≡ comparing a n b m x
         unfolding isNone the
-        compared x s w =
+        compared x s w y q =
             trees
             (λ t u i j g h.
-            let v : s ≡ same t u x = w ∙ ap₂ (λ (t u : Tree). same t u x) (ap the (g .decoded)) (ap the (h .decoded)) in
+            let v : y ≡ same t u x = sym q ∙ w ∙ ap₂ (λ (t u : Tree). same t u x) (ap the (g .decoded)) (ap the (h .decoded)) in
             sym (answers x (some t) (some u) i j ∙ ap (λ (v : Bool). told (Accepted v)) (sym v)))

@@ -8,6 +8,7 @@ ghost use Rattle.model.specs.Table.{width};
 ghost use Rattle.base.specs.Choice.{not, isNone};
 ghost use Rattle.model.specs.Answers.{sheetTree, ownTree, hintPart, dataPart, hintShown, dataShown, comparing};
 ghost use Rattle.answers.specs.Cases.{placed, told};
+ghost use Rattle.answers.specs.Shown.{Shows, shownAt};
 ghost use Rattle.lookup.specs.Numbers.{InRecord};
 use answers::Comparing;
 use answers::Place;
@@ -126,7 +127,7 @@ pub fn hint<'a>(
     node: usize,
     default_hint: &'a [u8],
 ) -> &'a [u8]
-    ensures { λ r. ⌜ now r ≡ hintShown (now (canonical .entry)) length (now (table .entry)) nodes node (now («default_hint» .entry)) ⌝ }
+    ensures { λ r. ⌜ Shows r (hintShown (now (canonical .entry)) length (now (table .entry)) nodes node (now («default_hint» .entry))) (shownAt (hintPart (now (canonical .entry)) length (now (table .entry)) nodes node) (canonical .entry .ptr) («default_hint» .entry .ptr)) ⌝ }
 {
     match hint_place(canonical, length, table, nodes, node) {
         Place::Part { start, end } => &canonical[start..end],
@@ -134,7 +135,7 @@ pub fn hint<'a>(
     }
 }
 
-// A node's data: the part of the sheet that holds it, else an empty part.
+// A node's data: the part of the sheet that holds it, else an empty part at the sheet's front.
 pub fn data<'a>(
     canonical: &'a [u8],
     length: usize,
@@ -142,7 +143,7 @@ pub fn data<'a>(
     nodes: usize,
     node: usize,
 ) -> &'a [u8]
-    ensures { λ r. ⌜ now r ≡ dataShown (now (canonical .entry)) length (now (table .entry)) nodes node ⌝ }
+    ensures { λ r. ⌜ Shows r (dataShown (now (canonical .entry)) length (now (table .entry)) nodes node) (shownAt (dataPart (now (canonical .entry)) length (now (table .entry)) nodes node) (canonical .entry .ptr) (canonical .entry .ptr)) ⌝ }
 {
     match data_place(canonical, length, table, nodes, node) {
         Place::Part { start, end } => &canonical[start..end],
@@ -158,8 +159,11 @@ pub fn same(a: &[u8], a_length: usize, b: &[u8], b_length: usize, default_hint: 
         if sheet(b, b_length) {
             let left = &a[..a_length];
             let right = &b[..b_length];
-            let same = alike::alike(left, right, default_hint);
-            Comparing::Accepted { same }
+            if alike::alike(left, right, default_hint) {
+                Comparing::Accepted { same: true }
+            } else {
+                Comparing::Accepted { same: false }
+            }
         } else {
             refused_comparing(7)
         }

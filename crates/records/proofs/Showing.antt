@@ -3,11 +3,13 @@ use mathlib.Core.Path.{_≡_, sym, _∙_, ap, subst}
 use mathlib.Core.Bool.{Bool, true, false}
 use mathlib.Core.Option.{Option}
 use mathlib.Core.List.{List}
-use Prim.Native.Nat.{ℕ, _-_, _≤_}
+use Prim.Native.Nat.{ℕ, _+_, _-_, _≤_}
+use native.Mathlib.Omega.{arith}
 use lib.ListN.{length, take, drop}
 use Rattle.base.proofs.Cases.{picked, unpicked}
 use Rattle.model.specs.Answers.{Part, octetsAt, shownRow, hintPart, dataPart, shownOr}
 use Rattle.answers.specs.Cases.{placed}
+use Rattle.answers.specs.Shown.{shownAt}
 use Rattle.answers.specs.declared.Place.{Place}
 use Rattle.answers.specs.declared.Place.the-variants as place
 use Rattle.lookup.proofs.Shown.{hint-ordered, hint-ended, data-ordered, data-ended}
@@ -56,6 +58,17 @@ module _ (p : Place) (s e : ℕ) (q : p ≡ place.Part s e) where
   unfolding placed shownOr octetsAt
   place-shown c d = sym (ap (λ (x : Place). shownOr (placed x) c d) q)
 
+  pub place-at : (x y : ℕ × ℕ) → (x .0, s + x .1) ≡ shownAt (placed p) x y
+  unfolding placed shownAt
+  place-at x y = sym (ap (λ (p : Place). shownAt (placed p) x y) q)
+
 pub place-none : (p : Place) (c d : List ℕ) → p ≡ place.NoPart → d ≡ shownOr (placed p) c d
 unfolding placed shownOr
 place-none p c d q = sym (ap (λ (x : Place). shownOr (placed x) c d) q)
+
+pub place-none-at : (p : Place) (x y : ℕ × ℕ) → p ≡ place.NoPart → y ≡ shownAt (placed p) x y
+unfolding placed shownAt
+place-none-at p x y q = sym (ap (λ (p : Place). shownAt (placed p) x y) q)
+
+pub place-front-at : (p : Place) (x : ℕ × ℕ) → p ≡ place.NoPart → (x .0, 0 + x .1) ≡ shownAt (placed p) x x
+place-front-at p x q = let e : 0 + x .1 ≡ x .1 = omega arith in (λ i. (x .0, e i)) ∙ place-none-at p x x q

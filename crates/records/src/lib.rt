@@ -7,8 +7,9 @@ ghost use Prim.Native.Nat.{_<_};
 ghost use lib.ListN.{length};
 ghost use mathlib.Core.List.{[]};
 ghost use Rattle.model.specs.Limits.{maxNodes};
-ghost use Rattle.model.specs.Answers.{reading, replacing, hintShown, dataShown, shownOr};
+ghost use Rattle.model.specs.Answers.{reading, replacing, hintPart, dataPart, hintShown, dataShown, shownOr};
 ghost use Rattle.answers.specs.Cases.{outcome, placed};
+ghost use Rattle.answers.specs.Shown.{Shows, shownAt};
 ghost use Rattle.records.specs.Numbers.{numbers, placeOf};
 ghost use Rattle.records.specs.Flat.{spelled, written, filled, flattened, touched, held, Fills, Inside};
 use answers::Place;
@@ -148,7 +149,7 @@ pub fn place(
 // The part of the sheet at a place, else what is given.
 fn shown_or<'a>(canonical: &'a [u8], p: Place, other: &'a [u8]) -> &'a [u8]
     requires { ⌜ Inside p (length (now canonical)) ⌝ }
-    ensures { λ r. ⌜ now r ≡ shownOr (placed p) (now (canonical .entry)) (now (other .entry)) ⌝ }
+    ensures { λ r. ⌜ Shows r (shownOr (placed p) (now (canonical .entry)) (now (other .entry))) (shownAt (placed p) (canonical .entry .ptr) (other .entry .ptr)) ⌝ }
 {
     match p {
         Place::Part { start, end } => &canonical[start..end],
@@ -156,10 +157,10 @@ fn shown_or<'a>(canonical: &'a [u8], p: Place, other: &'a [u8]) -> &'a [u8]
     }
 }
 
-// The part of the sheet at a place, else an empty part.
+// The part of the sheet at a place, else an empty part at its front.
 fn shown<'a>(canonical: &'a [u8], p: Place) -> &'a [u8]
     requires { ⌜ Inside p (length (now canonical)) ⌝ }
-    ensures { λ r. ⌜ now r ≡ shownOr (placed p) (now (canonical .entry)) [] ⌝ }
+    ensures { λ r. ⌜ Shows r (shownOr (placed p) (now (canonical .entry)) []) (shownAt (placed p) (canonical .entry .ptr) (canonical .entry .ptr)) ⌝ }
 {
     match p {
         Place::Part { start, end } => &canonical[start..end],
@@ -176,13 +177,13 @@ pub fn hint<'a>(
     node: usize,
     default_hint: &'a [u8],
 ) -> &'a [u8]
-    ensures { λ r. ⌜ now r ≡ hintShown (now (canonical .entry)) length (numbers (now (records .entry))) nodes node (now («default_hint» .entry)) ⌝ }
+    ensures { λ r. ⌜ Shows r (hintShown (now (canonical .entry)) length (numbers (now (records .entry))) nodes node (now («default_hint» .entry))) (shownAt (hintPart (now (canonical .entry)) length (numbers (now (records .entry))) nodes node) (canonical .entry .ptr) («default_hint» .entry .ptr)) ⌝ }
 {
     let p = place(canonical, length, records, nodes, node, true);
     shown_or(canonical, p, default_hint)
 }
 
-// A node's data: the part of the sheet that holds it, else an empty part.
+// A node's data: the part of the sheet that holds it, else an empty part at the sheet's front.
 pub fn data<'a>(
     canonical: &'a [u8],
     length: usize,
@@ -190,7 +191,7 @@ pub fn data<'a>(
     nodes: usize,
     node: usize,
 ) -> &'a [u8]
-    ensures { λ r. ⌜ now r ≡ dataShown (now (canonical .entry)) length (numbers (now (records .entry))) nodes node ⌝ }
+    ensures { λ r. ⌜ Shows r (dataShown (now (canonical .entry)) length (numbers (now (records .entry))) nodes node) (shownAt (dataPart (now (canonical .entry)) length (numbers (now (records .entry))) nodes node) (canonical .entry .ptr) (canonical .entry .ptr)) ⌝ }
 {
     let p = place(canonical, length, records, nodes, node, false);
     shown(canonical, p)

@@ -1,5 +1,5 @@
 use native.Mathlib.Omega.{arith}
-use Rattle.etglavino_c.proofs.Handed.{read-handed}
+use Rattle.etglavino_c.proofs.Handed.{replace-handed}
 use borrow.Author.Needs.{needs}
 use Rattle.etglavino_c.proofs.etg_replace.Statement.{statement}
 use Rattle.etglavino_c.proofs.etg_replace.Tie as tie
@@ -17,7 +17,7 @@ same-length-2 : tie.Need-same-length-2
 same-length-2 c = search needs
 
 returns : tie.Need-returns
-returns c = search (read-handed, arith)
+returns c = search (replace-handed, arith)
 
 pub etg-replace-spec : {M : Type 1} → statement M
 etg-replace-spec =

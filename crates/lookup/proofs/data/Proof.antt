@@ -1,5 +1,5 @@
 use native.Mathlib.Omega.{arith}
-use Rattle.lookup.proofs.Shown.{data-ordered, data-ended, data-shown, data-none}
+use Rattle.lookup.proofs.Shown.{data-ordered, data-ended, data-shown, data-at, data-none, data-none-at}
 use borrow.Author.Needs.{needs}
 use Rattle.lookup.proofs.data.Statement.{statement}
 use Rattle.lookup.proofs.data.Tie as tie
@@ -32,10 +32,10 @@ part-result-end-2 : tie.Need-part-result-end-2
 part-result-end-2 c = search needs
 
 returns : tie.Need-returns
-returns c = search (data-shown, arith)
+returns c = search (data-shown, data-at, arith)
 
 returns-2 : tie.Need-returns-2
-returns-2 c = search (data-none, arith)
+returns-2 c = search (data-none, data-none-at, arith)
 
 pub data-spec : {M : Type 1} → statement M
 data-spec =

@@ -1,5 +1,5 @@
 use native.Mathlib.Omega.{arith}
-use Rattle.lookup.proofs.Shown.{hint-ordered, hint-ended, hint-shown, hint-default}
+use Rattle.lookup.proofs.Shown.{hint-ordered, hint-ended, hint-shown, hint-at, hint-default, hint-default-at}
 use borrow.Author.Needs.{needs}
 use Rattle.lookup.proofs.hint.Statement.{statement}
 use Rattle.lookup.proofs.hint.Tie as tie
@@ -23,10 +23,10 @@ enum-told : tie.Need-enum-told
 enum-told c = search needs
 
 returns : tie.Need-returns
-returns c = search (hint-shown, arith)
+returns c = search (hint-shown, hint-at, arith)
 
 returns-2 : tie.Need-returns-2
-returns-2 c = search (hint-default, arith)
+returns-2 c = search (hint-default, hint-default-at, arith)
 
 pub hint-spec : {M : Type 1} → statement M
 hint-spec =

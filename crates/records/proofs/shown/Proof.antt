@@ -1,5 +1,5 @@
 use native.Mathlib.Omega.{arith}
-use Rattle.records.proofs.Showing.{place-ordered, place-ended, place-shown, place-none}
+use Rattle.records.proofs.Showing.{place-ordered, place-ended, place-shown, place-at, place-none, place-front-at}
 use borrow.Author.Needs.{needs}
 use Rattle.records.proofs.shown.Statement.{statement}
 use Rattle.records.proofs.shown.Tie as tie
@@ -29,10 +29,10 @@ part-result-end-2 : tie.Need-part-result-end-2
 part-result-end-2 c = search needs
 
 returns : tie.Need-returns
-returns c = search (place-shown, arith)
+returns c = search (place-shown, place-at, arith)
 
 returns-2 : tie.Need-returns-2
-returns-2 c = search (place-none, arith)
+returns-2 c = search (place-none, place-front-at, arith)
 
 pub shown-spec : {M : Type 1} → statement M
 shown-spec =

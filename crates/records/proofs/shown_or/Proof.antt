@@ -1,5 +1,5 @@
 use native.Mathlib.Omega.{arith}
-use Rattle.records.proofs.Showing.{place-ordered, place-ended, place-shown, place-none}
+use Rattle.records.proofs.Showing.{place-ordered, place-ended, place-shown, place-at, place-none, place-none-at}
 use borrow.Author.Needs.{needs}
 use Rattle.records.proofs.shown_or.Statement.{statement}
 use Rattle.records.proofs.shown_or.Tie as tie
@@ -20,10 +20,10 @@ enum-told : tie.Need-enum-told
 enum-told c = search needs
 
 returns : tie.Need-returns
-returns c = search (place-shown, arith)
+returns c = search (place-shown, place-at, arith)
 
 returns-2 : tie.Need-returns-2
-returns-2 c = search (place-none, arith)
+returns-2 c = search (place-none, place-none-at, arith)
 
 pub shown-or-spec : {M : Type 1} → statement M
 shown-or-spec =
