@@ -12,8 +12,10 @@ use Rattle.model.specs.Strings.{got, refused, escaped, pieceOf, quotedBy, marke
 use Rattle.model.proofs.Quoted.{quoted-end, quoted-next, quoted-none}
 use Rattle.octets.specs.Classes.{Class}
 use Rattle.scan.specs.Marks.{Stretch, Chunk}
+use Rattle.scan.specs.Runs.{Reach}
 use Rattle.scan.proofs.Passing.{stretch-none, stretch-on}
 use Rattle.scan.proofs.Places.{one-here, part-more}
+use Rattle.scan.proofs.Reaching.{reach-by}
 use Rattle.quoted.specs.Pieces.{Escapes, Quotes}
 use Rattle.quoted.specs.declared.escapes.Piece.{Piece}
 use Rattle.quoted.specs.declared.escapes.Piece.the-variants.{One, Gone, Quote, NoPiece}
@@ -72,7 +74,7 @@ module _ (src : List ℕ) (at : ℕ) where
         piece-none l = none-here (unpicked _ _ (ne-eqb _ _ m) ∙ unpicked _ _ (not-plain _ c k l))
 
 -- ---- a run of octets that stand for themselves
-pub plain-none : (src : List ℕ) (at : ℕ) → at ≤ length src → Stretch (marked 34) src at (take (at - at) (drop at src)) at
+plain-none : (src : List ℕ) (at : ℕ) → at ≤ length src → Stretch (marked 34) src at (take (at - at) (drop at src)) at
 plain-none src at h = let z : at - at ≡ 0 = omega arith in rw z (stretch-none (marked 34) src at h)
 
 -- a printable octet is a piece
@@ -82,7 +84,12 @@ one-plain src i c h k l =
     let q : isPrintable (getD src i 0) ≡ true = plain _ c k l in
     chunk src i h (not-quote _ q) (getD src i 0 ∷ []) (i + 1) (omega arith) (omega arith) (omega arith) (unpicked _ _ (ne-eqb _ _ (not-backslash _ q)) ∙ picked _ _ q)
 
-pub plain-more : (src : List ℕ) (at i c : ℕ) → Stretch (marked 34) src at (take (i - at) (drop at src)) i → i < length src → Class (getD src i 0) c → 4 ≤ c → Stretch (marked 34) src at (take (i + 1 - at) (drop at src)) (i + 1)
+plain-more : (src : List ℕ) (at i c : ℕ) → Stretch (marked 34) src at (take (i - at) (drop at src)) i → i < length src → Class (getD src i 0) c → 4 ≤ c → Stretch (marked 34) src at (take (i + 1 - at) (drop at src)) (i + 1)
 plain-more src at i c t h k l =
     subst (λ (g : List ℕ). Stretch (marked 34) src at g (i + 1)) (part-more src at i (t .on) h)
     (stretch-on (marked 34) src at i _ t (getD src i 0 ∷ []) (i + 1) (one-plain src i c h k l))
+
+pub plain-reach : (src : List ℕ) (at r : ℕ) → at ≤ length src → Reach src at (length src) 4 r → Stretch (marked 34) src at (take (r - at) (drop at src)) r
+plain-reach src at r h w =
+    reach-by (λ (i : ℕ). Stretch (marked 34) src at (take (i - at) (drop at src)) i) src at (length src) 4 r w (plain-none src at h)
+    (λ i f l a p. plain-more src at i (a .class) p (omega (arith, w .within)) (a .is) (a .over))

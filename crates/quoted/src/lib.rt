@@ -12,6 +12,7 @@ use escapes::Piece;
 use escapes::escape_at;
 use octets::class_of;
 use scan::Simple;
+use scan::class_end;
 use scan::copy;
 
 pub mod escapes; // escapes.rt: what stands after a backslash
@@ -47,14 +48,7 @@ pub fn plain_end(classes: &[u8; 256], src: &[u8], at: usize) -> usize
     requires { ⌜ at ≤ length (now src) ⌝ }
     ensures { λ r. ⌜ Stretch (marked 34) (now (src .entry)) at (take (r - at) (drop at (now (src .entry)))) r ⌝ }
 {
-    let mut i = at;
-    while i < src.len() {
-        if class_of(classes, src[i]) < 4 {
-            return i;
-        }
-        i += 1;
-    }
-    i
+    class_end(classes, src, at, src.len(), 4)
 }
 
 // The place after the closing mark of a string in which nothing is escaped; `at` itself where it is another.

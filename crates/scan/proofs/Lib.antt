@@ -4,3 +4,4 @@ pub mod Tokens
 pub mod Copies
 pub mod Between
 pub mod Passing
+pub mod Reaching

@@ -1,52 +1,14 @@
-use Prim.Native.Nat.{_-_}
-use native.Mathlib.Omega.{arith}
 use borrow.Author.Needs.{needs}
-use lib.ListN.{length}
-use Rattle.scan.proofs.Tokens.{Taken, taken-none, taken-more, ran-stop, ran-end}
+use native.Mathlib.Omega.{arith}
+use Rattle.scan.proofs.Tokens.{ran-reach}
 use Rattle.scan.proofs.run_end.Statement.{statement}
 use Rattle.scan.proofs.run_end.Tie as tie
 
-abbrev Inv-loop : tie.InvT-loop
-Inv-loop classes src at i₀ i = Taken src at i
+class-end-requires : tie.Need-class-end-requires
+class-end-requires c κs = search needs
 
-abbrev μ-loop : tie.MeasureT-loop
-μ-loop classes src at i₀ i = length src - i
-
-loop-holds : tie.Need-loop-holds Inv-loop μ-loop
-loop-holds c = search taken-none
-
-shared-slice-read-class-of : tie.Need-shared-slice-read-class-of Inv-loop μ-loop
-shared-slice-read-class-of c = omega arith
-
-class-of-requires : tie.Need-class-of-requires Inv-loop μ-loop
-class-of-requires c κs = search needs
-
-returns : tie.Need-returns Inv-loop μ-loop
-returns c = search (ran-stop, arith)
-
-add-i : tie.Need-add-i Inv-loop μ-loop
-add-i c = omega arith
-
-loop-less : tie.Need-loop-less Inv-loop μ-loop
-loop-less c = omega arith
-
-loop-again : tie.Need-loop-again Inv-loop μ-loop
-loop-again c = search (taken-more, arith)
-
-returns-2 : tie.Need-returns-2 Inv-loop μ-loop
-returns-2 c = search (ran-end, arith)
+returns : tie.Need-returns
+returns c = search (ran-reach, arith)
 
 pub run-end-spec : {M : Type 1} → statement M
-run-end-spec =
-    tie.close
-    (tie.spec
-    Inv-loop
-    μ-loop
-    loop-holds
-    shared-slice-read-class-of
-    class-of-requires
-    returns
-    add-i
-    loop-less
-    loop-again
-    returns-2)
+run-end-spec = tie.close (tie.spec class-end-requires returns)
