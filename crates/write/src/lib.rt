@@ -32,8 +32,9 @@ fn write_basic(canonical: &[u8], length: usize, out: &mut [u8]) -> Writing
     if len > out.len() {
         return refused_writing(6);
     }
+    let alphabet = letters::alphabet();
     let part = &canonical[..length];
-    put_basic(part, out);
+    put_basic(&alphabet, part, out);
     Writing::Accepted { length: len }
 }
 
