@@ -1,7 +1,7 @@
 use borrow.Author.Needs.{needs}
 use native.Mathlib.Omega.{arith}
 use Prim.Native.Nat.{_-_}
-use Rattle.scan.proofs.Reaching.{Reaching, reach-none, reach-stop, reach-end, reach-on, stop-second, stop-third, stop-fourth, reach-four}
+use Rattle.scan.proofs.Reaching.{Reaching, reach-none, reach-stop, reach-on, stop-second, stop-third, stop-fourth, reach-four}
 use Rattle.scan.proofs.class_end.Statement.{statement}
 use Rattle.scan.proofs.class_end.Tie as tie
 

@@ -1,5 +1,5 @@
 use native.Mathlib.Omega.{arith}
-use Rattle.spelling.proofs.Putting.{mark-body, mark-last, mark-long, mark-both}
+use Rattle.spelling.proofs.Filling.{mark-body, mark-last, mark-long, mark-both}
 use borrow.Author.Needs.{needs}
 use Rattle.spelling.proofs.put_hexadecimal.Statement.{statement}
 use Rattle.spelling.proofs.put_hexadecimal.Tie as tie
@@ -11,7 +11,7 @@ add-put-pairs : tie.Need-add-put-pairs
 add-put-pairs c = search needs
 
 put-pairs-requires : tie.Need-put-pairs-requires
-put-pairs-requires c κs = search (mark-body, arith)
+put-pairs-requires c κs = (search needs, search (mark-body, arith))
 
 slice-write-out-2 : tie.Need-slice-write-out-2
 slice-write-out-2 c = search (mark-last, arith)

@@ -1,5 +1,5 @@
 use native.Mathlib.Omega.{arith}
-use Rattle.spelling.proofs.Putting.{mark-body, mark-last, mark-long, mark-both}
+use Rattle.spelling.proofs.Filling.{mark-body, mark-last, mark-long, mark-both}
 use borrow.Author.Needs.{needs}
 use Rattle.spelling.proofs.put_quoted.Statement.{statement}
 use Rattle.spelling.proofs.put_quoted.Tie as tie
@@ -11,7 +11,7 @@ add-put-octets : tie.Need-add-put-octets
 add-put-octets c = search needs
 
 put-octets-requires : tie.Need-put-octets-requires
-put-octets-requires c κs = search (mark-body, arith)
+put-octets-requires c κs = (search needs, (search needs, search (mark-body, arith)))
 
 slice-write-out-2 : tie.Need-slice-write-out-2
 slice-write-out-2 c = search (mark-last, arith)

@@ -13,11 +13,14 @@ refused-writing-requires c κs = search needs
 returns : tie.Need-returns
 returns c = search (basic-refused, arith)
 
+alphabet-requires : tie.Need-alphabet-requires
+alphabet-requires c κs = search needs
+
 slice-aggregate-part : tie.Need-slice-aggregate-part
 slice-aggregate-part c = search (good-length, arith)
 
 put-basic-requires : tie.Need-put-basic-requires
-put-basic-requires c κs = (search (good-sheet, arith), search (basic-room, arith))
+put-basic-requires c κs = (search needs, (search (good-sheet, arith), search (basic-room, arith)))
 
 same-length : tie.Need-same-length
 same-length c = search needs
@@ -32,6 +35,7 @@ write-basic-spec =
     basic-len-requires
     refused-writing-requires
     returns
+    alphabet-requires
     slice-aggregate-part
     put-basic-requires
     same-length

@@ -1,5 +1,5 @@
 use native.Mathlib.Omega.{arith}
-use Rattle.writer.proofs.Pieces.{open-wrote}
+use Rattle.writer.proofs.Pieces.{open-inside, open-front}
 use borrow.Author.Needs.{needs}
 use Rattle.writer.proofs.advanced.put_open.Statement.{statement}
 use Rattle.writer.proofs.advanced.put_open.Tie as tie
@@ -8,7 +8,7 @@ put-gap-requires : tie.Need-put-gap-requires
 put-gap-requires c κs = search needs
 
 slice-write-out : tie.Need-slice-write-out
-slice-write-out c = search needs
+slice-write-out c = search (open-inside, arith)
 
 add-result : tie.Need-add-result
 add-result c = search needs
@@ -17,7 +17,7 @@ same-length : tie.Need-same-length
 same-length c = search needs
 
 returns : tie.Need-returns
-returns c = search (open-wrote, arith)
+returns c = search (open-front, arith)
 
 pub put-open-spec : {M : Type 1} → statement M
 put-open-spec =

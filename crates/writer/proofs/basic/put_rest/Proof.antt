@@ -10,17 +10,17 @@ sub-left c = search needs
 returns : tie.Need-returns
 returns c = search (rest-none, arith)
 
-shared-slice-read-t12 : tie.Need-shared-slice-read-t12
-shared-slice-read-t12 c = search needs
+shared-slice-read-t13 : tie.Need-shared-slice-read-t13
+shared-slice-read-t13 c = search needs
 
 letters-of-requires : tie.Need-letters-of-requires
 letters-of-requires c κs = search needs
 
-array-read-t12 : tie.Need-array-read-t12
-array-read-t12 c = search needs
+array-read-t13 : tie.Need-array-read-t13
+array-read-t13 c = search needs
 
-array-read-t18 : tie.Need-array-read-t18
-array-read-t18 c = search needs
+array-read-t19 : tie.Need-array-read-t19
+array-read-t19 c = search needs
 
 put-four-requires : tie.Need-put-four-requires
 put-four-requires c κs = search (rest-room, arith)
@@ -31,26 +31,26 @@ same-length c = search needs
 returns-2 : tie.Need-returns-2
 returns-2 c = search (rest-one, arith)
 
-shared-slice-read-t23 : tie.Need-shared-slice-read-t23
-shared-slice-read-t23 c = search needs
+shared-slice-read-t24 : tie.Need-shared-slice-read-t24
+shared-slice-read-t24 c = search needs
 
-add-t8 : tie.Need-add-t8
-add-t8 c = search needs
+add-t9 : tie.Need-add-t9
+add-t9 c = search needs
 
-shared-slice-read-t25 : tie.Need-shared-slice-read-t25
-shared-slice-read-t25 c = search needs
+shared-slice-read-t26 : tie.Need-shared-slice-read-t26
+shared-slice-read-t26 c = search needs
 
 letters-of-requires-2 : tie.Need-letters-of-requires-2
 letters-of-requires-2 c κs = search needs
 
-array-read-t23 : tie.Need-array-read-t23
-array-read-t23 c = search needs
+array-read-t24 : tie.Need-array-read-t24
+array-read-t24 c = search needs
 
-array-read-t25 : tie.Need-array-read-t25
-array-read-t25 c = search needs
+array-read-t26 : tie.Need-array-read-t26
+array-read-t26 c = search needs
 
-array-read-t33 : tie.Need-array-read-t33
-array-read-t33 c = search needs
+array-read-t34 : tie.Need-array-read-t34
+array-read-t34 c = search needs
 
 put-four-requires-2 : tie.Need-put-four-requires-2
 put-four-requires-2 c κs = search (rest-room, arith)
@@ -67,20 +67,20 @@ put-rest-spec =
     (tie.spec
     sub-left
     returns
-    shared-slice-read-t12
+    shared-slice-read-t13
     letters-of-requires
-    array-read-t12
-    array-read-t18
+    array-read-t13
+    array-read-t19
     put-four-requires
     same-length
     returns-2
-    shared-slice-read-t23
-    add-t8
-    shared-slice-read-t25
+    shared-slice-read-t24
+    add-t9
+    shared-slice-read-t26
     letters-of-requires-2
-    array-read-t23
-    array-read-t25
-    array-read-t33
+    array-read-t24
+    array-read-t26
+    array-read-t34
     put-four-requires-2
     same-length-2
     returns-3)
