@@ -1,5 +1,6 @@
 pub mod Sheets
 pub mod Shown
+pub mod Agreeing
 pub mod Matching
 pub mod Lockstep
 pub mod SideBySide

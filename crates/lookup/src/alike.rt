@@ -7,6 +7,7 @@ ghost use Rattle.model.specs.Decode.{decode₁};
 ghost use Rattle.model.specs.Answers.{the};
 ghost use Rattle.lookup.specs.Alike.{matches};
 ghost use Rattle.lookup.specs.Tokens.{mark, lexemeOf, hintIn, partOf, Lies, Readable, TokenAt, Sheets};
+use super::parts::parts_equal;
 use canonical::Item;
 
 // A lexeme: 0 an opening parenthesis, 1 a closing one, 2 a string. A string's octets stand from start to end,
@@ -70,23 +71,6 @@ fn token_at(src: &[u8], at: usize) -> Token
         // The octets are canonical, so that this never comes.
         Item::Other => parenthesis(1, at + 1),
     }
-}
-
-// Whether two parts hold the same octets.
-fn parts_equal(a: &[u8], b: &[u8]) -> bool
-    ensures { λ r. ⌜ r ≡ equal (now (a .entry)) (now (b .entry)) ⌝ }
-{
-    if a.len() != b.len() {
-        return false;
-    }
-    let mut i: usize = 0;
-    while i < a.len() {
-        if a[i] != b[i] {
-            return false;
-        }
-        i += 1;
-    }
-    true
 }
 
 // The octets of a string.

@@ -1,5 +1,6 @@
 // Sheets looked into: whether octets are one, whether a table is its own, what a node shows, and two of them compared.
-mod alike;
+mod alike; // alike.rt: lexeme by lexeme
+mod parts; // parts.rt: octets compared
 
 ghost use mathlib.Core.Path.{_≡_};
 ghost use Prim.Native.Nat.{_+_, _*_, _≤_, _<_};
@@ -151,11 +152,15 @@ pub fn data<'a>(
     }
 }
 
-// Two sheets compared: the same shape, data and hints, where a missing hint counts as the default.
+// Two sheets compared: the same shape, data and hints, where a missing hint counts as the default. The same octets are the same
+// sheet, and need be judged once only.
 pub fn same(a: &[u8], a_length: usize, b: &[u8], b_length: usize, default_hint: &[u8]) -> Comparing
     ensures { λ r. ⌜ told r ≡ comparing (now (a .entry)) «a_length» (now (b .entry)) «b_length» (now («default_hint» .entry)) ⌝ }
 {
     if sheet(a, a_length) {
+        if parts::copied(a, a_length, b, b_length) {
+            return Comparing::Accepted { same: true };
+        }
         if sheet(b, b_length) {
             let left = &a[..a_length];
             let right = &b[..b_length];

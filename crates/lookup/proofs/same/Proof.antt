@@ -1,5 +1,5 @@
 use native.Mathlib.Omega.{arith}
-use Rattle.lookup.proofs.Answered.{sheet-length, two-sheets, compared, right-refused, left-refused}
+use Rattle.lookup.proofs.Answered.{sheet-lent, sheet-length, two-sheets, copied-same, compared, right-refused, left-refused}
 use borrow.Author.Needs.{needs}
 use Rattle.lookup.proofs.same.Statement.{statement}
 use Rattle.lookup.proofs.same.Tie as tie
@@ -7,26 +7,29 @@ use Rattle.lookup.proofs.same.Tie as tie
 sheet-requires : tie.Need-sheet-requires
 sheet-requires c κs = search needs
 
+copied-requires : tie.Need-copied-requires
+copied-requires c κs = search (sheet-lent, arith)
+
+returns : tie.Need-returns
+returns c = search (copied-same, arith)
+
 sheet-requires-2 : tie.Need-sheet-requires-2
 sheet-requires-2 c κs = search needs
 
 slice-aggregate-left : tie.Need-slice-aggregate-left
-slice-aggregate-left c = search (sheet-length, arith)
+slice-aggregate-left c = sheet-length _ _ _ (c .before .before .before .before .before .before .sheet .ensures) (c .before .before .before .before .before .if1 .taken)
 
 slice-aggregate-right : tie.Need-slice-aggregate-right
 slice-aggregate-right c = search (sheet-length, arith)
 
 alike-requires : tie.Need-alike-requires
-alike-requires c κs = search (two-sheets, arith)
+alike-requires c κs = two-sheets _ _ _ _ _ (c .before .before .before .before .before .before .before .sheet .ensures) (c .before .before .before .before .before .before .if1 .taken) _ (c .before .before .before .sheet2 .ensures) (c .before .before .if3 .taken)
 
 refused-comparing-requires : tie.Need-refused-comparing-requires
 refused-comparing-requires c κs = search needs
 
 refused-comparing-requires-2 : tie.Need-refused-comparing-requires-2
 refused-comparing-requires-2 c κs = search needs
-
-returns : tie.Need-returns
-returns c = search (compared, arith)
 
 returns-2 : tie.Need-returns-2
 returns-2 c = search (compared, arith)
@@ -42,13 +45,14 @@ same-spec =
     tie.close
     (tie.spec
     sheet-requires
+    copied-requires
+    returns
     sheet-requires-2
     slice-aggregate-left
     slice-aggregate-right
     alike-requires
     refused-comparing-requires
     refused-comparing-requires-2
-    returns
     returns-2
     returns-3
     returns-4)

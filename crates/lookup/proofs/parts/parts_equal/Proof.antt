@@ -1,10 +1,11 @@
 use borrow.Author.Needs.{needs}
 use native.Mathlib.Omega.{arith}
-use Rattle.lookup.proofs.Matching.{agree-longer, agree-start, agree-in, agree-differ, agree-on, agree-end, Agree}
 use Prim.Native.Nat.{_-_}
 use lib.ListN.{length}
-use Rattle.lookup.proofs.alike.parts_equal.Statement.{statement}
-use Rattle.lookup.proofs.alike.parts_equal.Tie as tie
+use Rattle.lookup.specs.Agreed.{Agree}
+use Rattle.lookup.proofs.Agreeing.{agree-longer, agree-start, block-same, block-differs}
+use Rattle.lookup.proofs.parts.parts_equal.Statement.{statement}
+use Rattle.lookup.proofs.parts.parts_equal.Tie as tie
 
 abbrev Inv-loop : tie.InvT-loop
 Inv-loop a b i₀ i = Agree a b i
@@ -18,14 +19,11 @@ returns c = search (agree-longer, arith)
 loop-holds : tie.Need-loop-holds Inv-loop μ-loop
 loop-holds c = search (agree-start, arith)
 
-shared-slice-read-if2 : tie.Need-shared-slice-read-if2 Inv-loop μ-loop
-shared-slice-read-if2 c = search needs
+sub-loop : tie.Need-sub-loop Inv-loop μ-loop
+sub-loop c = search needs
 
-shared-slice-read-if2-2 : tie.Need-shared-slice-read-if2-2 Inv-loop μ-loop
-shared-slice-read-if2-2 c = search (agree-in, arith)
-
-returns-2 : tie.Need-returns-2 Inv-loop μ-loop
-returns-2 c = search (agree-differ, arith)
+block-equal-requires : tie.Need-block-equal-requires Inv-loop μ-loop
+block-equal-requires c κs = search needs
 
 add-i : tie.Need-add-i Inv-loop μ-loop
 add-i c = search needs
@@ -34,10 +32,16 @@ loop-less : tie.Need-loop-less Inv-loop μ-loop
 loop-less c = search needs
 
 loop-again : tie.Need-loop-again Inv-loop μ-loop
-loop-again c = search (agree-on, arith)
+loop-again c = search (block-same, arith)
+
+returns-2 : tie.Need-returns-2 Inv-loop μ-loop
+returns-2 c = search (block-differs, arith)
+
+rest-equal-requires : tie.Need-rest-equal-requires Inv-loop μ-loop
+rest-equal-requires c κs = search needs
 
 returns-3 : tie.Need-returns-3 Inv-loop μ-loop
-returns-3 c = search (agree-end, arith)
+returns-3 c = search needs
 
 pub parts-equal-spec : {M : Type 1} → statement M
 parts-equal-spec =
@@ -47,10 +51,11 @@ parts-equal-spec =
     μ-loop
     returns
     loop-holds
-    shared-slice-read-if2
-    shared-slice-read-if2-2
-    returns-2
+    sub-loop
+    block-equal-requires
     add-i
     loop-less
     loop-again
+    returns-2
+    rest-equal-requires
     returns-3)
