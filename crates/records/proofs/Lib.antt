@@ -1,10 +1,11 @@
 pub mod Spelled
 pub mod Facts
 pub mod Local
+pub mod Noted
 pub mod Sizes
 pub mod Tables
 pub mod Follows
-pub mod Through
+pub mod Tabling
 pub mod Shared
 pub mod Owning
 pub mod Replacing
@@ -13,3 +14,4 @@ pub mod Placing
 pub mod Counting
 pub mod Flattening
 pub mod Filling
+pub mod Retelling

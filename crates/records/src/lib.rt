@@ -10,8 +10,10 @@ ghost use Rattle.model.specs.Limits.{maxNodes};
 ghost use Rattle.model.specs.Answers.{reading, replacing, hintPart, dataPart, hintShown, dataShown, shownOr};
 ghost use Rattle.answers.specs.Cases.{outcome, placed};
 ghost use Rattle.answers.specs.Shown.{Shows, shownAt};
-ghost use Rattle.records.specs.Numbers.{numbers, placeOf};
-ghost use Rattle.records.specs.Flat.{spelled, written, filled, flattened, touched, held, Fills, Inside};
+ghost use Rattle.records.specs.Numbers.{eight, numbers, placeOf};
+ghost use Rattle.sheets.specs.Rows.{rowList};
+ghost use Rattle.records.specs.Told.{countOf, toldAt, told, Tellable, Tells};
+ghost use Rattle.records.specs.Flat.{nil, spelled, written, filled, flattened, touched, held, Fills, Inside};
 use answers::Place;
 use answers::Reading;
 
@@ -76,6 +78,68 @@ fn fill(records: &mut [Record], flat: &[u32; limits::NUMBERS], r: Reading, old: 
     }
 }
 
+// A record with the numbers of a row.
+fn record_by(row: sheets::Row) -> Record
+    ensures { λ r. ⌜ eight r ≡ rowList row ⌝ }
+{
+    Record {
+        kind: row.kind,
+        start: row.start,
+        end: row.end,
+        nodes: row.nodes,
+        hint_start: row.hint_start,
+        hint_end: row.hint_end,
+        data_start: row.data_start,
+        data_end: row.data_end,
+    }
+}
+
+// A record of zeros.
+fn zero_record() -> Record
+    ensures { λ r. ⌜ r ≡ nil ⌝ }
+{
+    Record {
+        kind: 0,
+        start: 0,
+        end: 0,
+        nodes: 0,
+        hint_start: 0,
+        hint_end: 0,
+        data_start: 0,
+        data_end: 0,
+    }
+}
+
+// Record i after an answer: the one that its note tells, and zeros past the nodes.
+fn record_of(notes: &[usize; limits::NODES], r: Reading, i: usize) -> Record
+    requires { ⌜ Tellable (now notes) r i ⌝ }
+    ensures { λ z. ⌜ z ≡ toldAt (now (notes .entry)) (countOf r) i ⌝ }
+{
+    match r {
+        Reading::Accepted { length: _, nodes } => {
+            if i < nodes {
+                return record_by(sheets::row_of(notes, i));
+            }
+            zero_record()
+        }
+        Reading::Refused { refusal: _ } => zero_record(),
+    }
+}
+
+// The records that an answer touches become those that notes tell.
+fn tell(records: &mut [Record], notes: &[usize; limits::NODES], r: Reading, old: usize)
+    requires { ⌜ Tells (now notes) r old (length (now records)) ⌝ }
+    ensures { λ _. ⌜ now (records .exit) ≡ told (now (notes .entry)) (countOf r) (touched r old) (now (records .entry)) ⌝ }
+{
+    let n = flat::touched_by(r, old);
+    let mut i: usize = 0;
+    while i < n {
+        let z = record_of(notes, r, i);
+        records[i] = z;
+        i += 1;
+    }
+}
+
 // The records in use are spelled out in `flat`.
 fn flatten(records: &[Record], flat: &mut [u32; limits::NUMBERS], nodes: usize)
     ensures { λ _. ⌜ now (flat .exit) ≡ flattened (now (records .entry)) (held (length (now (records .entry))) nodes) (now (flat .entry)) ⌝ }
@@ -94,9 +158,9 @@ fn flatten(records: &[Record], flat: &mut [u32; limits::NUMBERS], nodes: usize)
 pub fn read(form: u32, source: &[u8], canonical: &mut [u8], records: &mut [Record]) -> Reading
     ensures { λ r. ⌜ outcome r (now (canonical .exit)) (numbers (now (records .exit))) ≡ reading form (now (source .entry)) (now (canonical .entry)) (numbers (now (records .entry))) ⌝ }
 {
-    let mut flat: [u32; limits::NUMBERS] = [0; limits::NUMBERS];
-    let r = flat::read(form, source, canonical, &mut flat, records.len());
-    fill(records, &flat, r, 0);
+    let mut notes: [usize; limits::NODES] = [0; limits::NODES];
+    let r = reader::read_notes(form, source, canonical, &mut notes, records.len());
+    tell(records, &notes, r, 0);
     r
 }
 
