@@ -2,14 +2,15 @@
 use Prim.Native.Nat.{ℕ, _+_, _*_, _≤_, _<_}
 use native.Mathlib.Omega.{arith}
 use mathlib.Core.Path.{_≡_, sym, ap, _∙_}
+use mathlib.Core.Bool.{Bool, true}
 use mathlib.Core.List.{List}
 use lib.ListN.{length}
 use lib.Seq.{sets}
-use Rattle.model.specs.Answers.{unchanged, readingChecks, reading}
+use Rattle.model.specs.Answers.{unchanged, noForm, textChecks, readingChecks, reading}
 use Rattle.model.specs.Decode.{decode}
 use Rattle.model.specs.Limits.{maxSource, maxNodes}
 use Rattle.sheets.specs.Places.{shift}
-use Rattle.texts.specs.Texts.{textVerdict, Formed}
+use Rattle.texts.specs.Texts.{textVerdict, Formed, Bare}
 use Rattle.texts.proofs.Rows.{text-refused, text-taken}
 use Rattle.texts.proofs.Sizes.{small-takes, long-takes}
 use Rattle.answers.specs.Cases.{outcome, Refuses}
@@ -31,6 +32,18 @@ module _ (form n s m : ℕ) where
 
   pub long-spaced : Formed form n maxSource → maxSource + 16448 ≤ s → s < shift → maxNodes ≤ m → Spaced form n s m
   long-spaced f h j k = record { takes = long-takes form n s f h j; room = most k }
+
+-- ---- basic text outside braces is canonical text
+module _ (form : ℕ) (source : List ℕ) (b : Bool) (g : Bare form source b) (e : b ≡ true) where
+  -- the form is the measure of `read`, which calls itself here
+  pub bare-less : (t : ℕ) → form ≡ t → 1 < t
+  bare-less t z = omega (arith, g .bared e .basic)
+
+  pub read-bare : (canonical table canonical′ table′ : List ℕ) (a : Reading) → outcome a canonical′ table′ ≡ reading 1 source canonical table → outcome a canonical′ table′ ≡ reading form source canonical table
+  unfolding reading readingChecks textChecks noForm
+  read-bare canonical table canonical′ table′ a f =
+      let z : noForm form ≡ noForm 1 = ap noForm (g .bared e .basic) in
+      f ∙ sym (rw (g .bared e .is, z))
 
 -- ---- rows 1 and 2
 module _ (form : ℕ) (source canonical table : List ℕ) (n : ℕ) (v : n ≡ textVerdict form (length source)) where

@@ -108,6 +108,11 @@ pub fn read(form: u32, source: &[u8], canonical: &mut [u8], table: &mut [u32]) -
     if row > 0 {
         return refused(row);
     }
+    // Besides, a function that calls itself does not take the local space of every size into its own frame, which each short call
+    // would pay for.
+    if texts::bare(form, source) {
+        return read(1, source, canonical, table);
+    }
     let classes = octets::classes();
     let letters = octets::letters();
     if source.len() <= limits::SHORT {
