@@ -27,7 +27,7 @@ pub fn sheet(canonical: &[u8], length: usize) -> bool
         return false;
     }
     let part = &canonical[..length];
-    match canonical::measure(part) {
+    match sheets::measure(part) {
         Extent::Whole {
             len: _,
             nodes,

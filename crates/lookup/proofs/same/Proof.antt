@@ -35,10 +35,13 @@ returns-2 : tie.Need-returns-2
 returns-2 c = search (compared, arith)
 
 returns-3 : tie.Need-returns-3
-returns-3 c = search (right-refused, arith)
+returns-3 c = search (compared, arith)
 
 returns-4 : tie.Need-returns-4
-returns-4 c = search (left-refused, arith)
+returns-4 c = search (right-refused, arith)
+
+returns-5 : tie.Need-returns-5
+returns-5 c = search (left-refused, arith)
 
 pub same-spec : {M : Type 1} → statement M
 same-spec =
@@ -55,4 +58,5 @@ same-spec =
     refused-comparing-requires-2
     returns-2
     returns-3
-    returns-4)
+    returns-4
+    returns-5)
