@@ -5,10 +5,8 @@ use std::hint::black_box;
 
 use bench::clock::race;
 use bench::report::{head, Cell};
-use bench::texts::{canonical_of, texts};
+use bench::texts::{canonical_of, texts, SHORT};
 use etglavino::{Extent, Form, Record, MAX_CANONICAL, MAX_NODES, RECORD};
-
-const SHORT: &[u8] = b"(shift ann (from \"22:00\") (to \"06:00\"))";
 
 /// Prints the table.
 pub fn table() {
