@@ -4,4 +4,5 @@ pub mod Agreeing
 pub mod Matching
 pub mod Lockstep
 pub mod SideBySide
+pub mod Spans
 pub mod Answered

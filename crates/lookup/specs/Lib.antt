@@ -2,3 +2,4 @@ pub mod Numbers
 pub mod Alike
 pub mod Tokens
 pub mod Agreed
+pub mod Strings

@@ -5,3 +5,4 @@ pub mod Lefts
 pub mod Writing
 pub mod Groups
 pub mod Putting
+pub mod Hinted

@@ -13,15 +13,16 @@ use Rattle.blocks.specs.Fronts.{Front}
 use Rattle.blocks.proofs.Laws.{front-one}
 use Rattle.canonical.specs.Lexed.{ItemAt}
 use Rattle.canonical.proofs.Lexing.{lex-open, lex-close}
-use Rattle.sheets.specs.Places.{startOf, endOf, StringAt, HintAfter}
-use Rattle.sheets.proofs.Items.{string-item, other-item, unhinted-item, hint-inside, unfollowed-item, hinted-item}
+use Rattle.sheets.specs.Places.{startOf, endOf, StringAt}
+use Rattle.sheets.proofs.Items.{string-item}
 use Rattle.spelling.specs.Spelled.{cut}
 use Rattle.spelling.proofs.Filling.{Filling, fill-start, fill-room, fill-on, fill-done}
 use Rattle.writer.specs.Elements.{spelledOne, dueAfter}
+use Rattle.writer.specs.Hints.{HintAt}
 use Rattle.writer.specs.Sheets.{Sheet, Strings}
 use Rattle.writer.proofs.Lefts.{Left, left-start, left-end, left-never, Rest, after-lexeme}
 use Rattle.writer.proofs.Places.{Next, next-less, open-next, close-next, other-none, plain-order, plain-within, plain-next, hinted-strings, hinted-next}
-use Rattle.canonical.specs.declared.Item.the-variants.{Plain, Hinted, Other}
+use Rattle.canonical.specs.declared.Item.the-variants.{Plain, Hinted}
 
 pub record Writing (src : List ℕ) (at : ℕ) (due : Bool) (out₀ out : List ℕ) (o : ℕ) : Type 0 where
   pub rest : List ℕ
@@ -86,50 +87,37 @@ module _ (src : List ℕ) (at : ℕ) (due : Bool) (out₀ out : List ℕ) (o : �
       unfolding dueAfter
       open-written = write-by opening (at + 1) opens
 
-    module _ (a : getD src at 0 ≡ 40 → ⊥) where
-      module _ (b : getD src at 0 ≡ 41) where
-        closes : Next src at closing (at + 1)
-        closes = close-next src at h (lex-close src at h a b)
+    module _ (a : getD src at 0 ≡ 40 → ⊥) (b : getD src at 0 ≡ 41) where
+      closes : Next src at closing (at + 1)
+      closes = close-next src at h (lex-close src at h a b)
 
-        pub close-room : o < length out
-        close-room = omega (arith, write-room closing (at + 1) closes)
+      pub close-room : o < length out
+      close-room = omega (arith, write-room closing (at + 1) closes)
 
-        pub close-written : Writing src (at + 1) true out₀ (set out o 41) (o + 1)
-        unfolding dueAfter spelledOne
-        close-written = write-by closing (at + 1) closes (set out o 41) (o + 1) (front-one out o 41 close-room)
+      pub close-written : Writing src (at + 1) true out₀ (set out o 41) (o + 1)
+      unfolding dueAfter spelledOne
+      close-written = write-by closing (at + 1) closes (set out o 41) (o + 1) (front-one out o 41 close-room)
 
-      module _ (b : getD src at 0 ≡ 41 → ⊥) where
-        never : ItemAt src at Other → Front (advanced (the (decode₁ src))) 0 out₀ out o
-        never i = left-never src at due (w .rest) (w .left) h (other-none src at i)
+    module _ (x d : ℕ) (v : HintAt src at x d) where
+      pub no-data : d ≡ 0 → Front (advanced (the (decode₁ src))) 0 out₀ out o
+      no-data z = left-never src at due (w .rest) (w .left) h (other-none src at (v .none z))
 
-        pub no-other : (r : ℕ) → StringAt src at r → r ≤ 0 → (getD src at 0 ≡ 91 → ⊥) → Front (advanced (the (decode₁ src))) 0 out₀ out o
-        no-other r v z c = never (other-item src at h a b r v z c)
+      module _ (m : d ≡ 0 → ⊥) (from to s e : ℕ) (f : from ≡ startOf x) (q : to ≡ endOf x) (g : s ≡ startOf d) (k : e ≡ endOf d) where
+        hinted : ItemAt src at (Hinted from to s e)
+        hinted = rw (f, q, g, k) (v .some m)
 
-        module _ (c : getD src at 0 ≡ 91) (x : ℕ) (v : StringAt src (at + 1) x) where
-          pub no-hint : x ≡ 0 → Front (advanced (the (decode₁ src))) 0 out₀ out o
-          no-hint z = never (unhinted-item src at h a b c x v z)
+        next : Next src at (hinting (cut src from to) (cut src s e)) e
+        next = hinted-next src at from to s e hinted
 
-          module _ (n : x ≡ 0 → ⊥) (to : ℕ) (q : to ≡ endOf x) where
-            pub hint-within : to ≤ length src
-            hint-within = hint-inside src at h a b c x v n to q
+        pub both-strings : Strings src from to s e
+        both-strings = hinted-strings src at from to s e hinted
 
-            module _ (d : ℕ) (t : HintAfter src to d) where
-              pub no-data : d ≡ 0 → Front (advanced (the (decode₁ src))) 0 out₀ out o
-              no-data z = never (unfollowed-item src at h a b c x v n to q d t z)
+        pub both-less : length src - e < length src - at
+        both-less = next-less src at (hinting (cut src from to) (cut src s e)) e next
 
-              module _ (m : d ≡ 0 → ⊥) (from s e : ℕ) (f : from ≡ startOf x) (g : s ≡ startOf d) (k : e ≡ endOf d) where
-                hinted : ItemAt src at (Hinted from to s e)
-                hinted = rw (f, q, g, k) (hinted-item src at h a b c x v n to q d t m)
+        pub both-room : o + length (spelledOne due (hinting (cut src from to) (cut src s e))) + 16 ≤ length out
+        both-room = write-room (hinting (cut src from to) (cut src s e)) e next
 
-                pub both-strings : Strings src from to s e
-                both-strings = hinted-strings src at from to s e hinted
-
-                pub both-less : length src - e < length src - at
-                both-less = next-less src at (hinting (cut src from to) (cut src s e)) e (hinted-next src at from to s e hinted)
-
-                pub both-room : o + length (spelledOne due (hinting (cut src from to) (cut src s e))) + 16 ≤ length out
-                both-room = write-room (hinting (cut src from to) (cut src s e)) e (hinted-next src at from to s e hinted)
-
-                pub both-written : (out′ : List ℕ) (p : ℕ) → Front (spelledOne due (hinting (cut src from to) (cut src s e))) o out out′ p → Writing src e true out₀ out′ p
-                unfolding dueAfter
-                both-written = write-by (hinting (cut src from to) (cut src s e)) e (hinted-next src at from to s e hinted)
+        pub both-written : (out′ : List ℕ) (p : ℕ) → Front (spelledOne due (hinting (cut src from to) (cut src s e))) o out out′ p → Writing src e true out₀ out′ p
+        unfolding dueAfter
+        both-written = write-by (hinting (cut src from to) (cut src s e)) e next

@@ -1,6 +1,6 @@
 // Form 3 at the front of scratch: one pass over the lexemes. A space is due before an element that is not the first of its list.
 ghost use Prim.Native.Nat.{_+_, _≤_, _<_};
-ghost use lib.ListN.{length};
+ghost use lib.ListN.{length, getD};
 ghost use Rattle.model.specs.Answers.{the};
 ghost use Rattle.model.specs.Decode.{decode₁};
 ghost use Rattle.model.specs.Lexemes.{opening, atom, hinting};
@@ -10,6 +10,7 @@ ghost use Rattle.blocks.specs.Fronts.{Front};
 ghost use Rattle.spelling.specs.Spelled.{cut};
 ghost use Rattle.writer.specs.Sheets.{Sheet, Strings};
 ghost use Rattle.writer.specs.Elements.{gap, bracketed, spelledOne};
+ghost use Rattle.writer.specs.Hints.{Unplain, HintAt};
 use sheets::places::after_hint;
 use sheets::places::end_of;
 use sheets::places::start_of;
@@ -96,6 +97,21 @@ fn put_hinted(
     put_spelled(classes, src, start, end, out, p)
 }
 
+// The spans of a hint and of the string that it belongs to; 0 where there are none.
+fn hint_at(src: &[u8], at: usize) -> [usize; 2]
+    requires { ⌜ Unplain (now src) at ⌝ }
+    ensures { λ r. ⌜ HintAt (now (src .entry)) at (getD r 0 0) (getD r 1 0) ⌝ }
+{
+    if src[at] != 91 {
+        return [0, 0];
+    }
+    let hint = string_at(src, at + 1);
+    if hint == 0 {
+        return [0, 0];
+    }
+    [hint, after_hint(src, end_of(hint))]
+}
+
 // Form 3 of a sheet; the place after it.
 pub fn put_advanced(classes: &[u8; 256], src: &[u8], out: &mut [u8]) -> usize
     requires { ⌜ Classed (now classes) ⌝ }
@@ -129,16 +145,10 @@ pub fn put_advanced(classes: &[u8; 256], src: &[u8], out: &mut [u8]) -> usize
             at += 1;
             continue;
         }
-        // A sheet has no other lexeme, so that these three never come.
-        if b != 91 {
-            return o;
-        }
-        let hint = string_at(src, at + 1);
-        if hint == 0 {
-            return o;
-        }
-        let to = end_of(hint);
-        let data = after_hint(src, to);
+        let spans = hint_at(src, at);
+        let hint = spans[0];
+        let data = spans[1];
+        // A sheet has no other lexeme, so that this never comes.
         if data == 0 {
             return o;
         }
@@ -148,7 +158,7 @@ pub fn put_advanced(classes: &[u8; 256], src: &[u8], out: &mut [u8]) -> usize
             src,
             due,
             start_of(hint),
-            to,
+            end_of(hint),
             start_of(data),
             end,
             out,

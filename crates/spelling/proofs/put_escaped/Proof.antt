@@ -14,26 +14,11 @@ abbrev μ-loop : tie.MeasureT-loop
 loop-holds : tie.Need-loop-holds Inv-loop μ-loop
 loop-holds c = search (escape-start, arith)
 
-shared-slice-read-put-two : tie.Need-shared-slice-read-put-two Inv-loop μ-loop
-shared-slice-read-put-two c = search needs
-
 put-two-requires : tie.Need-put-two-requires Inv-loop μ-loop
 put-two-requires c κs = search (escape-room, arith)
 
-add-next : tie.Need-add-next Inv-loop μ-loop
-add-next c = search needs
-
-class-end-requires : tie.Need-class-end-requires Inv-loop μ-loop
-class-end-requires c κs = search needs
-
-sub-copy : tie.Need-sub-copy Inv-loop μ-loop
-sub-copy c = search needs
-
 copy-requires : tie.Need-copy-requires Inv-loop μ-loop
 copy-requires c κs = (search (copy-source, arith), search (copy-room, arith))
-
-loop-less : tie.Need-loop-less Inv-loop μ-loop
-loop-less c = search needs
 
 loop-again : tie.Need-loop-again Inv-loop μ-loop
 loop-again c = search (escape-on, arith)
@@ -51,13 +36,13 @@ put-escaped-spec =
     Inv-loop
     μ-loop
     loop-holds
-    shared-slice-read-put-two
+    (λ c. search needs)
     put-two-requires
-    add-next
-    class-end-requires
-    sub-copy
+    (λ c. search needs)
+    (λ c κs. search needs)
+    (λ c. search needs)
     copy-requires
-    loop-less
+    (λ c. search needs)
     loop-again
     same-length
     returns)

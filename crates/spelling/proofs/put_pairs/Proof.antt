@@ -14,17 +14,8 @@ abbrev μ-loop : tie.MeasureT-loop
 loop-holds : tie.Need-loop-holds Inv-loop μ-loop
 loop-holds c = search (pair-start, arith)
 
-shared-slice-read-put-pair : tie.Need-shared-slice-read-put-pair Inv-loop μ-loop
-shared-slice-read-put-pair c = search needs
-
 put-pair-requires : tie.Need-put-pair-requires Inv-loop μ-loop
 put-pair-requires c κs = search (pair-room, arith)
-
-add-i : tie.Need-add-i Inv-loop μ-loop
-add-i c = search needs
-
-loop-less : tie.Need-loop-less Inv-loop μ-loop
-loop-less c = search needs
 
 loop-again : tie.Need-loop-again Inv-loop μ-loop
 loop-again c = search (pair-on, arith)
@@ -42,10 +33,10 @@ put-pairs-spec =
     Inv-loop
     μ-loop
     loop-holds
-    shared-slice-read-put-pair
+    (λ c. search needs)
     put-pair-requires
-    add-i
-    loop-less
+    (λ c. search needs)
+    (λ c. search needs)
     loop-again
     same-length
     returns)

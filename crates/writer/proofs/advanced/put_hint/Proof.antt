@@ -4,20 +4,11 @@ use borrow.Author.Needs.{needs}
 use Rattle.writer.proofs.advanced.put_hint.Statement.{statement}
 use Rattle.writer.proofs.advanced.put_hint.Tie as tie
 
-slice-write-out : tie.Need-slice-write-out
-slice-write-out c = search needs
-
-add-put-spelled : tie.Need-add-put-spelled
-add-put-spelled c = search needs
-
 put-spelled-requires : tie.Need-put-spelled-requires
 put-spelled-requires c κs = (search needs, (search needs, search (mark-body, arith)))
 
 slice-write-out-2 : tie.Need-slice-write-out-2
 slice-write-out-2 c = search (mark-last, arith)
-
-add-result : tie.Need-add-result
-add-result c = search needs
 
 same-length : tie.Need-same-length
 same-length c = search (mark-long, arith)
@@ -29,10 +20,10 @@ pub put-hint-spec : {M : Type 1} → statement M
 put-hint-spec =
     tie.close
     (tie.spec
-    slice-write-out
-    add-put-spelled
+    (λ c. search needs)
+    (λ c. search needs)
     put-spelled-requires
     slice-write-out-2
-    add-result
+    (λ c. search needs)
     same-length
     returns)

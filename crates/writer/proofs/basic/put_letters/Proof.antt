@@ -15,17 +15,8 @@ abbrev μ-loop : tie.MeasureT-loop
 loop-holds : tie.Need-loop-holds Inv-loop μ-loop
 loop-holds c = search (letters-start, arith)
 
-sub-loop : tie.Need-sub-loop Inv-loop μ-loop
-sub-loop c = search needs
-
 put-group-requires : tie.Need-put-group-requires Inv-loop μ-loop
 put-group-requires c κs = (search needs, search (letters-room, arith))
-
-add-i : tie.Need-add-i Inv-loop μ-loop
-add-i c = search needs
-
-loop-less : tie.Need-loop-less Inv-loop μ-loop
-loop-less c = search needs
 
 loop-again : tie.Need-loop-again Inv-loop μ-loop
 loop-again c = search (letters-on, arith)
@@ -46,10 +37,10 @@ put-letters-spec =
     Inv-loop
     μ-loop
     loop-holds
-    sub-loop
+    (λ c. search needs)
     put-group-requires
-    add-i
-    loop-less
+    (λ c. search needs)
+    (λ c. search needs)
     loop-again
     put-rest-requires
     same-length
