@@ -4,3 +4,4 @@ pub mod Matching
 pub mod Lockstep
 pub mod SideBySide
 pub mod Answered
+pub mod Noting

@@ -1,3 +1,4 @@
 pub mod Numbers
 pub mod Alike
 pub mod Tokens
+pub mod Noted

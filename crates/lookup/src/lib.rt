@@ -1,5 +1,6 @@
 // Sheets looked into: whether octets are one, whether a table is its own, what a node shows, and two of them compared.
 mod alike;
+pub mod noted; // noted.rt: a sheet by its notes
 
 ghost use mathlib.Core.Path.{_≡_};
 ghost use Prim.Native.Nat.{_+_, _*_, _≤_, _<_};
@@ -12,6 +13,8 @@ ghost use Rattle.lookup.specs.Numbers.{InRecord};
 use answers::Comparing;
 use answers::Place;
 use answers::refused_comparing;
+pub use noted::note_sheet;
+pub use noted::place_by;
 use walk::Extent;
 
 // Whether the first `length` octets are one fitting canonical form (01: a sheet).
