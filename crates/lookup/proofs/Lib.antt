@@ -6,3 +6,4 @@ pub mod Lockstep
 pub mod SideBySide
 pub mod Spans
 pub mod Answered
+pub mod Noting

@@ -3,3 +3,4 @@ pub mod Alike
 pub mod Tokens
 pub mod Agreed
 pub mod Strings
+pub mod Noted

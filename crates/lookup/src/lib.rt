@@ -1,5 +1,6 @@
 // Sheets looked into: whether octets are one, whether a table is its own, what a node shows, and two of them compared.
 mod alike; // alike.rt: lexeme by lexeme
+pub mod noted; // noted.rt: a sheet by its notes
 mod parts; // parts.rt: octets compared
 
 ghost use mathlib.Core.Path.{_≡_};
@@ -14,6 +15,8 @@ ghost use Rattle.lookup.specs.Numbers.{InRecord};
 use answers::Comparing;
 use answers::Place;
 use answers::refused_comparing;
+pub use noted::note_sheet;
+pub use noted::place_by;
 use walk::Extent;
 
 // Whether the first `length` octets are one fitting canonical form (01: a sheet).

@@ -6,6 +6,7 @@ pub mod Sizes
 pub mod Tables
 pub mod Follows
 pub mod Tabling
+pub mod Comparing
 pub mod Shared
 pub mod Owning
 pub mod Replacing
@@ -15,3 +16,4 @@ pub mod Counting
 pub mod Flattening
 pub mod Filling
 pub mod Retelling
+pub mod Holding

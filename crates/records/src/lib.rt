@@ -1,6 +1,7 @@
-// The node table as a lent slice of records. Reading, replacing and showing work over a flat copy of it, eight numbers to a
-// record; the functions that take records are few and thin.
-mod flat;
+// The node table as a lent slice of records. Reading and showing go by the notes of a sheet, in local space; replacing works over a
+// flat copy of the table, eight numbers to a record. The functions that take records are few and thin.
+mod flat; // flat.rt: the flat copy
+mod told; // told.rt: the record that a note tells
 
 ghost use mathlib.Core.Path.{_≡_};
 ghost use Prim.Native.Nat.{_<_};
@@ -10,10 +11,9 @@ ghost use Rattle.model.specs.Limits.{maxNodes};
 ghost use Rattle.model.specs.Answers.{reading, replacing, hintPart, dataPart, hintShown, dataShown, shownOr};
 ghost use Rattle.answers.specs.Cases.{outcome, placed};
 ghost use Rattle.answers.specs.Shown.{Shows, shownAt};
-ghost use Rattle.records.specs.Numbers.{eight, numbers, placeOf};
-ghost use Rattle.sheets.specs.Rows.{rowList};
-ghost use Rattle.records.specs.Told.{countOf, toldAt, told, Tellable, Tells};
-ghost use Rattle.records.specs.Flat.{nil, spelled, written, filled, flattened, touched, held, Fills, Inside};
+ghost use Rattle.records.specs.Numbers.{numbers, placeOf};
+ghost use Rattle.records.specs.Told.{countOf, told, agreed, looked, Tells, Comparable};
+ghost use Rattle.records.specs.Flat.{spelled, written, filled, flattened, touched, held, Fills, Inside};
 use answers::Place;
 use answers::Reading;
 
@@ -78,54 +78,6 @@ fn fill(records: &mut [Record], flat: &[u32; limits::NUMBERS], r: Reading, old: 
     }
 }
 
-// A record with the numbers of a row.
-fn record_by(row: sheets::Row) -> Record
-    ensures { λ r. ⌜ eight r ≡ rowList row ⌝ }
-{
-    Record {
-        kind: row.kind,
-        start: row.start,
-        end: row.end,
-        nodes: row.nodes,
-        hint_start: row.hint_start,
-        hint_end: row.hint_end,
-        data_start: row.data_start,
-        data_end: row.data_end,
-    }
-}
-
-// A record of zeros.
-fn zero_record() -> Record
-    ensures { λ r. ⌜ r ≡ nil ⌝ }
-{
-    Record {
-        kind: 0,
-        start: 0,
-        end: 0,
-        nodes: 0,
-        hint_start: 0,
-        hint_end: 0,
-        data_start: 0,
-        data_end: 0,
-    }
-}
-
-// Record i after an answer: the one that its note tells, and zeros past the nodes.
-fn record_of(notes: &[usize; limits::NODES], r: Reading, i: usize) -> Record
-    requires { ⌜ Tellable (now notes) r i ⌝ }
-    ensures { λ z. ⌜ z ≡ toldAt (now (notes .entry)) (countOf r) i ⌝ }
-{
-    match r {
-        Reading::Accepted { length: _, nodes } => {
-            if i < nodes {
-                return record_by(sheets::row_of(notes, i));
-            }
-            zero_record()
-        }
-        Reading::Refused { refusal: _ } => zero_record(),
-    }
-}
-
 // The records that an answer touches become those that notes tell.
 fn tell(records: &mut [Record], notes: &[usize; limits::NODES], r: Reading, old: usize)
     requires { ⌜ Tells (now notes) r old (length (now records)) ⌝ }
@@ -134,10 +86,26 @@ fn tell(records: &mut [Record], notes: &[usize; limits::NODES], r: Reading, old:
     let n = flat::touched_by(r, old);
     let mut i: usize = 0;
     while i < n {
-        let z = record_of(notes, r, i);
+        let z = told::record_of(notes, r, i);
         records[i] = z;
         i += 1;
     }
+}
+
+// Whether the records in use are those that notes tell.
+fn holds(records: &[Record], notes: &[usize; limits::NODES], noted: bool, nodes: usize) -> bool
+    requires { ⌜ Comparable (now notes) noted nodes (length (now records)) ⌝ }
+    ensures { λ b. ⌜ b ≡ agreed (now (records .entry)) (now (notes .entry)) noted (looked noted nodes) ⌝ }
+{
+    let n = told::looked_at(noted, nodes);
+    let mut same = noted;
+    let mut k: usize = 0;
+    while k < n {
+        let r = records[k];
+        same = told::record_is(notes, k, r, same);
+        k += 1;
+    }
+    same
 }
 
 // The records in use are spelled out in `flat`.
@@ -205,9 +173,10 @@ pub fn place(
 ) -> Place
     ensures { λ r. ⌜ placed r ≡ placeOf hinted (now (canonical .entry)) length (numbers (now (records .entry))) nodes node ⌝ }
 {
-    let mut flat: [u32; limits::NUMBERS] = [0; limits::NUMBERS];
-    flatten(records, &mut flat, nodes);
-    flat::place(canonical, length, &flat, records.len(), nodes, node, hinted)
+    let mut notes: [usize; limits::NODES] = [0; limits::NODES];
+    let noted = lookup::note_sheet(canonical, length, &mut notes, records.len(), nodes);
+    let own = holds(records, &notes, noted, nodes);
+    lookup::place_by(&notes, nodes, node, own, hinted)
 }
 
 // The part of the sheet at a place, else what is given.

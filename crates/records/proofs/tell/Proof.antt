@@ -62,10 +62,10 @@ use Rattle.records.proofs.Counting.{counts}
 use Rattle.records.proofs.Spelled.{word, answerTy, recs, Notes, toNotes}
 use Rattle.records.proofs.Record as T
 use Rattle.records.proofs.Record.Laws as T′
-use Rattle.records.proofs.record_of as recording
-use Rattle.records.proofs.record_of.Symbol as record-def
-use Rattle.records.proofs.record_of.Symbol.{name as #records·record-of}
-use Rattle.records.proofs.record_of.Met as record-thm
+use Rattle.records.proofs.told.record_of as recording
+use Rattle.records.proofs.told.record_of.Symbol as record-def
+use Rattle.records.proofs.told.record_of.Symbol.{name as #records·record-of}
+use Rattle.records.proofs.told.record_of.Met as record-thm
 use Rattle.records.proofs.flat.touched_by as counting
 use Rattle.records.proofs.flat.touched_by.Symbol as counting-def
 use Rattle.records.proofs.flat.touched_by.Symbol.{name as #records·touched-by}
@@ -300,5 +300,5 @@ tell-spec 𝓤 H 𝓜 𝓖 𝓡 =
     entered 𝓤 H (tripleOf 𝓤 H (𝓖 .A) tell.signature (tell.spec 𝓤 H (𝓖 .A) (𝓜 .mem) (𝓡 .run)))
     (tables 𝓤 H 𝓜 𝓡 code.env .C) (tables 𝓤 H 𝓜 𝓡 code.env .Λ) #records·tell code.function (code.unfolded 𝓤 H 𝓜 𝓡)
     (meets 𝓤 H (𝓖 .A) (givenOf 𝓤 H 𝓜 𝓖) (𝓜 .mem) (𝓡 .run) (tablesOf 𝓤 H 𝓜 (tables 𝓤 H 𝓜 𝓡 code.env))
-    (cited 𝓤 H (Recording 𝓤 H (𝓖 .A) (𝓜 .mem) (𝓡 .run)) 𝓜 𝓡 code.env #records·record-of record-def.routine code.calls-records·record-of (record-thm.met 𝓤 H 𝓜 𝓖 𝓡))
+    (cited 𝓤 H (Recording 𝓤 H (𝓖 .A) (𝓜 .mem) (𝓡 .run)) 𝓜 𝓡 code.env #records·record-of record-def.routine code.calls-records·told·record-of (record-thm.met 𝓤 H 𝓜 𝓖 𝓡))
     (cited 𝓤 H (Counting 𝓤 H (𝓖 .A) (𝓜 .mem) (𝓡 .run)) 𝓜 𝓡 code.env #records·touched-by counting-def.routine code.calls-records·flat·touched-by (counting-thm.met 𝓤 H 𝓜 𝓖 𝓡)))

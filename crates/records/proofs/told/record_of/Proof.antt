@@ -1,8 +1,8 @@
 use Rattle.records.proofs.Tabling.{told-readable, told-row, told-zero, told-refused}
 use native.Mathlib.Omega.{arith}
 use borrow.Author.Needs.{needs}
-use Rattle.records.proofs.record_of.Statement.{statement}
-use Rattle.records.proofs.record_of.Tie as tie
+use Rattle.records.proofs.told.record_of.Statement.{statement}
+use Rattle.records.proofs.told.record_of.Tie as tie
 
 row-of-requires : tie.Need-row-of-requires
 row-of-requires c κs = search (told-readable, arith)
