@@ -226,6 +226,11 @@ class Frame:
         return None
 
 
+# How often a function may stand on the stack that calls itself. `reader::read` calls itself for basic text outside braces, with form 1,
+# for which it does not: the form is the measure by which it is proved to end.
+AT_MOST = {"reader::read": 2}
+
+
 class Stack:
     """An archive's functions, and what each takes at most."""
 
@@ -257,6 +262,8 @@ class Stack:
         Traceback (most recent call last):
         stack.Unclear: f calls itself: f, g, f
         """
+        if name in AT_MOST:
+            return self.repeated(name, above)
         if name in above:
             cycle = above[above.index(name):] + (name,)
             raise Unclear(f"{name} calls itself: {', '.join(cycle)}")
@@ -264,13 +271,23 @@ class Stack:
             self.outside.add(name)
             return 0, ()
         if name not in self.known:
-            frame = Frame(name, self.functions[name])
-            most = frame.deepest, (name,)
-            for callee, depth in frame.calls:
-                below, path = self.deepest(callee, above + (name,))
-                most = max(most, (depth + below, (name,) + path), key=lambda found: found[0])
-            self.known[name] = most
+            self.known[name] = self.along(name, above)
         return self.known[name]
+
+    def along(self, name, above):
+        """A function's own frame, or the deepest of those that it calls below it."""
+        frame = Frame(name, self.functions[name])
+        most = frame.deepest, (name,)
+        for callee, depth in frame.calls:
+            below, path = self.deepest(callee, above + (name,))
+            most = max(most, (depth + below, (name,) + path), key=lambda found: found[0])
+        return most
+
+    def repeated(self, name, above):
+        """A function that calls itself a known number of times at most: past that, nothing."""
+        if above.count(name) >= AT_MOST[name]:
+            return 0, ()
+        return self.along(name, above)
 
 
 def run(*words):
