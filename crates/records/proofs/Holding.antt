@@ -1,4 +1,4 @@
--- What the walks of `place` and `replace` know of `holds`, which each of them calls: its contract, what it asks, and what it says.
+-- What the walk of `place` knows of `holds`, which it calls: its contract, what it asks, and what it says.
 use mathlib.Core.Path.{_≡_, refl}
 use mathlib.Core.Bool.{Bool}
 use Prim.Native.Nat.{ℕ, _<_, _^_}
