@@ -4,17 +4,11 @@ use borrow.Author.Needs.{needs}
 use Rattle.lookup.proofs.same.Statement.{statement}
 use Rattle.lookup.proofs.same.Tie as tie
 
-sheet-requires : tie.Need-sheet-requires
-sheet-requires c κs = search needs
-
 copied-requires : tie.Need-copied-requires
 copied-requires c κs = search (sheet-lent, arith)
 
 returns : tie.Need-returns
 returns c = search (copied-same, arith)
-
-sheet-requires-2 : tie.Need-sheet-requires-2
-sheet-requires-2 c κs = search needs
 
 slice-aggregate-left : tie.Need-slice-aggregate-left
 slice-aggregate-left c = sheet-length _ _ _ (c .before .before .before .before .before .before .sheet .ensures) (c .before .before .before .before .before .if1 .taken)
@@ -24,12 +18,6 @@ slice-aggregate-right c = search (sheet-length, arith)
 
 alike-requires : tie.Need-alike-requires
 alike-requires c κs = two-sheets _ _ _ _ _ (c .before .before .before .before .before .before .before .sheet .ensures) (c .before .before .before .before .before .before .if1 .taken) _ (c .before .before .before .sheet2 .ensures) (c .before .before .if3 .taken)
-
-refused-comparing-requires : tie.Need-refused-comparing-requires
-refused-comparing-requires c κs = search needs
-
-refused-comparing-requires-2 : tie.Need-refused-comparing-requires-2
-refused-comparing-requires-2 c κs = search needs
 
 returns-2 : tie.Need-returns-2
 returns-2 c = search (compared, arith)
@@ -47,15 +35,15 @@ pub same-spec : {M : Type 1} → statement M
 same-spec =
     tie.close
     (tie.spec
-    sheet-requires
+    (λ c κs. search needs)
     copied-requires
     returns
-    sheet-requires-2
+    (λ c κs. search needs)
     slice-aggregate-left
     slice-aggregate-right
     alike-requires
-    refused-comparing-requires
-    refused-comparing-requires-2
+    (λ c κs. search needs)
+    (λ c κs. search needs)
     returns-2
     returns-3
     returns-4

@@ -19,23 +19,8 @@ loop-holds c = search (match-start, arith)
 returns : tie.Need-returns Inv-loop μ-loop
 returns c = search (match-short, arith)
 
-string-at-requires : tie.Need-string-at-requires Inv-loop μ-loop
-string-at-requires c κs = search needs
-
-string-at-requires-2 : tie.Need-string-at-requires-2 Inv-loop μ-loop
-string-at-requires-2 c κs = search needs
-
-both-there-requires : tie.Need-both-there-requires Inv-loop μ-loop
-both-there-requires c κs = search needs
-
 spans-match-requires : tie.Need-spans-match-requires Inv-loop μ-loop
 spans-match-requires c κs = (left-span _ _ _ _ _ (c .before .before .before .before .before .before .loop .inv) (c .before .before .before .before .before .loop-test .taken) (c .before .before .before .before .if1 .left) (c .before .before .before .string-at .result) (c .before .before .string-at2 .result) (c .before .before .before .string-at .ensures) (c .before .before .string-at2 .ensures) (c .before .both-there .result) (c .before .both-there .ensures) (c .if2 .taken), right-span _ _ _ _ _ (c .before .before .before .before .before .before .loop .inv) (c .before .before .before .before .before .loop-test .taken) (c .before .before .before .before .if1 .left) (c .before .before .before .string-at .result) (c .before .before .string-at2 .result) (c .before .before .before .string-at .ensures) (c .before .before .string-at2 .ensures) (c .before .both-there .result) (c .before .both-there .ensures) (c .if2 .taken))
-
-end-of-requires : tie.Need-end-of-requires Inv-loop μ-loop
-end-of-requires c κs = search needs
-
-end-of-requires-2 : tie.Need-end-of-requires-2 Inv-loop μ-loop
-end-of-requires-2 c κs = search needs
 
 loop-less : tie.Need-loop-less Inv-loop μ-loop
 loop-less c = search (spans-less, arith)
@@ -51,9 +36,6 @@ token-at-requires c κs = search (left-reads, arith)
 
 token-at-requires-2 : tie.Need-token-at-requires-2 Inv-loop μ-loop
 token-at-requires-2 c κs = search (right-reads, arith)
-
-tokens-match-requires : tie.Need-tokens-match-requires Inv-loop μ-loop
-tokens-match-requires c κs = search needs
 
 loop-less-2 : tie.Need-loop-less-2 Inv-loop μ-loop
 loop-less-2 c = search (match-less, arith)
@@ -75,18 +57,18 @@ alike-spec =
     μ-loop
     loop-holds
     returns
-    string-at-requires
-    string-at-requires-2
-    both-there-requires
+    (λ c κs. search needs)
+    (λ c κs. search needs)
+    (λ c κs. search needs)
     spans-match-requires
-    end-of-requires
-    end-of-requires-2
+    (λ c κs. search needs)
+    (λ c κs. search needs)
     loop-less
     loop-again
     returns-2
     token-at-requires
     token-at-requires-2
-    tokens-match-requires
+    (λ c κs. search needs)
     loop-less-2
     loop-again-2
     returns-3

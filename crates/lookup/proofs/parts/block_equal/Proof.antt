@@ -15,27 +15,6 @@ abbrev μ-loop : tie.MeasureT-loop
 loop-holds : tie.Need-loop-holds Inv-loop μ-loop
 loop-holds c = (search needs, search (block-none, arith))
 
-add-still : tie.Need-add-still Inv-loop μ-loop
-add-still c = search needs
-
-shared-slice-read-still : tie.Need-shared-slice-read-still Inv-loop μ-loop
-shared-slice-read-still c = search needs
-
-add-still-2 : tie.Need-add-still-2 Inv-loop μ-loop
-add-still-2 c = search needs
-
-shared-slice-read-still-2 : tie.Need-shared-slice-read-still-2 Inv-loop μ-loop
-shared-slice-read-still-2 c = search needs
-
-still-requires : tie.Need-still-requires Inv-loop μ-loop
-still-requires c κs = search needs
-
-add-k : tie.Need-add-k Inv-loop μ-loop
-add-k c = search needs
-
-loop-less : tie.Need-loop-less Inv-loop μ-loop
-loop-less c = search needs
-
 loop-again : tie.Need-loop-again Inv-loop μ-loop
 loop-again c = (search needs, search (block-on, arith))
 
@@ -49,12 +28,12 @@ block-equal-spec =
     Inv-loop
     μ-loop
     loop-holds
-    add-still
-    shared-slice-read-still
-    add-still-2
-    shared-slice-read-still-2
-    still-requires
-    add-k
-    loop-less
+    (λ c. search needs)
+    (λ c. search needs)
+    (λ c. search needs)
+    (λ c. search needs)
+    (λ c κs. search needs)
+    (λ c. search needs)
+    (λ c. search needs)
     loop-again
     returns)

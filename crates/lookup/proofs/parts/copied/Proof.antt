@@ -17,9 +17,6 @@ slice-aggregate-left c = search (front-length, arith)
 slice-aggregate-right : tie.Need-slice-aggregate-right
 slice-aggregate-right c = search (front-length, arith)
 
-parts-equal-requires : tie.Need-parts-equal-requires
-parts-equal-requires c κs = search needs
-
 returns-3 : tie.Need-returns-3
 returns-3 c = search (copied-by, arith)
 
@@ -31,5 +28,5 @@ copied-spec =
     returns-2
     slice-aggregate-left
     slice-aggregate-right
-    parts-equal-requires
+    (λ c κs. search needs)
     returns-3)

@@ -19,29 +19,11 @@ returns c = search (agree-longer, arith)
 loop-holds : tie.Need-loop-holds Inv-loop μ-loop
 loop-holds c = search (agree-start, arith)
 
-sub-loop : tie.Need-sub-loop Inv-loop μ-loop
-sub-loop c = search needs
-
-block-equal-requires : tie.Need-block-equal-requires Inv-loop μ-loop
-block-equal-requires c κs = search needs
-
-add-i : tie.Need-add-i Inv-loop μ-loop
-add-i c = search needs
-
-loop-less : tie.Need-loop-less Inv-loop μ-loop
-loop-less c = search needs
-
 loop-again : tie.Need-loop-again Inv-loop μ-loop
 loop-again c = search (block-same, arith)
 
 returns-2 : tie.Need-returns-2 Inv-loop μ-loop
 returns-2 c = search (block-differs, arith)
-
-rest-equal-requires : tie.Need-rest-equal-requires Inv-loop μ-loop
-rest-equal-requires c κs = search needs
-
-returns-3 : tie.Need-returns-3 Inv-loop μ-loop
-returns-3 c = search needs
 
 pub parts-equal-spec : {M : Type 1} → statement M
 parts-equal-spec =
@@ -51,11 +33,11 @@ parts-equal-spec =
     μ-loop
     returns
     loop-holds
-    sub-loop
-    block-equal-requires
-    add-i
-    loop-less
+    (λ c. search needs)
+    (λ c κs. search needs)
+    (λ c. search needs)
+    (λ c. search needs)
     loop-again
     returns-2
-    rest-equal-requires
-    returns-3)
+    (λ c κs. search needs)
+    (λ c. search needs))
