@@ -26,16 +26,16 @@
  *
  * Stack that a call takes at most, in octets (x86-64), besides what the C
  * library's memset and memcpy take:
- *   etg_read              84,080
- *   etg_read_records     215,184
- *   etg_write                528
+ *   etg_read              84,896
+ *   etg_read_records      84,000
+ *   etg_write             33,552
  *   etg_replace          116,576
  *   etg_replace_records  247,696
- *   etg_same                 240
+ *   etg_same                 912
  *   etg_hint              33,616
- *   etg_hint_records     164,704
+ *   etg_hint_records      33,616
  *   etg_data              33,616
- *   etg_data_records     164,704
+ *   etg_data_records      33,616
  *
  * Refusals. Every function but those that find a hint or data returns one of
  * these numbers. In a refusal the values given out are 0, and every lent
