@@ -24,6 +24,19 @@
  * flat, as numbers, or as records; each function that takes a table comes in
  * both ways and gives the same answers.
  *
+ * Stack that a call takes at most, in octets (x86-64), besides what the C
+ * library's memset and memcpy take:
+ *   etg_read              84,896
+ *   etg_read_records      84,000
+ *   etg_write             33,552
+ *   etg_replace          116,576
+ *   etg_replace_records  247,696
+ *   etg_same                 912
+ *   etg_hint              33,616
+ *   etg_hint_records      33,616
+ *   etg_data              33,616
+ *   etg_data_records      33,616
+ *
  * Refusals. Every function but those that find a hint or data returns one of
  * these numbers. In a refusal the values given out are 0, and every lent
  * buffer holds what it held.

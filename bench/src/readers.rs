@@ -7,7 +7,7 @@ use bench::gcrypt::Gcrypt;
 use bench::plain::Reader;
 use bench::report::{head, row, Cell};
 use bench::texts::{texts, Text};
-use etglavino::{MAX_CANONICAL, MAX_NODES, MAX_SOURCE, RECORD};
+use etglavino::{MAX_SOURCE, RECORD};
 
 /// What every reader is lent.
 struct Lent {
@@ -16,10 +16,10 @@ struct Lent {
 }
 
 impl Lent {
-    fn new() -> Lent {
+    fn to(text: &Text) -> Lent {
         Lent {
-            canonical: vec![0; MAX_CANONICAL],
-            table: vec![0; MAX_NODES * RECORD],
+            canonical: vec![0; text.octets],
+            table: vec![0; text.records * RECORD],
         }
     }
 }
@@ -45,7 +45,7 @@ pub fn table(gcrypt: Option<&Gcrypt>) {
 fn measure(text: &Text, gcrypt: Option<&Gcrypt>) {
     let source = &text.source[..];
     let mut copied = vec![0; MAX_SOURCE];
-    let [mut one, mut two, mut three, mut four] = [(); 4].map(|()| Lent::new());
+    let [mut one, mut two, mut three, mut four] = [(); 4].map(|()| Lent::to(text));
     let mut reader = Reader::new();
     let mut out = vec![0; 2 * MAX_SOURCE];
     let told = told(gcrypt, text);
@@ -88,7 +88,7 @@ fn measure(text: &Text, gcrypt: Option<&Gcrypt>) {
 pub fn repeat(reader: &str, name: &str, times: &str) -> Option<()> {
     let text = texts().into_iter().find(|text| text.name == name)?;
     let times: u64 = times.parse().ok()?;
-    let (mut lent, mut plain) = (Lent::new(), Reader::new());
+    let (mut lent, mut plain) = (Lent::to(&text), Reader::new());
     for _ in 0..times {
         match reader {
             "library" => library(&text, &mut lent),
@@ -117,7 +117,7 @@ fn library(text: &Text, lent: &mut Lent) {
 
 /// Why libgcrypt is not timed on a text, if it isn't.
 fn told(gcrypt: Option<&Gcrypt>, text: &Text) -> Option<&'static str> {
-    let mut lent = Lent::new();
+    let mut lent = Lent::to(text);
     let source = &text.source;
     let answer = etglavino::read_form(text.form, source, &mut lent.canonical, &mut lent.table);
     let length = answer.expect("a text that fits").length;

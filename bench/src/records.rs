@@ -4,11 +4,9 @@
 use std::hint::black_box;
 
 use bench::clock::race;
-use bench::report::{head, Cell};
-use bench::texts::{canonical_of, texts};
+use bench::report::{call_row, head, Cell};
+use bench::texts::{canonical_of, texts, SHORT};
 use etglavino::{Extent, Form, Record, MAX_CANONICAL, MAX_NODES, RECORD};
-
-const SHORT: &[u8] = b"(shift ann (from \"22:00\") (to \"06:00\"))";
 
 /// Prints the table.
 pub fn table() {
@@ -32,8 +30,7 @@ fn print(name: &str, octets: &[u8], calls: &mut [&mut dyn FnMut()]) {
         Cell::Time(records),
         Cell::Ratio(records, numbers),
     ];
-    let cells: Vec<String> = cells.iter().map(|cell| cell.show(1.0)).collect();
-    println!("| {name} | {} | {} |", octets.len(), cells.join(" | "));
+    call_row(name, octets.len(), &cells);
 }
 
 /// A sheet with its table, both ways.

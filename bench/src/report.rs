@@ -13,12 +13,12 @@ pub enum Cell {
 }
 
 impl Cell {
-    /// As it is shown, a time for each of so many octets.
-    pub fn show(&self, octets: f64) -> String {
+    /// As it is shown, a time in so many parts and with so many decimals.
+    pub fn show(&self, parts: f64, decimals: usize) -> String {
         match self {
             Cell::Time(figure) => {
-                let (best, median) = (figure.best / octets, figure.median / octets);
-                format!("{best:.3} / {median:.3}")
+                let (best, median) = (figure.best / parts, figure.median / parts);
+                format!("{best:.decimals$} / {median:.decimals$}")
             }
             Cell::Ratio(one, other) => {
                 let (best, median) = (one.best / other.best, one.median / other.median);
@@ -37,6 +37,15 @@ pub fn head(columns: &[&str]) {
 
 /// Prints a row, whose times are shown for each of so many octets.
 pub fn row(name: &str, octets: usize, cells: &[Cell]) {
-    let cells: Vec<String> = cells.iter().map(|cell| cell.show(octets as f64)).collect();
+    print(name, octets, cells, |cell| cell.show(octets as f64, 3));
+}
+
+/// Prints a row, whose times are shown for a call.
+pub fn call_row(name: &str, octets: usize, cells: &[Cell]) {
+    print(name, octets, cells, |cell| cell.show(1.0, 0));
+}
+
+fn print(name: &str, octets: usize, cells: &[Cell], show: impl Fn(&Cell) -> String) {
+    let cells: Vec<String> = cells.iter().map(show).collect();
     println!("| {name} | {octets} | {} |", cells.join(" | "));
 }

@@ -1,7 +1,7 @@
-//! The texts that are read, each of a tree whose canonical form nearly fills
-//! 16 KiB.
+//! The texts that are read: short ones, and ones of trees whose canonical form
+//! nearly fills 16 KiB.
 
-use etglavino::MAX_CANONICAL;
+use etglavino::{MAX_CANONICAL, MAX_NODES};
 use reference::base64;
 use reference::corpus::rng::Rng;
 use reference::entries::{self, Reading, Writing};
@@ -14,7 +14,14 @@ pub struct Text {
     pub form: u32,
     /// Its octets.
     pub source: Vec<u8>,
+    /// How many octets are lent for its canonical form.
+    pub octets: usize,
+    /// How many records are lent for its table.
+    pub records: usize,
 }
+
+/// A short text in advanced form, of nine nodes.
+pub const SHORT: &[u8] = b"(shift ann (from \"22:00\") (to \"06:00\"))";
 
 const LETTERS: &[u8] = b"abcdefghijklmnopqrstuvwxyz-";
 const WORDS: &[u8] = b"abcdefghijklmnopqrstuvwxyz 0123456789,.";
@@ -139,33 +146,44 @@ pub fn texts() -> Vec<Text> {
         Writing::Accepted { length } => basic.truncate(length),
         Writing::Refused(number) => panic!("refused {number}"),
     }
-    let advanced = |name, source| Text {
-        name,
-        form: 3,
-        source,
-    };
     vec![
-        Text {
-            name: "canonical form",
-            form: 1,
-            source: canonical,
-        },
-        Text {
-            name: "basic form",
-            form: 2,
-            source: basic,
-        },
-        advanced("tokens", tokens),
-        advanced("verbatim", list(token, verbatim)),
-        advanced("quoted", list(words, quoted)),
-        advanced("quoted, escapes", list(marked_words, quoted)),
-        advanced("hexadecimal", list(binary, hexadecimal)),
-        advanced("base-64", list(binary, base_64)),
-        advanced("mixed", mixed()),
-        advanced("one quoted", single(words, quoted)),
-        advanced("one hexadecimal", single(binary, hexadecimal)),
-        advanced("one base-64", single(binary, base_64)),
+        full("canonical form", 1, canonical),
+        full("basic form", 2, basic),
+        full("tokens", 3, tokens),
+        full("verbatim", 3, list(token, verbatim)),
+        full("quoted", 3, list(words, quoted)),
+        full("quoted, escapes", 3, list(marked_words, quoted)),
+        full("hexadecimal", 3, list(binary, hexadecimal)),
+        full("base-64", 3, list(binary, base_64)),
+        full("mixed", 3, mixed()),
+        full("one quoted", 3, single(words, quoted)),
+        full("one hexadecimal", 3, single(binary, hexadecimal)),
+        full("one base-64", 3, single(binary, base_64)),
+        short("short, canonical", 1, canonical_of(SHORT)),
+        short("short, advanced", 3, SHORT.to_vec()),
     ]
+}
+
+/// A text for which the most that a tree can take is lent.
+fn full(name: &'static str, form: u32, source: Vec<u8>) -> Text {
+    Text {
+        name,
+        form,
+        source,
+        octets: MAX_CANONICAL,
+        records: MAX_NODES,
+    }
+}
+
+/// A text for which 64 octets and 16 records are lent.
+fn short(name: &'static str, form: u32, source: Vec<u8>) -> Text {
+    Text {
+        name,
+        form,
+        source,
+        octets: 64,
+        records: 16,
+    }
 }
 
 /// The canonical octets of an advanced text that fits, by the reference program.

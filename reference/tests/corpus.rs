@@ -3,8 +3,9 @@
 use reference::corpus::case::Case;
 use reference::corpus::files::{self, Summary};
 use reference::corpus::rng::Rng;
-use reference::corpus::run::{self, digest, run};
+use reference::corpus::run::{digest, run, Buffer};
 use reference::corpus::{explain, fixed, wire};
+use reference::limits::RECORD;
 
 fn corpus(seed: u64, count: u64) -> (Vec<u8>, Vec<u8>, Summary) {
     let (mut cases, mut expected) = (Vec::new(), Vec::new());
@@ -43,7 +44,7 @@ fn the_files_agree() {
     assert!(again == octets);
     let lines: String = (0..)
         .zip(&cases)
-        .map(|(number, case)| run::lines(number, case))
+        .map(|(number, case)| run(case).line(number, case.name()))
         .collect();
     assert!(lines.as_bytes() == expected);
 }
@@ -119,26 +120,32 @@ fn one_case_octet_by_octet() {
     assert_eq!(table, 1_496_256_907);
     let line = "5 read 0 3 1 884943376 1496256907\n";
     assert_eq!(outcome.line(5, "read"), line);
-    // One record is lent, and the ninth number stays.
-    let records = "5 read_records 0 3 1 884943376 1496256907\n";
-    assert_eq!(run::lines(5, &cases[0]), line.to_string() + records);
     assert_eq!(wire::encode(&cases[0]), octets);
 }
 
-/// Document 01 gives records the same answers: a remainder plays no part, and
-/// is there afterwards.
+/// Numbers too few for a record play no part, and are there afterwards: so
+/// whatever takes a case over records is held to the same answer.
 #[test]
-fn records_have_the_answers_of_numbers() {
+fn a_remainder_plays_no_part() {
     let (mut tables, mut remainders) = (0, 0);
-    for mut case in files::cases(13, 2_000) {
-        let records = run::run_records(&case);
-        let Some(table) = case.table_mut() else {
-            assert!(records.is_none());
+    for case in files::cases(13, 2_000) {
+        let mut whole = case.clone();
+        let Some(table) = whole.table_mut() else {
             continue;
         };
+        let room = table.room / RECORD * RECORD;
+        let rest = table.buffer().split_off(room);
+        table.room = room;
+        table.given.truncate(room);
         tables += 1;
-        remainders += u32::from(table.room % 8 != 0);
-        assert_eq!(records, Some(run(&case)));
+        remainders += u32::from(!rest.is_empty());
+        let mut outcome = run(&whole);
+        for (_, buffer) in &mut outcome.buffers {
+            if let Buffer::Numbers(numbers) = buffer {
+                numbers.extend(&rest);
+            }
+        }
+        assert_eq!(outcome, run(&case));
     }
     assert!(tables > 1_000 && remainders > 100, "{tables} {remainders}");
 }

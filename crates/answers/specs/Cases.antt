@@ -1,6 +1,7 @@
--- 01's number and values for each case of an answer.
+-- Whether each case of an answer is an acceptance, and 01's number and values for it. They settle the case (proofs/Injective).
 use Prim.Native.Nat.{ℕ}
 use mathlib.Core.Path.{_≡_}
+use mathlib.Core.Bool.{true}
 use mathlib.Core.Option.{Option, none, some}
 use mathlib.Core.List.{List}
 use Rattle.model.specs.Limits.{Accepted}
@@ -16,17 +17,17 @@ use Rattle.answers.specs.declared.Place.the-variants as place
 
 -- the answer of reading or replacing, with what both lent buffers hold afterwards
 unfoldable pub outcome : Reading → List ℕ → List ℕ → Outcome
-outcome (reading.Accepted len count) canonical table = record { number = Accepted; octets = len; count = count; canonical = canonical; table = table }
+outcome (reading.Accepted len count) canonical table = record { accepted = true; number = Accepted; octets = len; count = count; canonical = canonical; table = table }
 outcome (reading.Refused f) canonical table = unchanged (f .number) canonical table
 
 -- the answer of writing, with what the lent output holds afterwards
 unfoldable pub output : Writing → List ℕ → Output
-output (writing.Accepted len) out = record { number = Accepted; octets = len; out = out }
+output (writing.Accepted len) out = record { accepted = true; number = Accepted; octets = len; out = out }
 output (writing.Refused f) out = unwritten (f .number) out
 
 -- the answer of comparing
 unfoldable pub told : Comparing → Comparison
-told (comparing.Accepted s) = record { number = Accepted; yes = s }
+told (comparing.Accepted s) = record { accepted = true; number = Accepted; yes = s }
 told (comparing.Refused f) = uncompared (f .number)
 
 -- the part of a sheet that is shown, if one is

@@ -1,12 +1,9 @@
-// Canonical text: the lexeme at a place, and the sizes of the tree that a text is.
+// Canonical text: the lexeme at a place.
 ghost use Prim.Native.Nat.{_≤_, _<_};
 ghost use lib.ListN.{length};
 ghost use Rattle.model.specs.Limits.{maxSource};
 ghost use Rattle.canonical.specs.Lexed.{Follows, Spans, Closes, ItemAt};
-ghost use Rattle.model.specs.Decode.{decode₁};
-ghost use Rattle.walk.specs.Extent.{Measures};
 use decimal::Number;
-use walk::Extent;
 
 // Where the octets of a verbatim string stand.
 pub enum Span {
@@ -116,63 +113,6 @@ pub fn lexeme_at(src: &[u8], at: usize) -> Item
         match verbatim_at(src, at) {
             Span::Is { start, end } => Item::Plain { start, end },
             Span::Not => Item::Other,
-        }
-    }
-}
-
-// The sizes of the tree that a text is. No limit plays a part.
-pub fn measure(src: &[u8]) -> Extent
-    requires { ⌜ length (now src) ≤ maxSource ⌝ }
-    ensures { λ r. ⌜ Measures (decode₁ (now (src .entry))) r ⌝ }
-{
-    let mut at: usize = 0;
-    let mut opened: usize = 0;
-    let mut deepest: usize = 0;
-    let mut seen: usize = 0;
-    loop {
-        if walk::closed(opened, seen) {
-            if at < src.len() {
-                return Extent::Refused;
-            }
-            return Extent::Whole {
-                len: at,
-                nodes: seen,
-                depth: deepest,
-            };
-        }
-        if at >= src.len() {
-            return Extent::Refused;
-        }
-        match lexeme_at(src, at) {
-            Item::Open => {
-                opened += 1;
-                deepest = walk::larger(deepest, opened);
-                seen += 1;
-                at += 1;
-            }
-            Item::Close => {
-                if opened == 0 {
-                    return Extent::Refused;
-                }
-                opened -= 1;
-                at += 1;
-            }
-            Item::Plain { start: _, end } => {
-                seen += 1;
-                at = end;
-            }
-            Item::Hinted {
-                hint_start: _,
-                hint_end: _,
-                start: _,
-                end,
-            } => {
-                seen += 1;
-                at = end;
-            }
-            Item::Other => {
-                return Extent::Refused;
-            }
         }
     }
 }

@@ -1,4 +1,5 @@
 pub mod Rows
+pub mod Numbers
 pub mod Rooms
 pub mod Read
 pub mod Written
@@ -8,3 +9,4 @@ pub mod Refused
 pub mod Afresh
 pub mod Records
 pub mod Lent
+pub mod Space

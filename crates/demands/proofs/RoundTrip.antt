@@ -22,6 +22,7 @@ pub reads-back : (form : ℕ) (c : List ℕ) (n : ℕ) (out canonical table : Li
     → Bytes (take n c) → writing form c n out .number ≡ 0 → n ≤ length canonical → nodes (the (sheetTree c n)) ≤ records table
     → reading form (take (writing form c n out .octets) (writing form c n out .out)) canonical table
     ≡ record {
+      accepted = true;
       number = 0;
       octets = n;
       count = nodes (the (sheetTree c n));

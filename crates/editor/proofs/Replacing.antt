@@ -2,6 +2,7 @@
 use Prim.Native.Nat.{ℕ, _+_, _*_, _-_, _≤_}
 use native.Mathlib.Omega.{arith}
 use mathlib.Core.Path.{_≡_, sym, ap, ap₂, _∙_, subst}
+use mathlib.Core.Bool.{true}
 use mathlib.Core.Option.{Option, none, some}
 use mathlib.Core.List.{List, _++_}
 use lib.ListN.{length, take, drop, replicate, length-take}
@@ -36,8 +37,8 @@ use Rattle.plan.specs.declared.Plan.{Plan}
 use Rattle.plan.specs.declared.Plan.the-variants.{Fits, Misfit}
 
 same-outcome : {a a′ b b′ : ℕ} {c c′ d d′ : List ℕ} → a ≡ a′ → b ≡ b′ → c ≡ c′ → d ≡ d′
-    → _≡_ {A = Outcome} (record { number = Accepted; octets = a; count = b; canonical = c; table = d }) (record { number = Accepted; octets = a′; count = b′; canonical = c′; table = d′ })
-same-outcome p q r s = λ i. record { number = Accepted; octets = p i; count = q i; canonical = r i; table = s i }
+    → _≡_ {A = Outcome} (record { accepted = true; number = Accepted; octets = a; count = b; canonical = c; table = d }) (record { accepted = true; number = Accepted; octets = a′; count = b′; canonical = c′; table = d′ })
+same-outcome p q r s = λ i. record { accepted = true; number = Accepted; octets = p i; count = q i; canonical = r i; table = s i }
 
 -- the octets of the sheet with its node k replaced
 module _ (canonical : List ℕ) (len : ℕ) (table : List ℕ) (count start end n : ℕ) (t : Tree) (k : ℕ) (a : AtNode len table count start end n t k) (u : Tree) where

@@ -97,15 +97,39 @@ pub fn replace(
     let letters = octets::letters();
     if text.len() <= limits::SHORT {
         return tiers::replace_short(
-            &classes, &letters, form, text, canonical, table, length, nodes, node,
+            &classes,
+            &letters,
+            form,
+            text,
+            canonical,
+            table,
+            length,
+            nodes,
+            node,
         );
     }
     if text.len() <= limits::MIDDLE {
         return tiers::replace_middle(
-            &classes, &letters, form, text, canonical, table, length, nodes, node,
+            &classes,
+            &letters,
+            form,
+            text,
+            canonical,
+            table,
+            length,
+            nodes,
+            node,
         );
     }
     tiers::replace_long(
-        &classes, &letters, form, text, canonical, table, length, nodes, node,
+        &classes,
+        &letters,
+        form,
+        text,
+        canonical,
+        table,
+        length,
+        nodes,
+        node,
     )
 }

@@ -7,8 +7,8 @@ ghost use Rattle.answers.specs.Cases.{outcome};
 ghost use Rattle.octets.specs.Classes.{Classed, Lettered};
 ghost use Rattle.texts.specs.Texts.{Formed};
 ghost use Rattle.plan.specs.Planned.{replaceTree};
-use answers::Reading;
 use crate::replace_in;
+use answers::Reading;
 
 pub fn replace_short(
     classes: &[u8; 256],

@@ -3,6 +3,7 @@
 ghost use mathlib.Core.Path.{_≡_};
 ghost use Rattle.model.specs.Answers.{reading, replacing, writing, comparing, hintPart, dataPart, hintShown, dataShown};
 ghost use Rattle.answers.specs.Cases.{outcome, output, told, placed};
+ghost use Rattle.answers.specs.Shown.{Shows, shownAt};
 use answers::Comparing;
 use answers::Place;
 use answers::Reading;
@@ -57,12 +58,12 @@ pub fn hint<'a>(
     node: usize,
     default_hint: &'a [u8],
 ) -> &'a [u8]
-    ensures { λ r. ⌜ now r ≡ hintShown (now (canonical .entry)) length (now (table .entry)) nodes node (now («default_hint» .entry)) ⌝ }
+    ensures { λ r. ⌜ Shows r (hintShown (now (canonical .entry)) length (now (table .entry)) nodes node (now («default_hint» .entry))) (shownAt (hintPart (now (canonical .entry)) length (now (table .entry)) nodes node) (canonical .entry .ptr) («default_hint» .entry .ptr)) ⌝ }
 {
     lookup::hint(canonical, length, table, nodes, node, default_hint)
 }
 
-// A node's data: the part of the sheet that holds it, else an empty part.
+// A node's data: the part of the sheet that holds it, else an empty part at the sheet's front.
 pub fn data<'a>(
     canonical: &'a [u8],
     length: usize,
@@ -70,7 +71,7 @@ pub fn data<'a>(
     nodes: usize,
     node: usize,
 ) -> &'a [u8]
-    ensures { λ r. ⌜ now r ≡ dataShown (now (canonical .entry)) length (now (table .entry)) nodes node ⌝ }
+    ensures { λ r. ⌜ Shows r (dataShown (now (canonical .entry)) length (now (table .entry)) nodes node) (shownAt (dataPart (now (canonical .entry)) length (now (table .entry)) nodes node) (canonical .entry .ptr) (canonical .entry .ptr)) ⌝ }
 {
     lookup::data(canonical, length, table, nodes, node)
 }

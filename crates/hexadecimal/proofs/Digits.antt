@@ -107,3 +107,7 @@ value-is b h =
 
 pub value-digit : (b : ℕ) → hexval b < 16 → Digit b (b % 16 + b / 64 * 9)
 value-digit b h = record { is = value-is b h; low = omega (arith, value-is b h) }
+
+-- the closing mark, with no whitespace before it
+pub hash-here : (src : List ℕ) (at : ℕ) → at < length src → getD src at 0 ≡ 35 → Pairs src at (Hash (at + 1))
+hash-here src at h z = pair-hash src at at (skip-here src at h (rw z hash-unwhite)) h z

@@ -1,30 +1,25 @@
--- The letter of a value as one sum: one computed test for all 64 values.
-use Prim.Native.Nat.{ℕ, _+_, _*_, _-_, _/_, _≤_, _<_}
+-- The list of letters agrees with the alphabet, by one computed test.
+use Prim.Native.Nat.{ℕ}
 use mathlib.Core.Path.{_≡_, refl}
-use mathlib.Core.Bool.{Bool, true}
-use lib.Dec.{leb, eqb}
-use borrow.Author.Tests.{eqb-true, leb-true}
-use Rattle.base.specs.Choice.{both}
+use mathlib.Core.Bool.{true}
+use mathlib.Core.List.{List, [], _∷_}
+use lib.ListN.{getD}
+use lib.Dec.{eqb}
+use borrow.Author.Tests.{eqb-true}
 use Rattle.base.proofs.Below.{below, below-at}
-use Rattle.base.proofs.Cases.{both-true}
 use Rattle.model.specs.Write.{letterOf}
+use Rattle.letters.specs.Groups.{Alphabet}
 
-abbrev high : ℕ → ℕ
-high v = 65 + v + (v + 38) / 64 * 6 + (v + 1) / 64 * 3 - (v + 12) / 64 * 75
+unfoldable pub letterTable : List ℕ
+letterTable =
+    65 ∷ 66 ∷ 67 ∷ 68 ∷ 69 ∷ 70 ∷ 71 ∷ 72 ∷ 73 ∷ 74 ∷ 75 ∷ 76 ∷ 77 ∷ 78 ∷ 79 ∷ 80
+    ∷ 81 ∷ 82 ∷ 83 ∷ 84 ∷ 85 ∷ 86 ∷ 87 ∷ 88 ∷ 89 ∷ 90 ∷ 97 ∷ 98 ∷ 99 ∷ 100 ∷ 101 ∷ 102
+    ∷ 103 ∷ 104 ∷ 105 ∷ 106 ∷ 107 ∷ 108 ∷ 109 ∷ 110 ∷ 111 ∷ 112 ∷ 113 ∷ 114 ∷ 115 ∷ 116 ∷ 117 ∷ 118
+    ∷ 119 ∷ 120 ∷ 121 ∷ 122 ∷ 48 ∷ 49 ∷ 50 ∷ 51 ∷ 52 ∷ 53 ∷ 54 ∷ 55 ∷ 56 ∷ 57 ∷ 43 ∷ 47 ∷ []
 
-abbrev agrees : ℕ → Bool
-agrees v = both (leb ((v + 2) / 64 * 15) (high v)) (eqb (high v - (v + 2) / 64 * 15) (letterOf v))
-
-tested : below 64 agrees ≡ true
-unfolding below letterOf
+tested : below 64 (λ v. eqb (getD letterTable v 0) (letterOf v)) ≡ true
+unfolding below letterTable letterOf
 tested = refl
 
-module _ (v : ℕ) (k : v < 64) where
-  agreed : (leb ((v + 2) / 64 * 15) (high v) ≡ true) × (eqb (high v - (v + 2) / 64 * 15) (letterOf v) ≡ true)
-  agreed = both-true (below-at 64 agrees tested v k)
-
-  pub letter-room : (v + 2) / 64 * 15 ≤ 65 + v + (v + 38) / 64 * 6 + (v + 1) / 64 * 3 - (v + 12) / 64 * 75
-  letter-room = leb-true _ _ (agreed .0)
-
-  pub letter-sum : 65 + v + (v + 38) / 64 * 6 + (v + 1) / 64 * 3 - (v + 12) / 64 * 75 - (v + 2) / 64 * 15 ≡ letterOf v
-  letter-sum = eqb-true _ _ (agreed .1)
+pub lettered : Alphabet letterTable
+lettered = record { at = λ v h. eqb-true _ _ (below-at 64 (λ v. eqb (getD letterTable v 0) (letterOf v)) tested v h) }

@@ -24,12 +24,16 @@ pub const NUMBERS: usize = NODES * WIDTH;
 
 // Octets of a short text, of its scratch, and its notes.
 pub const SHORT: usize = 128;
+
 pub const SHORT_SCRATCH: usize = 3 * SHORT + 64;
+
 pub const SHORT_NOTES: usize = 3 * SHORT / 2;
 
 // The same of one of middle length.
 pub const MIDDLE: usize = 1024;
+
 pub const MIDDLE_SCRATCH: usize = 3 * MIDDLE + 64;
+
 pub const MIDDLE_NOTES: usize = 3 * MIDDLE / 2;
 
 // Octets of scratch for the longest: what is written past the largest sheet starts again at the front.

@@ -1,57 +1,18 @@
--- Two parts compared, and two lexemes.
-use Prim.Native.Nat.{ℕ, _+_, _-_, _≤_, _<_}
+-- Two lexemes compared.
+use Prim.Native.Nat.{ℕ, _-_, _≤_, _<_}
 use native.Mathlib.Omega.{arith}
 use mathlib.Core.Path.{_≡_, sym, ap, ap₂, _∙_}
 use mathlib.Core.Bool.{Bool, true, false}
 use mathlib.Core.List.{List}
-use lib.ListN.{length, take, drop, getD}
-use lib.Seq.{ext-getD}
+use lib.ListN.{length, take, drop}
 use lib.Dec.{eqb}
 use borrow.Author.Tests.{eq-eqb, ne-eqb}
 use Rattle.base.specs.Choice.{pick, equal}
 use Rattle.base.proofs.Cases.{by-bool, by-eq, picked, unpicked}
-use Rattle.base.proofs.Lists.{equal-true, same-equal}
 use Rattle.model.specs.Lexemes.{opening, closing, atom, hinting}
 use Rattle.lookup.specs.Alike.{kindOf, hintOr, dataOf, matches}
 use Rattle.lookup.specs.Tokens.{partOf, lexemeOf, hintIn, Lies}
 use Rattle.lookup.specs.declared.alike.Token.{Token}
-
--- ---- parts
-
-unequal : (a b : List ℕ) → (a ≡ b → ⊥) → false ≡ equal a b
-unequal a b n = by-bool (equal a b) (λ t. absurd (n (equal-true a b t))) (λ t. sym t)
-
--- the octets up to a place are the same
-pub record Agree (a b : List ℕ) (i : ℕ) : Type 0 where
-  pub long : length a ≡ length b
-  pub inside : i ≤ length a
-  pub each : (k : ℕ) → k < i → getD a k 0 ≡ getD b k 0
-
-module _ (a b : List ℕ) where
-  pub agree-longer : (length a ≡ length b → ⊥) → false ≡ equal a b
-  agree-longer n = unequal a b (λ e. n (ap length e))
-
-  pub agree-start : length a ≡ length b → Agree a b 0
-  agree-start e = record { long = e; inside = omega arith; each = λ k h. absurd (omega arith) }
-
-  module _ (i : ℕ) (w : Agree a b i) where
-    pub agree-end : length a ≤ i → true ≡ equal a b
-    agree-end h = sym (same-equal a b (ext-getD 0 a b (w .long) (λ k l. w .each k (omega arith))))
-
-    module _ (h : i < length a) where
-      pub agree-in : i < length b
-      agree-in = omega (arith, w .long)
-
-      pub agree-differ : (getD a i 0 ≡ getD b i 0 → ⊥) → false ≡ equal a b
-      agree-differ n = unequal a b (λ e. n (ap (λ (l : List ℕ). getD l i 0) e))
-
-      pub agree-on : getD a i 0 ≡ getD b i 0 → Agree a b (i + 1)
-      agree-on e =
-          record {
-            long = w .long;
-            inside = omega arith;
-            each = λ k l. by-eq k i (λ z. ap (λ (x : ℕ). getD a x 0) z ∙ e ∙ ap (λ (x : ℕ). getD b x 0) (sym z)) (λ z. w .each k (omega arith));
-          }
 
 -- ---- hints
 

@@ -17,6 +17,7 @@ use Rattle.model.specs.Tree.{Tree, plain, hinted, list, Forest, nil, cons, verb
 use Rattle.model.proofs.Sizes.{verbatim-length}
 use Rattle.walk.proofs.Tabled.{rows-length}
 use Rattle.answers.specs.Cases.{placed}
+use Rattle.answers.specs.Shown.{shownAt}
 use Rattle.lookup.specs.Numbers.{InRecord}
 use Rattle.lookup.proofs.Sheets.{tree-of, none-of, Own, own-of, own-lent}
 use Rattle.answers.specs.declared.Place.{Place}
@@ -210,6 +211,10 @@ module _ (c : List ℕ) (n : ℕ) (table : List ℕ) (m node : ℕ) where
       unfolding hintShown shownOr placed
       hint-default d q = let z : hintPart c n table m node ≡ none = sym w ∙ ap placed q in rw z
 
+      pub hint-default-at : (x y : ℕ × ℕ) → r ≡ NoPart → y ≡ shownAt (hintPart c n table m node) x y
+      unfolding shownAt placed
+      hint-default-at x y q = let z : hintPart c n table m node ≡ none = sym w ∙ ap placed q in rw z
+
       module _ (s e : ℕ) (q : r ≡ Part s e) where
         hint-is : hintPart c n table m node ≡ some (part s e)
         unfolding placed
@@ -225,10 +230,21 @@ module _ (c : List ℕ) (n : ℕ) (table : List ℕ) (m node : ℕ) where
         unfolding hintShown shownOr octetsAt
         hint-shown d = rw hint-is
 
+        pub hint-at : (x y : ℕ × ℕ) → (x .0, s + x .1) ≡ shownAt (hintPart c n table m node) x y
+        unfolding shownAt
+        hint-at x y = rw hint-is
+
     module _ (w : placed r ≡ dataPart c n table m node) where
       pub data-none : r ≡ NoPart → [] ≡ dataShown c n table m node
       unfolding dataShown shownOr placed
       data-none q = let z : dataPart c n table m node ≡ none = sym w ∙ ap placed q in rw z
+
+      pub data-none-at : (x : ℕ × ℕ) → r ≡ NoPart → (x .0, 0 + x .1) ≡ shownAt (dataPart c n table m node) x x
+      unfolding shownAt placed
+      data-none-at x q =
+          let z : dataPart c n table m node ≡ none = sym w ∙ ap placed q in
+          let e : 0 + x .1 ≡ x .1 = omega arith in
+          rw z (λ i. (x .0, e i))
 
       module _ (s e : ℕ) (q : r ≡ Part s e) where
         data-is : dataPart c n table m node ≡ some (part s e)
@@ -244,3 +260,7 @@ module _ (c : List ℕ) (n : ℕ) (table : List ℕ) (m node : ℕ) where
         pub data-shown : take (e - s) (drop s c) ≡ dataShown c n table m node
         unfolding dataShown shownOr octetsAt
         data-shown = rw data-is
+
+        pub data-at : (x y : ℕ × ℕ) → (x .0, s + x .1) ≡ shownAt (dataPart c n table m node) x y
+        unfolding shownAt
+        data-at x y = rw data-is

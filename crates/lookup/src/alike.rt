@@ -7,7 +7,12 @@ ghost use Rattle.model.specs.Decode.{decode₁};
 ghost use Rattle.model.specs.Answers.{the};
 ghost use Rattle.lookup.specs.Alike.{matches};
 ghost use Rattle.lookup.specs.Tokens.{mark, lexemeOf, hintIn, partOf, Lies, Readable, TokenAt, Sheets};
+ghost use Rattle.lookup.specs.Strings.{Both, Span, spanned};
+use super::parts::parts_equal;
 use canonical::Item;
+use sheets::places::end_of;
+use sheets::places::start_of;
+use sheets::places::string_at;
 
 // A lexeme: 0 an opening parenthesis, 1 a closing one, 2 a string. A string's octets stand from start to end,
 // those of its hint from `from` to `to`. The next lexeme begins at next.
@@ -72,23 +77,6 @@ fn token_at(src: &[u8], at: usize) -> Token
     }
 }
 
-// Whether two parts hold the same octets.
-fn parts_equal(a: &[u8], b: &[u8]) -> bool
-    ensures { λ r. ⌜ r ≡ equal (now (a .entry)) (now (b .entry)) ⌝ }
-{
-    if a.len() != b.len() {
-        return false;
-    }
-    let mut i: usize = 0;
-    while i < a.len() {
-        if a[i] != b[i] {
-            return false;
-        }
-        i += 1;
-    }
-    true
-}
-
 // The octets of a string.
 fn data_of(src: &[u8], token: Token) -> &[u8]
     requires { ⌜ Lies (length (now src)) token ⌝ }
@@ -149,6 +137,27 @@ fn tokens_match(a: &[u8], left: Token, b: &[u8], right: Token, default_hint: &[u
     }
 }
 
+// Whether two spans are both there.
+fn both_there(left: usize, right: usize) -> bool
+    ensures { λ r. ⌜ Both left right r ⌝ }
+{
+    if left == 0 { false } else { right > 0 }
+}
+
+// Whether two strings without hints have the same octets.
+fn spans_match(a: &[u8], left: usize, b: &[u8], right: usize) -> bool
+    requires { ⌜ Span (length (now a)) left × Span (length (now b)) right ⌝ }
+    ensures { λ r. ⌜ r ≡ equal (spanned (now (a .entry)) left) (spanned (now (b .entry)) right) ⌝ }
+{
+    let start = start_of(left);
+    let end = end_of(left);
+    let first = start_of(right);
+    let last = end_of(right);
+    let left_data = &a[start..end];
+    let right_data = &b[first..last];
+    parts_equal(left_data, right_data)
+}
+
 // Whether two sheets are the same. Each is one whole tree, so they have the same shape where their lexemes match to the end.
 pub fn alike(a: &[u8], b: &[u8], default_hint: &[u8]) -> bool
     requires { ⌜ Sheets (now a) (now b) ⌝ }
@@ -158,6 +167,17 @@ pub fn alike(a: &[u8], b: &[u8], default_hint: &[u8]) -> bool
     let mut j: usize = 0;
     while i < a.len() {
         if j >= b.len() {
+            return false;
+        }
+        // Strings without hints are nearly all there is.
+        let span = string_at(a, i);
+        let other = string_at(b, j);
+        if both_there(span, other) {
+            if spans_match(a, span, b, other) {
+                i = end_of(span);
+                j = end_of(other);
+                continue;
+            }
             return false;
         }
         let left = token_at(a, i);

@@ -1,5 +1,7 @@
 // Sheets looked into: whether octets are one, whether a table is its own, what a node shows, and two of them compared.
-mod alike;
+mod alike; // alike.rt: lexeme by lexeme
+pub mod noted; // noted.rt: a sheet by its notes
+mod parts; // parts.rt: octets compared
 
 ghost use mathlib.Core.Path.{_≡_};
 ghost use Prim.Native.Nat.{_+_, _*_, _≤_, _<_};
@@ -8,10 +10,13 @@ ghost use Rattle.model.specs.Table.{width};
 ghost use Rattle.base.specs.Choice.{not, isNone};
 ghost use Rattle.model.specs.Answers.{sheetTree, ownTree, hintPart, dataPart, hintShown, dataShown, comparing};
 ghost use Rattle.answers.specs.Cases.{placed, told};
+ghost use Rattle.answers.specs.Shown.{Shows, shownAt};
 ghost use Rattle.lookup.specs.Numbers.{InRecord};
 use answers::Comparing;
 use answers::Place;
 use answers::refused_comparing;
+pub use noted::note_sheet;
+pub use noted::place_by;
 use walk::Extent;
 
 // Whether the first `length` octets are one fitting canonical form (01: a sheet).
@@ -25,7 +30,7 @@ pub fn sheet(canonical: &[u8], length: usize) -> bool
         return false;
     }
     let part = &canonical[..length];
-    match canonical::measure(part) {
+    match sheets::measure(part) {
         Extent::Whole {
             len: _,
             nodes,
@@ -126,7 +131,7 @@ pub fn hint<'a>(
     node: usize,
     default_hint: &'a [u8],
 ) -> &'a [u8]
-    ensures { λ r. ⌜ now r ≡ hintShown (now (canonical .entry)) length (now (table .entry)) nodes node (now («default_hint» .entry)) ⌝ }
+    ensures { λ r. ⌜ Shows r (hintShown (now (canonical .entry)) length (now (table .entry)) nodes node (now («default_hint» .entry))) (shownAt (hintPart (now (canonical .entry)) length (now (table .entry)) nodes node) (canonical .entry .ptr) («default_hint» .entry .ptr)) ⌝ }
 {
     match hint_place(canonical, length, table, nodes, node) {
         Place::Part { start, end } => &canonical[start..end],
@@ -134,7 +139,7 @@ pub fn hint<'a>(
     }
 }
 
-// A node's data: the part of the sheet that holds it, else an empty part.
+// A node's data: the part of the sheet that holds it, else an empty part at the sheet's front.
 pub fn data<'a>(
     canonical: &'a [u8],
     length: usize,
@@ -142,7 +147,7 @@ pub fn data<'a>(
     nodes: usize,
     node: usize,
 ) -> &'a [u8]
-    ensures { λ r. ⌜ now r ≡ dataShown (now (canonical .entry)) length (now (table .entry)) nodes node ⌝ }
+    ensures { λ r. ⌜ Shows r (dataShown (now (canonical .entry)) length (now (table .entry)) nodes node) (shownAt (dataPart (now (canonical .entry)) length (now (table .entry)) nodes node) (canonical .entry .ptr) (canonical .entry .ptr)) ⌝ }
 {
     match data_place(canonical, length, table, nodes, node) {
         Place::Part { start, end } => &canonical[start..end],
@@ -150,16 +155,23 @@ pub fn data<'a>(
     }
 }
 
-// Two sheets compared: the same shape, data and hints, where a missing hint counts as the default.
+// Two sheets compared: the same shape, data and hints, where a missing hint counts as the default. The same octets are the same
+// sheet, and need be judged once only.
 pub fn same(a: &[u8], a_length: usize, b: &[u8], b_length: usize, default_hint: &[u8]) -> Comparing
     ensures { λ r. ⌜ told r ≡ comparing (now (a .entry)) «a_length» (now (b .entry)) «b_length» (now («default_hint» .entry)) ⌝ }
 {
     if sheet(a, a_length) {
+        if parts::copied(a, a_length, b, b_length) {
+            return Comparing::Accepted { same: true };
+        }
         if sheet(b, b_length) {
             let left = &a[..a_length];
             let right = &b[..b_length];
-            let same = alike::alike(left, right, default_hint);
-            Comparing::Accepted { same }
+            if alike::alike(left, right, default_hint) {
+                Comparing::Accepted { same: true }
+            } else {
+                Comparing::Accepted { same: false }
+            }
         } else {
             refused_comparing(7)
         }

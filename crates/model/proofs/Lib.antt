@@ -22,3 +22,4 @@ pub mod Laws
 mod Starred
 mod Examples
 pub mod Judging
+pub mod Numbered

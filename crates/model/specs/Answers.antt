@@ -1,7 +1,7 @@
 -- What every entry answers, and what every lent buffer holds afterwards: for all inputs, refused ones too.
 -- 01 calls the canonical octets of a tree, in lent space, a sheet; a node is an entry of it; replacing is correcting.
 use Prim.Native.Nat.{ℕ, zero, suc, _*_, _-_, max}
-use mathlib.Core.Bool.{Bool, false}
+use mathlib.Core.Bool.{Bool, true, false}
 use mathlib.Core.Option.{Option, none, some}
 use mathlib.Core.List.{List, [], _∷_, _++_}
 use lib.ListN.{length, take, drop, replicate}
@@ -86,8 +86,9 @@ owns table count t = pick (both (eqb count (nodes t)) (equal (take (width * coun
 unfoldable pub ownTree : List ℕ → ℕ → List ℕ → ℕ → Option Tree
 ownTree canonical len table count = chain (sheetTree canonical len) (owns table count)
 
--- ---- reading, and replacing: 01's number, length and node count, and the lent sheet and table afterwards
+-- ---- reading, and replacing: whether it is accepted, 01's number, length and node count, and the lent sheet and table afterwards
 pub record Outcome : Type 0 where
+  pub accepted : Bool
   pub number : ℕ
   pub octets : ℕ
   pub count : ℕ
@@ -96,12 +97,13 @@ pub record Outcome : Type 0 where
 
 -- 01, "Counts are 0 in a refusal, and all lent space is unchanged"
 abbrev pub unchanged : ℕ → List ℕ → List ℕ → Outcome
-unchanged n canonical table = record { number = n; octets = 0; count = 0; canonical = canonical; table = table }
+unchanged n canonical table = record { accepted = false; number = n; octets = 0; count = 0; canonical = canonical; table = table }
 
 -- the tree put where a sheet of oldOctets octets and oldCount nodes stood
 unfoldable pub filled : Tree → ℕ → ℕ → List ℕ → List ℕ → Outcome
 filled t oldOctets oldCount canonical table =
     record {
+      accepted = true;
       number = Accepted;
       octets = length (canon t);
       count = nodes t;
@@ -139,15 +141,16 @@ replacing form text canonical table len count node =
     (filled (replaced form text canonical table len count node) len count canonical table)
     (λ n. unchanged n canonical table)
 
--- ---- writing: 01's number, the length, and the lent output afterwards
+-- ---- writing: whether it is accepted, 01's number, the length, and the lent output afterwards
 pub record Output : Type 0 where
+  pub accepted : Bool
   pub number : ℕ
   pub octets : ℕ
   pub out : List ℕ
 
 -- 01, "Counts are 0 in a refusal, and all lent space is unchanged"
 abbrev pub unwritten : ℕ → List ℕ → Output
-unwritten n out = record { number = n; octets = 0; out = out }
+unwritten n out = record { accepted = false; number = n; octets = 0; out = out }
 
 -- what goes out of the sheet
 unfoldable pub written : ℕ → List ℕ → ℕ → List ℕ
@@ -165,17 +168,18 @@ writingChecks form canonical len out =
 unfoldable pub writing : ℕ → List ℕ → ℕ → List ℕ → Output
 writing form canonical len out =
     judged (writingChecks form canonical len out)
-    (record { number = Accepted; octets = length (written form canonical len); out = settled out 0 (written form canonical len) })
+    (record { accepted = true; number = Accepted; octets = length (written form canonical len); out = settled out 0 (written form canonical len) })
     (λ n. unwritten n out)
 
--- ---- comparing: 01's number, and yes or no
+-- ---- comparing: whether it is accepted, 01's number, and yes or no
 pub record Comparison : Type 0 where
+  pub accepted : Bool
   pub number : ℕ
   pub yes : Bool
 
 -- 01, "no in a refusal"
 abbrev pub uncompared : ℕ → Comparison
-uncompared n = record { number = n; yes = false }
+uncompared n = record { accepted = false; number = n; yes = false }
 
 -- 01, "comparing 7"
 unfoldable pub comparingChecks : List ℕ → ℕ → List ℕ → ℕ → List Check
@@ -185,7 +189,7 @@ comparingChecks a aLength b bLength = when NotOwn (either (isNone (sheetTree a a
 unfoldable pub comparing : List ℕ → ℕ → List ℕ → ℕ → List ℕ → Comparison
 comparing a aLength b bLength defaultHint =
     judged (comparingChecks a aLength b bLength)
-    (record { number = Accepted; yes = same (the (sheetTree a aLength)) (the (sheetTree b bLength)) defaultHint })
+    (record { accepted = true; number = Accepted; yes = same (the (sheetTree a aLength)) (the (sheetTree b bLength)) defaultHint })
     (λ n. uncompared n)
 
 -- ---- showing: the part of the sheet that is shown, if one is

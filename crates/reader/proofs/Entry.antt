@@ -2,18 +2,23 @@
 use Prim.Native.Nat.{ℕ, _+_, _*_, _≤_, _<_}
 use native.Mathlib.Omega.{arith}
 use mathlib.Core.Path.{_≡_, sym, ap, _∙_}
+use mathlib.Core.Bool.{Bool, true}
 use mathlib.Core.List.{List}
 use lib.ListN.{length}
-use Rattle.model.specs.Answers.{unchanged, readingChecks, reading}
+use lib.Seq.{sets}
+use Rattle.model.specs.Answers.{unchanged, noForm, textChecks, readingChecks, reading}
 use Rattle.model.specs.Decode.{decode}
 use Rattle.model.specs.Limits.{maxSource, maxNodes}
 use Rattle.sheets.specs.Places.{shift}
-use Rattle.texts.specs.Texts.{textVerdict, Formed}
+use Rattle.texts.specs.Texts.{textVerdict, Formed, Bare}
 use Rattle.texts.proofs.Rows.{text-refused, text-taken}
 use Rattle.texts.proofs.Sizes.{small-takes, long-takes}
 use Rattle.answers.specs.Cases.{outcome, Refuses}
 use Rattle.answers.specs.declared.Reading.{Reading}
-use Rattle.reader.specs.Stored.{readTree, halved, most, Spaced}
+use Rattle.answers.specs.declared.Reading.the-variants as answer
+use Rattle.model.specs.Table.{tableOf}
+use Rattle.reader.specs.Stored.{readTree, halved, most, Spaced, Puts}
+use Rattle.reader.proofs.Storing.{puts-refused}
 
 -- ---- local space
 
@@ -21,8 +26,24 @@ module _ (form n s m : ℕ) where
   pub small-spaced : (bound : ℕ) → Formed form n bound → bound ≤ maxSource → 3 * bound + 64 ≤ s → s < shift → 3 * bound ≤ 2 * m → Spaced form n s m
   small-spaced bound f h k j l = record { takes = small-takes form n s bound f h k j; room = halved (omega (arith, f .short)) }
 
+  -- with room for every note
+  pub noted-spaced : (bound : ℕ) → Formed form n bound → bound ≤ maxSource → 3 * bound + 64 ≤ s → s < shift → maxNodes ≤ m → Spaced form n s m
+  noted-spaced bound f h k j l = record { takes = small-takes form n s bound f h k j; room = most l }
+
   pub long-spaced : Formed form n maxSource → maxSource + 16448 ≤ s → s < shift → maxNodes ≤ m → Spaced form n s m
   long-spaced f h j k = record { takes = long-takes form n s f h j; room = most k }
+
+-- ---- basic text outside braces is canonical text
+module _ (form : ℕ) (source : List ℕ) (b : Bool) (g : Bare form source b) (e : b ≡ true) where
+  -- the form is the measure of `read`, which calls itself here
+  pub bare-less : (t : ℕ) → form ≡ t → 1 < t
+  bare-less t z = omega (arith, g .bared e .basic)
+
+  pub read-bare : (canonical table canonical′ table′ : List ℕ) (a : Reading) → outcome a canonical′ table′ ≡ reading 1 source canonical table → outcome a canonical′ table′ ≡ reading form source canonical table
+  unfolding reading readingChecks textChecks noForm
+  read-bare canonical table canonical′ table′ a f =
+      let z : noForm form ≡ noForm 1 = ap noForm (g .bared e .basic) in
+      f ∙ sym (rw (g .bared e .is, z))
 
 -- ---- rows 1 and 2
 module _ (form : ℕ) (source canonical table : List ℕ) (n : ℕ) (v : n ≡ textVerdict form (length source)) where
@@ -33,3 +54,21 @@ module _ (form : ℕ) (source canonical table : List ℕ) (n : ℕ) (v : n ≡ t
   pub read-taken : n ≤ 0 → (canonical′ table′ : List ℕ) (a : Reading) → outcome a canonical′ table′ ≡ readTree (decode form source) canonical table → outcome a canonical′ table′ ≡ reading form source canonical table
   unfolding reading readingChecks readTree
   read-taken h canonical′ table′ a f = f ∙ sym (text-taken form source _ _ (λ (k : ℕ). unchanged k canonical table) n v h)
+
+-- ---- the same, of an answer whose table is told by notes
+module _ (form : ℕ) (source canonical notes : List ℕ) (k n : ℕ) (v : n ≡ textVerdict form (length source)) where
+  pub notes-refused : 0 < n → (a : Reading) → Refuses n a → Puts (reading form source canonical) canonical k notes a
+  notes-refused h a f = puts-refused (reading form source canonical) canonical notes k n h a f (λ table z. read-refused form source canonical table n v h a f)
+
+  module _ (canonical′ : List ℕ) (h : n ≤ 0) where
+    pub notes-taken : (a : Reading) → Puts (readTree (decode form source) canonical) canonical′ k notes a → Puts (reading form source canonical) canonical′ k notes a
+    unfolding Puts
+    notes-taken (answer.Accepted len count) p =
+        record {
+          tree = p .tree;
+          held = p .held;
+          recorded = p .recorded;
+          few = p .few;
+          is = λ table z. read-taken form source canonical table n v h canonical′ (sets table 0 (tableOf (p .tree))) (answer.Accepted len count) (p .is table z);
+        }
+    notes-taken (answer.Refused f) p = λ table z. read-taken form source canonical table n v h canonical′ table (answer.Refused f) (p table z)

@@ -2,6 +2,7 @@
 use Prim.Native.Nat.{ℕ, _+_, _*_, _/_, _≤_, _<_}
 use native.Mathlib.Omega.{arith}
 use mathlib.Core.Path.{_≡_, refl, sym, ap, ap₂, _∙_, subst}
+use mathlib.Core.Bool.{true}
 use mathlib.Core.Option.{Option, none, some}
 use mathlib.Core.List.{List, []}
 use lib.ListN.{length, take, drop, length-take}
@@ -31,13 +32,13 @@ same-verdict : (o k : ℕ) {d d′ n n′ l l′ : ℕ} → d ≡ d′ → n ≡
 same-verdict o k p q r = λ i. roomVerdict (p i) (q i) (r i) o k
 
 same-outcome : {a a′ b b′ : ℕ} {c c′ d d′ : List ℕ} → a ≡ a′ → b ≡ b′ → c ≡ c′ → d ≡ d′
-    → _≡_ {A = Outcome} (record { number = Accepted; octets = a; count = b; canonical = c; table = d }) (record { number = Accepted; octets = a′; count = b′; canonical = c′; table = d′ })
-same-outcome p q r s = λ i. record { number = Accepted; octets = p i; count = q i; canonical = r i; table = s i }
+    → _≡_ {A = Outcome} (record { accepted = true; number = Accepted; octets = a; count = b; canonical = c; table = d }) (record { accepted = true; number = Accepted; octets = a′; count = b′; canonical = c′; table = d′ })
+same-outcome p q r s = λ i. record { accepted = true; number = Accepted; octets = p i; count = q i; canonical = r i; table = s i }
 
 -- ---- all but the table
 
-module _ (o : Option Tree) (canonical notes : List ℕ) (n k : ℕ) (h : 0 < k) where
-  puts-refused : (r : Reading) → Refuses k r → ((table : List ℕ) → records table ≡ n → outcome r canonical table ≡ readTree o canonical table) → Puts o canonical canonical n notes r
+module _ (answer : List ℕ → Outcome) (canonical notes : List ℕ) (n k : ℕ) (h : 0 < k) where
+  pub puts-refused : (r : Reading) → Refuses k r → ((table : List ℕ) → records table ≡ n → outcome r canonical table ≡ answer table) → Puts answer canonical n notes r
   unfolding Puts outcome
   puts-refused (reading.Accepted len count) f g = let z : 0 ≡ k = ap (λ (x : Outcome). x .number) (f .is [] []) in absurd (omega arith)
   puts-refused (reading.Refused x) f g = g
@@ -46,10 +47,13 @@ module _ (form : ℕ) (source canonical scratch : List ℕ) (n : ℕ) (notes not
   abbrev meant : Option Tree
   meant = decode form source
 
-  pub put-none : x ≡ extent.Refused → (r : Reading) → Refuses 3 r → Puts meant canonical canonical n notes′ r
+  abbrev answer : List ℕ → Outcome
+  answer = readTree (decode form source) canonical
+
+  pub put-none : x ≡ extent.Refused → (r : Reading) → Refuses 3 r → Puts (readTree (decode form source) canonical) canonical n notes′ r
   unfolding Measures
   put-none e r f =
-      puts-refused meant canonical notes′ n 3 (omega arith) r f
+      puts-refused answer canonical notes′ n 3 (omega arith) r f
       (λ table z. f .is canonical table ∙ sym (tree-none meant canonical table (subst (Measures meant) e (m .measures))))
 
   module _ (len count deep : ℕ) (e : x ≡ extent.Whole len count deep) where
@@ -64,9 +68,9 @@ module _ (form : ℕ) (source canonical scratch : List ℕ) (n : ℕ) (notes not
     sized k = same-verdict (length canonical) k (sym (whole .deepest)) (sym (whole .counted)) (sym (whole .long))
 
     module _ (k : ℕ) (h : k ≡ roomVerdict deep count len (length canonical) n) where
-      pub put-refused : 0 < k → (r : Reading) → Refuses k r → Puts meant canonical canonical n notes′ r
+      pub put-refused : 0 < k → (r : Reading) → Refuses k r → Puts (readTree (decode form source) canonical) canonical n notes′ r
       put-refused l r f =
-          puts-refused meant canonical notes′ n k l r f
+          puts-refused answer canonical notes′ n k l r f
           (λ table z. f .is canonical table ∙ sym (tree-refused meant canonical table tree (whole .is) k (h ∙ sym (rw z (sized n))) l))
 
       module _ (l : k ≤ 0) where
@@ -97,13 +101,14 @@ module _ (form : ℕ) (source canonical scratch : List ℕ) (n : ℕ) (notes not
           held : Holds notes′ count tree
           held = subst (λ (i : ℕ). Holds notes′ i tree) (sym (whole .counted)) (m .noted tree (whole .is) (omega (arith, whole .long, lodged .small)) (omega (arith, whole .deepest, lodged .shallow)) room)
 
-          pub put-accepted : (canonical′ : List ℕ) (p : ℕ) → Wrote (take len (drop 0 scratch)) 0 canonical canonical′ p → Puts meant canonical canonical′ n notes′ (reading.Accepted len count)
+          pub put-accepted : (canonical′ : List ℕ) (p : ℕ) → Wrote (take len (drop 0 scratch)) 0 canonical canonical′ p → Puts (readTree (decode form source) canonical) canonical′ n notes′ (reading.Accepted len count)
           unfolding Puts outcome filled
           put-accepted canonical′ p w =
               record {
                 tree = tree;
                 held = held;
                 recorded = lodged .recorded;
+                few = lodged .few;
                 is = λ table z.
                     same-outcome (whole .long) (whole .counted)
                     (w .same ∙ ap (sets canonical 0) front-is ∙ sym (settled-front canonical (canon tree) (omega (arith, whole .long, lodged .lent))))
@@ -113,11 +118,11 @@ module _ (form : ℕ) (source canonical scratch : List ℕ) (n : ℕ) (notes not
 
 -- ---- and the table
 
-module _ (o : Option Tree) (canonical canonical′ notes table : List ℕ) (n : ℕ) (z : n ≡ length table / width) (r : Reading) (m : Puts o canonical canonical′ n notes r) where
+module _ (o : Option Tree) (canonical canonical′ notes table : List ℕ) (n : ℕ) (z : n ≡ length table / width) (r : Reading) (m : Puts (readTree o canonical) canonical′ n notes r) where
   module _ (len count : ℕ) (e : r ≡ reading.Accepted len count) where
-    accepting : Accepting o canonical canonical′ n notes len count
+    accepting : Accepting (readTree o canonical) canonical′ n notes len count
     unfolding Puts
-    accepting = subst (Puts o canonical canonical′ n notes) e m
+    accepting = subst (Puts (readTree o canonical) canonical′ n notes) e m
 
     pub fill-room : Fillable notes count (length table)
     fill-room = record { tree = accepting .tree; held = accepting .held; fits = omega (arith, accepting .recorded) }
@@ -127,4 +132,4 @@ module _ (o : Option Tree) (canonical canonical′ notes table : List ℕ) (n : 
 
   pub fill-refused : (f : Refusal) → r ≡ reading.Refused f → outcome (reading.Refused f) canonical′ table ≡ readTree o canonical table
   unfolding Puts
-  fill-refused f e = let g : (table : List ℕ) → records table ≡ n → outcome (reading.Refused f) canonical′ table ≡ readTree o canonical table = subst (Puts o canonical canonical′ n notes) e m in g table (sym z)
+  fill-refused f e = let g : (table : List ℕ) → records table ≡ n → outcome (reading.Refused f) canonical′ table ≡ readTree o canonical table = subst (Puts (readTree o canonical) canonical′ n notes) e m in g table (sym z)

@@ -43,13 +43,15 @@ pub record Spaced (form n scratch notes : ℕ) : Type 0 where
   pub takes : Takeable form n scratch
   pub room : Noteable n notes
 
--- accepted, but for the table: the notes are a tree's, it has room in n records, and with its table the answer is the tree's
-pub record Accepting (o : Option Tree) (canonical canonical′ : List ℕ) (n : ℕ) (notes : List ℕ) (len count : ℕ) : Type 0 where
+-- accepted, but for the table: the notes are a tree's, it has room in n records, and with its table the answer is the one told
+pub record Accepting (answer : List ℕ → Outcome) (canonical : List ℕ) (n : ℕ) (notes : List ℕ) (len count : ℕ) : Type 0 where
   pub tree : Tree
   pub held : Holds notes count tree
   pub recorded : count ≤ n
-  pub is : (table : List ℕ) → records table ≡ n → outcome (reading.Accepted len count) canonical′ (sets table 0 (tableOf tree)) ≡ readTree o canonical table
+  pub few : count ≤ maxNodes
+  pub is : (table : List ℕ) → records table ≡ n → outcome (reading.Accepted len count) canonical (sets table 0 (tableOf tree)) ≡ answer table
 
-unfoldable pub Puts : Option Tree → List ℕ → List ℕ → ℕ → List ℕ → Reading → Type 0
-Puts o canonical canonical′ n notes (reading.Accepted len count) = Accepting o canonical canonical′ n notes len count
-Puts o canonical canonical′ n notes (reading.Refused f) = (table : List ℕ) → records table ≡ n → outcome (reading.Refused f) canonical′ table ≡ readTree o canonical table
+-- the answer for every table of n records, filled from notes where the answer is an acceptance
+unfoldable pub Puts : (List ℕ → Outcome) → List ℕ → ℕ → List ℕ → Reading → Type 0
+Puts answer canonical n notes (reading.Accepted len count) = Accepting answer canonical n notes len count
+Puts answer canonical n notes (reading.Refused f) = (table : List ℕ) → records table ≡ n → outcome (reading.Refused f) canonical table ≡ answer table

@@ -49,7 +49,7 @@ pub fn put(
     requires { ⌜ Classed (now classes) ⌝ }
     requires { ⌜ Lettered (now letters) ⌝ }
     requires { ⌜ Spaced form (length (now source)) (length (now scratch)) (length (now notes)) ⌝ }
-    ensures { λ r. ⌜ Puts (decode form (now (source .entry))) (now (canonical .entry)) (now (canonical .exit)) records (now (notes .exit)) r ⌝ }
+    ensures { λ r. ⌜ Puts (readTree (decode form (now (source .entry))) (now (canonical .entry))) (now (canonical .exit)) records (now (notes .exit)) r ⌝ }
 {
     match texts::take(classes, letters, form, source, scratch, notes) {
         Extent::Whole { len, nodes, depth } => {
@@ -82,7 +82,14 @@ fn read_in(
 {
     let records = table.len() / limits::WIDTH;
     match put(
-        classes, letters, form, source, canonical, records, scratch, notes,
+        classes,
+        letters,
+        form,
+        source,
+        canonical,
+        records,
+        scratch,
+        notes,
     ) {
         Reading::Accepted { length, nodes } => {
             sheets::fill(notes, nodes, table);
@@ -101,6 +108,11 @@ pub fn read(form: u32, source: &[u8], canonical: &mut [u8], table: &mut [u32]) -
     if row > 0 {
         return refused(row);
     }
+    // Besides, a function that calls itself does not take the local space of every size into its own frame, which each short call
+    // would pay for.
+    if texts::bare(form, source) {
+        return read(1, source, canonical, table);
+    }
     let classes = octets::classes();
     let letters = octets::letters();
     if source.len() <= limits::SHORT {
@@ -110,4 +122,29 @@ pub fn read(form: u32, source: &[u8], canonical: &mut [u8], table: &mut [u32]) -
         return tiers::read_middle(&classes, &letters, form, source, canonical, table);
     }
     tiers::read_long(&classes, &letters, form, source, canonical, table)
+}
+
+// The same but for the table, for which so many records are lent: the notes tell it.
+pub fn read_notes(
+    form: u32,
+    source: &[u8],
+    canonical: &mut [u8],
+    notes: &mut [usize; limits::NODES],
+    records: usize,
+) -> Reading
+    ensures { λ r. ⌜ Puts (reading form (now (source .entry)) (now (canonical .entry))) (now (canonical .exit)) records (now (notes .exit)) r ⌝ }
+{
+    let row = texts::row(form, source.len());
+    if row > 0 {
+        return refused(row);
+    }
+    let classes = octets::classes();
+    let letters = octets::letters();
+    if source.len() <= limits::SHORT {
+        return tiers::put_short(&classes, &letters, form, source, canonical, records, notes);
+    }
+    if source.len() <= limits::MIDDLE {
+        return tiers::put_middle(&classes, &letters, form, source, canonical, records, notes);
+    }
+    tiers::put_long(&classes, &letters, form, source, canonical, records, notes)
 }

@@ -6,9 +6,10 @@ ghost use Rattle.model.specs.Limits.{maxSource};
 ghost use Rattle.answers.specs.Cases.{outcome};
 ghost use Rattle.octets.specs.Classes.{Classed, Lettered};
 ghost use Rattle.texts.specs.Texts.{Formed};
-ghost use Rattle.reader.specs.Stored.{readTree};
-use answers::Reading;
+ghost use Rattle.reader.specs.Stored.{readTree, Puts};
+use crate::put;
 use crate::read_in;
+use answers::Reading;
 
 pub fn read_short(
     classes: &[u8; 256],
@@ -88,5 +89,86 @@ pub fn read_long(
         table,
         &mut scratch,
         &mut notes,
+    )
+}
+
+pub fn put_short(
+    classes: &[u8; 256],
+    letters: &[u8; 256],
+    form: u32,
+    source: &[u8],
+    canonical: &mut [u8],
+    records: usize,
+    notes: &mut [usize; limits::NODES],
+) -> Reading
+    requires { ⌜ Classed (now classes) ⌝ }
+    requires { ⌜ Lettered (now letters) ⌝ }
+    requires { ⌜ Formed form (length (now source)) 128 ⌝ }
+    ensures { λ r. ⌜ Puts (readTree (decode form (now (source .entry))) (now (canonical .entry))) (now (canonical .exit)) records (now (notes .exit)) r ⌝ }
+{
+    let mut scratch: [u8; limits::SHORT_SCRATCH] = [0; limits::SHORT_SCRATCH];
+    put(
+        classes,
+        letters,
+        form,
+        source,
+        canonical,
+        records,
+        &mut scratch,
+        notes,
+    )
+}
+
+pub fn put_middle(
+    classes: &[u8; 256],
+    letters: &[u8; 256],
+    form: u32,
+    source: &[u8],
+    canonical: &mut [u8],
+    records: usize,
+    notes: &mut [usize; limits::NODES],
+) -> Reading
+    requires { ⌜ Classed (now classes) ⌝ }
+    requires { ⌜ Lettered (now letters) ⌝ }
+    requires { ⌜ Formed form (length (now source)) 1024 ⌝ }
+    ensures { λ r. ⌜ Puts (readTree (decode form (now (source .entry))) (now (canonical .entry))) (now (canonical .exit)) records (now (notes .exit)) r ⌝ }
+{
+    let mut scratch: [u8; limits::MIDDLE_SCRATCH] = [0; limits::MIDDLE_SCRATCH];
+    put(
+        classes,
+        letters,
+        form,
+        source,
+        canonical,
+        records,
+        &mut scratch,
+        notes,
+    )
+}
+
+pub fn put_long(
+    classes: &[u8; 256],
+    letters: &[u8; 256],
+    form: u32,
+    source: &[u8],
+    canonical: &mut [u8],
+    records: usize,
+    notes: &mut [usize; limits::NODES],
+) -> Reading
+    requires { ⌜ Classed (now classes) ⌝ }
+    requires { ⌜ Lettered (now letters) ⌝ }
+    requires { ⌜ Formed form (length (now source)) maxSource ⌝ }
+    ensures { λ r. ⌜ Puts (readTree (decode form (now (source .entry))) (now (canonical .entry))) (now (canonical .exit)) records (now (notes .exit)) r ⌝ }
+{
+    let mut scratch: [u8; limits::LONG_SCRATCH] = [0; limits::LONG_SCRATCH];
+    put(
+        classes,
+        letters,
+        form,
+        source,
+        canonical,
+        records,
+        &mut scratch,
+        notes,
     )
 }

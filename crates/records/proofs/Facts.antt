@@ -8,8 +8,8 @@ use native.Mathlib.Omega.{arith}
 use lib.Dec.{T}
 use lib.ListN.{length, length-set, getD}
 use lib.Seq.{length-sets}
-use package.mir.Syntax.{w64, tyInt, tyUnit}
-use package.mir.Val.{Val, WT, hasTy, vunit, vint}
+use package.mir.Syntax.{w64, tyInt, tyUnit, tyBool}
+use package.mir.Val.{Val, WT, hasTy, vunit, vbool, vint}
 use denote.Steps.{only}
 use Rattle.records.specs.declared.Record.{Record}
 use Rattle.records.specs.Numbers.{eight}
@@ -30,9 +30,12 @@ one-more i = add-suc i zero ∙ ap suc (add-zero i)
 pub scaled : (i n : ℕ) → i < n → n * 32 < 2 ^ 63 → i * 32 < 2 ^ 64
 scaled i n l f = omega arith
 
--- a call that returns `()`, or a `usize`, returns a value of that type
+-- a call that returns `()`, a `bool` or a `usize` returns a value of that type
 pub is-unit : (w : Val) → w ∷ [] ≡ vunit ∷ [] → T (hasTy tyUnit w) × WT w
 is-unit w e = subst (λ (v : Val). T (hasTy tyUnit v) × WT v) (sym (ap only e)) (tt, tt)
+
+pub is-bool : (w : Val) (b : Bool) → w ∷ [] ≡ vbool b ∷ [] → T (hasTy tyBool w) × WT w
+is-bool w b e = subst (λ (v : Val). T (hasTy tyBool v) × WT v) (sym (ap only e)) (tt, tt)
 
 pub is-word : (w : Val) (n : ℕ) → w ∷ [] ≡ vint w64 n ∷ [] → n < 2 ^ 64 → T (hasTy (tyInt w64) w) × WT w
 is-word w n e l = subst (λ (v : Val). T (hasTy (tyInt w64) v) × WT v) (sym (ap only e)) (tt, record { fits = l })

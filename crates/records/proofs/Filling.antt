@@ -1,4 +1,4 @@
--- What the walks of `read` and `replace` know of `fill`, which each of them calls last: its contract, what it asks, and what it leaves.
+-- What the walk of `replace` knows of `fill`, which it calls last: its contract, what it asks, and what it leaves.
 use mathlib.Core.Path.{_≡_, refl}
 use Prim.Native.Nat.{ℕ, _<_, _^_}
 use mathlib.Core.List.{[], _∷_, List}

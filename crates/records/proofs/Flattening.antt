@@ -1,4 +1,4 @@
--- What the walks of `replace` and `place` know of `flatten`, which each of them calls: its contract, what it asks, and what it leaves.
+-- What the walk of `replace` knows of `flatten`, which it calls first: its contract, what it asks, and what it leaves.
 use mathlib.Core.Path.{_≡_, refl}
 use Prim.Native.Nat.{ℕ, _<_, _^_}
 use mathlib.Core.List.{[], _∷_, List}

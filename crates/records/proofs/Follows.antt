@@ -29,7 +29,7 @@ use Rattle.records.proofs.Tables.{length-numbers, numbers-filled}
 
 -- the same, of another table
 abbrev retabled : List ℕ → Outcome → Outcome
-retabled g o = record { number = o .number; octets = o .octets; count = o .count; canonical = o .canonical; table = g }
+retabled g o = record { accepted = o .accepted; number = o .number; octets = o .octets; count = o .count; canonical = o .canonical; table = g }
 
 pub record Follows (n : ℕ) (T : List ℕ) (o′ o : Outcome) : Type 0 where
   pub fits : 8 * n ≤ length (o′ .table)
@@ -64,7 +64,7 @@ module _ (t : Tree) (len old : ℕ) (c T T′ : List ℕ) where
       let e : 8 * max old (nodes t) ≡ max (8 * old) (length (tableOf t)) = omega (arith, table-length t) in
       record {
         fits = settled-long T′ (tableOf t) (8 * old) (8 * max old (nodes t)) e;
-        is = λ i. record { number = 0; octets = length (canon t); count = nodes t; canonical = settled c len (canon t); table = settled-part T′ (tableOf t) (8 * old) (8 * max old (nodes t)) e T i };
+        is = λ i. record { accepted = true; number = 0; octets = length (canon t); count = nodes t; canonical = settled c len (canon t); table = settled-part T′ (tableOf t) (8 * old) (8 * max old (nodes t)) e T i };
       }
 
   accepted-said : AsSaid old T (filled t len old c T′) (filled t len old c T)

@@ -1,10 +1,12 @@
 pub mod Spelled
 pub mod Facts
 pub mod Local
+pub mod Noted
 pub mod Sizes
 pub mod Tables
 pub mod Follows
-pub mod Through
+pub mod Tabling
+pub mod Comparing
 pub mod Shared
 pub mod Owning
 pub mod Replacing
@@ -13,3 +15,5 @@ pub mod Placing
 pub mod Counting
 pub mod Flattening
 pub mod Filling
+pub mod Retelling
+pub mod Holding

@@ -6,7 +6,7 @@ use native.Mathlib.Omega.{arith}
 use lib.ListN.{length, take, drop}
 use lib.Seq.{take-append-seam}
 use Rattle.base.proofs.Lists.{front-length}
-use Rattle.model.specs.Answers.{Outcome, reading, replacing}
+use Rattle.model.specs.Answers.{Outcome, replacing}
 use Rattle.answers.specs.Cases.{outcome}
 use Rattle.answers.specs.declared.Reading.{Reading}
 use Rattle.answers.specs.declared.Reading.the-variants as answer
@@ -38,10 +38,6 @@ unfolding touched
 touched-none r f old e = subst (λ (s : Reading). 0 ≡ touched s old) (sym e) refl
 
 -- what is said of the first n numbers, where n is computed
-pub part-reading : (r : Reading) (n room form : ℕ) (source c c′ t u : List ℕ) → n ≡ part room → outcome r c (take n t) ≡ reading form source c′ (take n u)
-    → outcome r c (take (part room) t) ≡ reading form source c′ (take (part room) u)
-part-reading r n room form source c c′ t u e s = subst (λ (k : ℕ). outcome r c (take k t) ≡ reading form source c′ (take k u)) e s
-
 pub part-replacing : (r : Reading) (n room form len nodes node : ℕ) (text c c′ t u : List ℕ) → n ≡ part room → outcome r c (take n t) ≡ replacing form text c′ (take n u) len nodes node
     → outcome r c (take (part room) t) ≡ replacing form text c′ (take (part room) u) len nodes node
 part-replacing r n room form len nodes node text c c′ t u e s = subst (λ (k : ℕ). outcome r c (take k t) ≡ replacing form text c′ (take k u) len nodes node) e s

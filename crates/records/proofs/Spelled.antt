@@ -4,8 +4,9 @@ use package.mir.Syntax.{Lifetime, Mutability, Ty, w8, w32, w64, tyInt, tyRef, ty
 use denote.RattleType.{RattleType}
 use denote.Memory.{pointee}
 use denote.Slice.{sliceTy}
-use denote.Builtin.{u32}
+use denote.Builtin.{u32, usize}
 use denote.Array.{Array}
+use Rattle.model.specs.Limits.{maxNodes}
 use Rattle.records.specs.Flat.{flatLength}
 use Rattle.records.proofs.Record as T
 
@@ -44,3 +45,13 @@ flatTy = tyArray (tyInt w32) flatLength
 
 abbrev pub toFlat : Lifetime → Mutability → Ty
 toFlat ℓ μ = tyRef ℓ μ flatTy
+
+-- the notes
+abbrev pub Notes : RattleType
+Notes = Array usize maxNodes
+
+abbrev pub notesTy : Ty
+notesTy = tyArray word maxNodes
+
+abbrev pub toNotes : Lifetime → Mutability → Ty
+toNotes ℓ μ = tyRef ℓ μ notesTy

@@ -52,7 +52,7 @@ sets-over : (p l vs : List ℕ) (i : ℕ) → sets (p ++ l) (length p + i) vs �
 sets-over p l [] i = refl
 sets-over p l (v ∷ vs) i = ap (λ (k : List ℕ). sets k (suc (length p + i)) vs) (set-over p l v i) ∙ ap (λ (k : ℕ). sets (p ++ set l i v) k vs) (sym (add-suc (length p) i)) ∙ sets-over p (set l i v) vs (suc i)
 
-eight-more : (m : ℕ) → 8 * suc m ≡ suc (suc (suc (suc (suc (suc (suc (suc (8 * m))))))))
+pub eight-more : (m : ℕ) → 8 * suc m ≡ suc (suc (suc (suc (suc (suc (suc (suc (8 * m))))))))
 eight-more m = omega arith
 
 sets-eight : (r : Record) (l vs : List ℕ) (m : ℕ) → sets (eight r ++ l) (8 * suc m) vs ≡ eight r ++ sets l (8 * m) vs
@@ -94,7 +94,7 @@ eight-numbers (x ∷ xs) (suc i) l = rw (eight-more i, eight-numbers xs i (omega
 -- ---- n of them
 
 -- eight more of f, in a table that has the first 8 * k of them
-next-eight : (f n : List ℕ) (k : ℕ) → 8 * k + 8 ≤ length f → 8 * k + 8 ≤ length n
+pub next-eight : (f n : List ℕ) (k : ℕ) → 8 * k + 8 ≤ length f → 8 * k + 8 ≤ length n
     → sets (take (8 * k) f ++ drop (8 * k) n) (8 * k) (take 8 (drop (8 * k) f)) ≡ take (8 * suc k) f ++ drop (8 * suc k) n
 next-eight f n k h h′ =
     let p : List ℕ = take (8 * k) f in

@@ -1,13 +1,11 @@
-// The flat table: 4,096 records' numbers, of which a part stands for the records that are lent. Reading, replacing and showing
-// are those of the core, over that part.
+// The flat table: 4,096 records' numbers, of which a part stands for the records that are lent. Replacing is that of
+// the core, over that part.
 ghost use mathlib.Core.Path.{_≡_};
 ghost use Prim.Native.Nat.{_≤_};
 ghost use lib.ListN.{length, take};
-ghost use Rattle.model.specs.Answers.{reading, replacing};
-ghost use Rattle.answers.specs.Cases.{outcome, placed};
-ghost use Rattle.records.specs.Numbers.{placeOf};
+ghost use Rattle.model.specs.Answers.{replacing};
+ghost use Rattle.answers.specs.Cases.{outcome};
 ghost use Rattle.records.specs.Flat.{part, touched, held};
-use answers::Place;
 use answers::Reading;
 
 // How many records may differ after an answer, where `old` were in use.
@@ -48,29 +46,6 @@ fn part_of(room: usize) -> usize
     }
 }
 
-// Reading, into the first n numbers of a table.
-fn read_part(form: u32, source: &[u8], canonical: &mut [u8], table: &mut [u32], n: usize) -> Reading
-    requires { ⌜ n ≤ length (now table) ⌝ }
-    ensures { λ r. ⌜ outcome r (now (canonical .exit)) (take n (now (table .exit))) ≡ reading form (now (source .entry)) (now (canonical .entry)) (take n (now (table .entry))) ⌝ }
-{
-    let front = &mut table[..n];
-    reader::read(form, source, canonical, front)
-}
-
-// Reading, into the part of the flat table that stands for `room` records.
-pub fn read(
-    form: u32,
-    source: &[u8],
-    canonical: &mut [u8],
-    flat: &mut [u32; limits::NUMBERS],
-    room: usize,
-) -> Reading
-    ensures { λ r. ⌜ outcome r (now (canonical .exit)) (take (part room) (now (flat .exit))) ≡ reading form (now (source .entry)) (now (canonical .entry)) (take (part room) (now (flat .entry))) ⌝ }
-{
-    let n = part_of(room);
-    read_part(form, source, canonical, flat, n)
-}
-
 // Replacing, in the first n numbers of a table.
 fn replace_part(
     form: u32,
@@ -104,41 +79,4 @@ pub fn replace(
 {
     let n = part_of(room);
     replace_part(form, text, canonical, flat, n, len, nodes, node)
-}
-
-// Where a node's hint, or its data, stands by the first n numbers of a table.
-fn place_part(
-    canonical: &[u8],
-    len: usize,
-    table: &[u32],
-    n: usize,
-    nodes: usize,
-    node: usize,
-    hinted: bool,
-) -> Place
-    requires { ⌜ n ≤ length (now table) ⌝ }
-    ensures { λ r. ⌜ placed r ≡ placeOf hinted (now (canonical .entry)) len (take n (now (table .entry))) nodes node ⌝ }
-{
-    let front = &table[..n];
-    if hinted {
-        lookup::hint_place(canonical, len, front, nodes, node)
-    } else {
-        lookup::data_place(canonical, len, front, nodes, node)
-    }
-}
-
-// Where it stands by the part of the flat table that stands for `room` records.
-pub fn place(
-    canonical: &[u8],
-    len: usize,
-    flat: &[u32; limits::NUMBERS],
-    room: usize,
-    nodes: usize,
-    node: usize,
-    hinted: bool,
-) -> Place
-    ensures { λ r. ⌜ placed r ≡ placeOf hinted (now (canonical .entry)) len (take (part room) (now (flat .entry))) nodes node ⌝ }
-{
-    let n = part_of(room);
-    place_part(canonical, len, flat, n, nodes, node, hinted)
 }

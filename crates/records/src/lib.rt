@@ -1,15 +1,18 @@
-// The node table as a lent slice of records. Reading, replacing and showing work over a flat copy of it, eight numbers to a
-// record; the functions that take records are few and thin.
-mod flat;
+// The node table as a lent slice of records. Reading and showing go by the notes of a sheet, in local space; replacing works over a
+// flat copy of the table, eight numbers to a record. The functions that take records are few and thin.
+mod flat; // flat.rt: the flat copy
+mod told; // told.rt: the record that a note tells
 
 ghost use mathlib.Core.Path.{_≡_};
 ghost use Prim.Native.Nat.{_<_};
 ghost use lib.ListN.{length};
 ghost use mathlib.Core.List.{[]};
 ghost use Rattle.model.specs.Limits.{maxNodes};
-ghost use Rattle.model.specs.Answers.{reading, replacing, hintShown, dataShown, shownOr};
+ghost use Rattle.model.specs.Answers.{reading, replacing, hintPart, dataPart, hintShown, dataShown, shownOr};
 ghost use Rattle.answers.specs.Cases.{outcome, placed};
+ghost use Rattle.answers.specs.Shown.{Shows, shownAt};
 ghost use Rattle.records.specs.Numbers.{numbers, placeOf};
+ghost use Rattle.records.specs.Told.{countOf, told, agreed, looked, Tells, Comparable};
 ghost use Rattle.records.specs.Flat.{spelled, written, filled, flattened, touched, held, Fills, Inside};
 use answers::Place;
 use answers::Reading;
@@ -75,6 +78,36 @@ fn fill(records: &mut [Record], flat: &[u32; limits::NUMBERS], r: Reading, old: 
     }
 }
 
+// The records that an answer touches become those that notes tell.
+fn tell(records: &mut [Record], notes: &[usize; limits::NODES], r: Reading, old: usize)
+    requires { ⌜ Tells (now notes) r old (length (now records)) ⌝ }
+    ensures { λ _. ⌜ now (records .exit) ≡ told (now (notes .entry)) (countOf r) (touched r old) (now (records .entry)) ⌝ }
+{
+    let n = flat::touched_by(r, old);
+    let mut i: usize = 0;
+    while i < n {
+        let z = told::record_of(notes, r, i);
+        records[i] = z;
+        i += 1;
+    }
+}
+
+// Whether the records in use are those that notes tell.
+fn holds(records: &[Record], notes: &[usize; limits::NODES], noted: bool, nodes: usize) -> bool
+    requires { ⌜ Comparable (now notes) noted nodes (length (now records)) ⌝ }
+    ensures { λ b. ⌜ b ≡ agreed (now (records .entry)) (now (notes .entry)) noted (looked noted nodes) ⌝ }
+{
+    let n = told::looked_at(noted, nodes);
+    let mut same = noted;
+    let mut k: usize = 0;
+    while k < n {
+        let r = records[k];
+        same = told::record_is(notes, k, r, same);
+        k += 1;
+    }
+    same
+}
+
 // The records in use are spelled out in `flat`.
 fn flatten(records: &[Record], flat: &mut [u32; limits::NUMBERS], nodes: usize)
     ensures { λ _. ⌜ now (flat .exit) ≡ flattened (now (records .entry)) (held (length (now (records .entry))) nodes) (now (flat .entry)) ⌝ }
@@ -93,9 +126,9 @@ fn flatten(records: &[Record], flat: &mut [u32; limits::NUMBERS], nodes: usize)
 pub fn read(form: u32, source: &[u8], canonical: &mut [u8], records: &mut [Record]) -> Reading
     ensures { λ r. ⌜ outcome r (now (canonical .exit)) (numbers (now (records .exit))) ≡ reading form (now (source .entry)) (now (canonical .entry)) (numbers (now (records .entry))) ⌝ }
 {
-    let mut flat: [u32; limits::NUMBERS] = [0; limits::NUMBERS];
-    let r = flat::read(form, source, canonical, &mut flat, records.len());
-    fill(records, &flat, r, 0);
+    let mut notes: [usize; limits::NODES] = [0; limits::NODES];
+    let r = reader::read_notes(form, source, canonical, &mut notes, records.len());
+    tell(records, &notes, r, 0);
     r
 }
 
@@ -140,15 +173,16 @@ pub fn place(
 ) -> Place
     ensures { λ r. ⌜ placed r ≡ placeOf hinted (now (canonical .entry)) length (numbers (now (records .entry))) nodes node ⌝ }
 {
-    let mut flat: [u32; limits::NUMBERS] = [0; limits::NUMBERS];
-    flatten(records, &mut flat, nodes);
-    flat::place(canonical, length, &flat, records.len(), nodes, node, hinted)
+    let mut notes: [usize; limits::NODES] = [0; limits::NODES];
+    let noted = lookup::note_sheet(canonical, length, &mut notes, records.len(), nodes);
+    let own = holds(records, &notes, noted, nodes);
+    lookup::place_by(&notes, nodes, node, own, hinted)
 }
 
 // The part of the sheet at a place, else what is given.
 fn shown_or<'a>(canonical: &'a [u8], p: Place, other: &'a [u8]) -> &'a [u8]
     requires { ⌜ Inside p (length (now canonical)) ⌝ }
-    ensures { λ r. ⌜ now r ≡ shownOr (placed p) (now (canonical .entry)) (now (other .entry)) ⌝ }
+    ensures { λ r. ⌜ Shows r (shownOr (placed p) (now (canonical .entry)) (now (other .entry))) (shownAt (placed p) (canonical .entry .ptr) (other .entry .ptr)) ⌝ }
 {
     match p {
         Place::Part { start, end } => &canonical[start..end],
@@ -156,10 +190,10 @@ fn shown_or<'a>(canonical: &'a [u8], p: Place, other: &'a [u8]) -> &'a [u8]
     }
 }
 
-// The part of the sheet at a place, else an empty part.
+// The part of the sheet at a place, else an empty part at its front.
 fn shown<'a>(canonical: &'a [u8], p: Place) -> &'a [u8]
     requires { ⌜ Inside p (length (now canonical)) ⌝ }
-    ensures { λ r. ⌜ now r ≡ shownOr (placed p) (now (canonical .entry)) [] ⌝ }
+    ensures { λ r. ⌜ Shows r (shownOr (placed p) (now (canonical .entry)) []) (shownAt (placed p) (canonical .entry .ptr) (canonical .entry .ptr)) ⌝ }
 {
     match p {
         Place::Part { start, end } => &canonical[start..end],
@@ -176,13 +210,13 @@ pub fn hint<'a>(
     node: usize,
     default_hint: &'a [u8],
 ) -> &'a [u8]
-    ensures { λ r. ⌜ now r ≡ hintShown (now (canonical .entry)) length (numbers (now (records .entry))) nodes node (now («default_hint» .entry)) ⌝ }
+    ensures { λ r. ⌜ Shows r (hintShown (now (canonical .entry)) length (numbers (now (records .entry))) nodes node (now («default_hint» .entry))) (shownAt (hintPart (now (canonical .entry)) length (numbers (now (records .entry))) nodes node) (canonical .entry .ptr) («default_hint» .entry .ptr)) ⌝ }
 {
     let p = place(canonical, length, records, nodes, node, true);
     shown_or(canonical, p, default_hint)
 }
 
-// A node's data: the part of the sheet that holds it, else an empty part.
+// A node's data: the part of the sheet that holds it, else an empty part at the sheet's front.
 pub fn data<'a>(
     canonical: &'a [u8],
     length: usize,
@@ -190,7 +224,7 @@ pub fn data<'a>(
     nodes: usize,
     node: usize,
 ) -> &'a [u8]
-    ensures { λ r. ⌜ now r ≡ dataShown (now (canonical .entry)) length (numbers (now (records .entry))) nodes node ⌝ }
+    ensures { λ r. ⌜ Shows r (dataShown (now (canonical .entry)) length (numbers (now (records .entry))) nodes node) (shownAt (dataPart (now (canonical .entry)) length (numbers (now (records .entry))) nodes node) (canonical .entry .ptr) (canonical .entry .ptr)) ⌝ }
 {
     let p = place(canonical, length, records, nodes, node, false);
     shown(canonical, p)

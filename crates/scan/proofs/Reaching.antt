@@ -1,7 +1,7 @@
 -- Octets by their class, from a place on.
 use Prim.Native.Nat.{ℕ, zero, suc, _+_, _-_, _≤_, _<_}
 use native.Mathlib.Omega.{arith}
-use mathlib.Core.Path.{_≡_, sym, subst}
+use mathlib.Core.Path.{_≡_, subst}
 use mathlib.Core.List.{List}
 use lib.ListN.{getD}
 use Rattle.base.proofs.Cases.{by-le, by-eq}

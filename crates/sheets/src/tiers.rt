@@ -5,11 +5,23 @@ ghost use lib.ListN.{length};
 ghost use lib.Seq.{sets};
 ghost use Rattle.model.specs.Answers.{the};
 ghost use Rattle.model.specs.Decode.{decode₁};
-ghost use Rattle.model.specs.Limits.{maxNodes};
+ghost use Rattle.model.specs.Limits.{maxNodes, maxSource};
 ghost use Rattle.model.specs.Table.{tableOf};
+ghost use Rattle.walk.specs.Extent.{Measures};
 ghost use Rattle.sheets.specs.Owned.{Indexable, Judgeable, owned};
 use crate::index_in;
+use crate::note;
 use crate::own_in;
+use walk::Extent;
+
+// The sizes of the tree that octets are; of the notes, one is lent.
+pub fn measure(src: &[u8]) -> Extent
+    requires { ⌜ length (now src) ≤ maxSource ⌝ }
+    ensures { λ r. ⌜ Measures (decode₁ (now (src .entry))) r ⌝ }
+{
+    let mut notes: [usize; 1] = [0; 1];
+    note(src, &mut notes)
+}
 
 fn own_short(src: &[u8], table: &[u32], count: usize) -> bool
     requires { ⌜ Judgeable (length (now src)) (length (now table)) count × (count ≤ 192) ⌝ }

@@ -1,4 +1,5 @@
 pub mod Cuts
+pub mod Filling
 pub mod Judging
-pub mod Putting
 pub mod Spellings
+pub mod Choosing

@@ -1,181 +1,181 @@
--- How long spellings are, and each spelling written.
-use Prim.Native.Nat.{ℕ, _+_, _*_, _-_, _/_, _%_, _≤_, _<_}
+-- Each spelling written.
+use Prim.Native.Nat.{ℕ, _+_, _-_, _/_, _%_, _≤_, _<_}
 use native.Mathlib.Omega.{arith}
-use mathlib.Core.Path.{_≡_, refl, sym, ap, ap₂, _∙_}
-use mathlib.Core.List.{List, [], _∷_, _++_}
-use lib.ListN.{length, take, drop, getD, length-append, set, length-set}
-use borrow.Author.Tests.{lt-ltb, le-ltb, eq-eqb, ne-eqb}
-use Rattle.base.proofs.Cases.{by-eq, picked, unpicked}
-use Rattle.model.specs.Write.{quoteOne, quoteAll, hexDigit, hexAll, shown}
-use Rattle.scan.specs.Writes.{Wrote}
-use Rattle.spelling.specs.Spelled.{cut, framed, spelledAs, Width, hexPair}
+use mathlib.Core.Path.{_≡_, refl, sym, ap, _∙_}
+use mathlib.Core.Bool.{true}
+use mathlib.Core.List.{List, [], _∷_, _++_, append-assoc}
+use lib.ListN.{length, take, drop, getD, length-append}
+use borrow.Author.Tests.{lt-ltb, le-ltb, eq-eqb, ne-eqb, eqb-true}
+use Rattle.base.specs.Choice.{among, every}
+use Rattle.base.proofs.Cases.{by-eq, differ, picked, unpicked}
+use Rattle.base.proofs.Lists.{every-cases}
+use Rattle.model.specs.Write.{quoteOne, quoteAll, hexDigit, hexAll}
+use Rattle.octets.specs.Classes.{Class}
+use Rattle.scan.specs.Runs.{Under, Reach}
+use Rattle.scan.proofs.Places.{part-more}
+use Rattle.scan.proofs.Reaching.{reach-by}
+use Rattle.blocks.specs.Fronts.{Front}
+use Rattle.blocks.proofs.Laws.{front-both}
+use Rattle.spelling.specs.Spelled.{cut, hexPair, Standing, Escaping, Quotable}
 use Rattle.spelling.proofs.Cuts.{cut-none, cut-one, cut-length}
-use Rattle.spelling.proofs.Putting.{wrote-one, wrote-two}
-use Rattle.spelling.specs.declared.Spelling.{Spelling}
-use Rattle.spelling.specs.declared.Spelling.the-variants.{Token, Quoted, Hexadecimal}
+use Rattle.spelling.proofs.Filling.{Filling, fill-start, fill-room, fill-on, fill-done}
+use Rattle.spelling.proofs.Judging.{class-unprinted, print-past}
 
--- ---- one octet between quotation marks
+-- ---- octets between quotation marks
 
-module _ (b : ℕ) where
-  quote-mark : b ≡ 34 → quoteOne b ≡ 92 ∷ 34 ∷ []
-  unfolding quoteOne
-  quote-mark e = picked _ _ (eq-eqb b 34 e)
+quote-over : (b c : ℕ) → Class b c → 4 ≤ c → quoteOne b ≡ b ∷ []
+unfolding quoteOne
+quote-over b c k h = unpicked _ _ (k .quote ∙ ne-eqb c 1 (λ e. omega arith)) ∙ unpicked _ _ (k .backslash ∙ ne-eqb c 2 (λ e. omega arith))
 
-  pub wide-mark : b ≡ 34 → Width b 2
-  wide-mark e = record { is = sym (ap length (quote-mark e)); few = omega arith }
+quote-under : (b c : ℕ) → Class b c → c < 4 → among 32 126 b ≡ true → quoteOne b ≡ 92 ∷ b ∷ []
+unfolding quoteOne
+quote-under b c k h t =
+    by-eq c 1
+    (λ e. let z : b ≡ 34 = eqb-true b 34 (k .quote ∙ eq-eqb c 1 e) in rw z)
+    (λ n. by-eq c 2
+    (λ e. let z : b ≡ 92 = eqb-true b 92 (k .backslash ∙ eq-eqb c 2 e) in rw z)
+    (λ m. differ t (class-unprinted b c k h n m)))
 
-  pub room-mark : (out : List ℕ) (pos x : ℕ) → b ≡ 34 → pos + length (quoteOne b) ≤ length out → pos + 1 < length (set out pos x)
-  room-mark out pos x e h = omega (arith, ap length (quote-mark e), length-set out pos x)
-
-  pub write-mark : (out : List ℕ) (pos : ℕ) → b ≡ 34 → Wrote (quoteOne b) pos out (set (set out pos 92) (pos + 1) 34) (pos + 2)
-  write-mark out pos e = rw (quote-mark e) (wrote-two out pos 92 34)
-
-  module _ (n : b ≡ 34 → ⊥) where
-    quote-slash : b ≡ 92 → quoteOne b ≡ 92 ∷ 92 ∷ []
-    unfolding quoteOne
-    quote-slash e = unpicked _ _ (ne-eqb b 34 n) ∙ picked _ _ (eq-eqb b 92 e)
-
-    pub wide-slash : b ≡ 92 → Width b 2
-    wide-slash e = record { is = sym (ap length (quote-slash e)); few = omega arith }
-
-    pub room-slash : (out : List ℕ) (pos x : ℕ) → b ≡ 92 → pos + length (quoteOne b) ≤ length out → pos + 1 < length (set out pos x)
-    room-slash out pos x e h = omega (arith, ap length (quote-slash e), length-set out pos x)
-
-    pub write-slash : (out : List ℕ) (pos : ℕ) → b ≡ 92 → Wrote (quoteOne b) pos out (set (set out pos 92) (pos + 1) 92) (pos + 2)
-    write-slash out pos e = rw (quote-slash e) (wrote-two out pos 92 92)
-
-    module _ (m : b ≡ 92 → ⊥) where
-      quote-plain : quoteOne b ≡ b ∷ []
-      unfolding quoteOne
-      quote-plain = unpicked _ _ (ne-eqb b 34 n) ∙ unpicked _ _ (ne-eqb b 92 m)
-
-      pub wide-plain : Width b 1
-      wide-plain = record { is = sym (ap length quote-plain); few = omega arith }
-
-      pub write-plain : (out : List ℕ) (pos : ℕ) → Wrote (quoteOne b) pos out (set out pos b) (pos + 1)
-      write-plain out pos = rw quote-plain (wrote-one out pos b)
-
-quoted-some : (b : ℕ) → 1 ≤ length (quoteOne b)
-quoted-some b =
-    by-eq b 34
-    (λ e. omega (arith, wide-mark b e .is))
-    (λ n. by-eq b 92 (λ e. omega (arith, wide-slash b n e .is)) (λ m. omega (arith, wide-plain b n m .is)))
-
-pub room-first : (b pos : ℕ) (out : List ℕ) → pos + length (quoteOne b) ≤ length out → pos < length out
-room-first b pos out h = omega (arith, quoted-some b)
-
--- ---- the octets of a part, counted
-
-pub record Counting (src : List ℕ) (start end len i : ℕ) : Type 0 where
-  pub from : start ≤ i
-  pub within : i ≤ end
-  pub few : len ≤ 2 + 2 * (i - start)
-  pub same : len + length (quoteAll (cut src i end)) ≡ length (quoteAll (cut src start end)) + 2
-
-pub count-start : (src : List ℕ) (start end : ℕ) → start ≤ end → Counting src start end 2 start
-count-start src start end h = record { from = omega arith; within = h; few = omega arith; same = omega arith }
-
-module _ (src : List ℕ) (start end len i : ℕ) (w : Counting src start end len i) where
-  pub count-on : end ≤ length src → i < end → (r : ℕ) → Width (getD src i 0) r → Counting src start end (len + r) (i + 1)
-  unfolding quoteAll
-  count-on long h r k =
-      let e : length (quoteAll (cut src i end)) ≡ length (quoteOne (getD src i 0)) + length (quoteAll (cut src (i + 1) end)) =
-      ap (λ (x : List ℕ). length (quoteAll x)) (cut-one src i end h long) ∙ length-append (quoteOne (getD src i 0)) (quoteAll (cut src (i + 1) end)) in
-      record {
-        from = omega (arith, w .from);
-        within = omega arith;
-        few = omega (arith, w .few, w .from, k .few);
-        same = omega (arith, w .same, k .is);
-      }
-
-  pub count-end : end ≤ i → len ≡ length (quoteAll (cut src start end)) + 2
-  unfolding quoteAll
-  count-end h = omega (arith, w .same, ap (λ (x : List ℕ). length (quoteAll x)) (cut-none src i end h))
-
--- ---- octets that need no backslash
-
-quoted-more : (d : List ℕ) → length d ≤ length (quoteAll d)
+quote-one : (b : ℕ) (s : List ℕ) → quoteAll (b ∷ s) ≡ quoteOne b ++ quoteAll s
 unfolding quoteAll
-quoted-more [] = omega arith
-quoted-more (b ∷ d) = omega (arith, quoted-some b, quoted-more d, length-append (quoteOne b) (quoteAll d))
+quote-one b s = refl
 
-quote-short : (b : ℕ) → length (quoteOne b) ≡ 1 → quoteOne b ≡ b ∷ []
-quote-short b h =
-    by-eq b 34
-    (λ e. absurd (omega (arith, wide-mark b e .is)))
-    (λ n. by-eq b 92 (λ e. absurd (omega (arith, wide-slash b n e .is))) (λ m. quote-plain b n m))
+module _ (src : List ℕ) (end : ℕ) (long : end ≤ length src) where
+  quote-here : (i : ℕ) → i < end → (g : List ℕ) → quoteOne (getD src i 0) ≡ g → quoteAll (cut src i end) ≡ g ++ quoteAll (cut src (i + 1) end)
+  quote-here i h g e =
+      ap quoteAll (cut-one src i end h long) ∙ quote-one (getD src i 0) (cut src (i + 1) end) ∙ ap (λ (x : List ℕ). x ++ quoteAll (cut src (i + 1) end)) e
 
-unquoted : (d : List ℕ) → length (quoteAll d) ≡ length d → quoteAll d ≡ d
-unfolding quoteAll
-unquoted [] h = refl
-unquoted (b ∷ d) h =
-    let l : length (quoteOne b) + length (quoteAll d) ≡ 1 + length d = sym (length-append (quoteOne b) (quoteAll d)) ∙ h ∙ omega arith in
-    ap₂ _++_ (quote-short b (omega (arith, quoted-some b, quoted-more d))) (unquoted d (omega (arith, quoted-some b, quoted-more d)))
+  -- those that stand for themselves
+  quote-past : (start from : ℕ) → Standing src start from → from ≤ end → quoteAll (cut src start end) ≡ cut src start from ++ quoteAll (cut src from end)
+  quote-past start from w h =
+      reach-by (λ (i : ℕ). quoteAll (cut src start end) ≡ cut src start i ++ quoteAll (cut src i end)) src start from 4 from w
+      (rw (cut-none src start start (omega arith)))
+      (λ i f l a e.
+      e ∙ ap (λ (x : List ℕ). cut src start i ++ x) (quote-here i (omega arith) (getD src i 0 ∷ []) (quote-over (getD src i 0) (a .class) (a .is) (a .over)))
+      ∙ sym (append-assoc (cut src start i) (getD src i 0 ∷ []) (quoteAll (cut src (i + 1) end)))
+      ∙ ap (λ (x : List ℕ). x ++ quoteAll (cut src (i + 1) end)) (part-more src start i f (omega arith)))
 
-module _ (src : List ℕ) (start end n : ℕ) (long : end ≤ length src) (k : n ≡ length (quoteAll (cut src start end)) + 2) (h : n ≡ end - start + 2) where
-  as-they-stand : quoteAll (cut src start end) ≡ cut src start end
-  as-they-stand = unquoted (cut src start end) (omega (arith, cut-length src start end long))
+reach-standing : (src : List ℕ) (start end r : ℕ) → Reach src start end 4 r → Standing src start r
+reach-standing src start end r w = record { from = w .from; within = omega arith; all = w .all; stop = λ l. absurd (omega arith) }
 
-  pub stand-wrote : (pos r : ℕ) (out out′ : List ℕ) → Wrote (take (end - start) (drop start src)) pos out out′ r → Wrote (quoteAll (cut src start end)) pos out out′ r
-  stand-wrote pos r out out′ v = rw as-they-stand v
+-- ---- the loop over what is escaped
 
-hex-length : (d : List ℕ) → length (hexAll d) ≡ 2 * length d
+pub record Escapes (src : List ℕ) (from end pos : ℕ) (out₀ out : List ℕ) (i o : ℕ) : Type 0 where
+  pub rest : Escaping src i end
+  pub put : Filling (quoteAll (cut src from end)) pos out₀ out (quoteAll (cut src i end)) o
+
+pub escape-start : (src : List ℕ) (from end pos : ℕ) (out : List ℕ) → Escaping src from end → pos + length (quoteAll (cut src from end)) + 16 ≤ length out → Escapes src from end pos out out from pos
+escape-start src from end pos out e h = record { rest = e; put = fill-start (quoteAll (cut src from end)) pos out h }
+
+module _ (src : List ℕ) (from end pos : ℕ) (out₀ out : List ℕ) (i o : ℕ) (w : Escapes src from end pos out₀ out i o) where
+  pub escape-long : length out ≡ length out₀
+  escape-long = w .put .long
+
+  pub escape-end : end ≤ i → Front (quoteAll (cut src from end)) pos out₀ out o
+  unfolding quoteAll
+  escape-end h = fill-done (quoteAll (cut src from end)) pos out₀ out (quoteAll (cut src i end)) o (w .put) (ap quoteAll (cut-none src i end h))
+
+  module _ (h : i < end) where
+    pub escape-room : o + 2 ≤ length out
+    escape-room = omega (arith, w .put .spare, w .put .total, w .put .long)
+
+    module _ (s : ℕ) (r : Reach src (i + 1) end 4 s) where
+      abbrev turned : List ℕ
+      turned = (92 ∷ getD src i 0 ∷ []) ++ cut src (i + 1) s
+
+      -- the octet is printable, and so is what follows it
+      first-printed : among 32 126 (getD src i 0) ≡ true
+      first-printed =
+          every-cases (among 32 126) (getD src i 0) (cut src (i + 1) end) (ap (every (among 32 126)) (sym (cut-one src i end h (w .rest .long))) ∙ w .rest .printed) (λ t u. t)
+
+      rest-printed : every (among 32 126) (cut src s end) ≡ true
+      rest-printed =
+          every-cases (among 32 126) (getD src i 0) (cut src (i + 1) end) (ap (every (among 32 126)) (sym (cut-one src i end h (w .rest .long))) ∙ w .rest .printed)
+          (λ t u. sym (print-past src (i + 1) s end (w .rest .long) (reach-standing src (i + 1) end s r) (r .within)) ∙ u)
+
+      splits : quoteAll (cut src i end) ≡ turned ++ quoteAll (cut src s end)
+      splits =
+          let u : Under 4 (getD src i 0) = w .rest .due h in
+          quote-here src end (w .rest .long) i h (92 ∷ getD src i 0 ∷ []) (quote-under (getD src i 0) (u .class) (u .is) (u .under) first-printed)
+          ∙ ap (λ (x : List ℕ). (92 ∷ getD src i 0 ∷ []) ++ x) (quote-past src end (w .rest .long) (i + 1) s (reach-standing src (i + 1) end s r) (r .within))
+
+      turned-length : length turned ≡ 2 + (s - (i + 1))
+      turned-length = omega (arith, cut-length src (i + 1) s (omega (arith, r .within, w .rest .long)))
+
+      module _ (out′ : List ℕ) (p : ℕ) (f : Front (92 ∷ getD src i 0 ∷ []) o out out′ p) where
+        pub copy-source : i + 1 + (s - (i + 1)) ≤ length src
+        copy-source = omega (arith, r .from, r .within, w .rest .long)
+
+        pub copy-room : p + (s - (i + 1)) + 16 ≤ length out′
+        copy-room =
+            omega (arith, f .place, f .long, turned-length, fill-room (quoteAll (cut src from end)) pos out₀ out (quoteAll (cut src i end)) o (w .put) turned (quoteAll (cut src s end)) splits)
+
+        pub escape-on : (out″ : List ℕ) (q : ℕ) → Front (take (s - (i + 1)) (drop (i + 1) src)) p out′ out″ q → Escapes src from end pos out₀ out″ s q
+        escape-on out″ q g =
+            record {
+              rest = record { order = r .within; long = w .rest .long; printed = rest-printed; due = r .stop };
+              put =
+                  fill-on (quoteAll (cut src from end)) pos out₀ out (quoteAll (cut src i end)) o (w .put) turned (quoteAll (cut src s end)) splits out″ q
+                  (front-both (92 ∷ getD src i 0 ∷ []) (cut src (i + 1) s) o p q out out′ out″ f g);
+            }
+
+-- ---- what stands between quotation marks
+
+module _ (src : List ℕ) (start from end pos : ℕ) (out : List ℕ) (q : Quotable src start from end) where
+  whole : quoteAll (cut src start end) ≡ cut src start from ++ quoteAll (cut src from end)
+  whole = quote-past src end (q .rest .long) start from (q .standing) (q .rest .order)
+
+  whole-length : length (quoteAll (cut src start end)) ≡ from - start + length (quoteAll (cut src from end))
+  whole-length =
+      ap length whole ∙ length-append (cut src start from) (quoteAll (cut src from end))
+      ∙ ap (λ (n : ℕ). n + length (quoteAll (cut src from end))) (cut-length src start from (omega (arith, q .rest .order, q .rest .long)))
+
+  pub octets-source : start + (from - start) ≤ length src
+  octets-source = omega (arith, q .standing .from, q .rest .order, q .rest .long)
+
+  module _ (h : pos + length (quoteAll (cut src start end)) + 16 ≤ length out) where
+    pub octets-room : pos + (from - start) + 16 ≤ length out
+    octets-room = omega (arith, whole-length)
+
+    module _ (out′ : List ℕ) (o : ℕ) (f : Front (take (from - start) (drop start src)) pos out out′ o) where
+      pub octets-rest : o + length (quoteAll (cut src from end)) + 16 ≤ length out′
+      octets-rest = omega (arith, whole-length, f .place, f .long, cut-length src start from (omega (arith, q .rest .order, q .rest .long)))
+
+      pub octets-both : (out″ : List ℕ) (r : ℕ) → Front (quoteAll (cut src from end)) o out′ out″ r → Front (quoteAll (cut src start end)) pos out out″ r
+      octets-both out″ r g = rw whole (front-both (cut src start from) (quoteAll (cut src from end)) pos o r out out′ out″ f g)
+
+-- ---- the digits of octets
+
+hex-one : (b : ℕ) (s : List ℕ) → hexAll (b ∷ s) ≡ hexPair b ++ hexAll s
 unfolding hexAll
-hex-length [] = refl
-hex-length (b ∷ d) = omega (arith, hex-length d)
+hex-one b s = refl
 
--- ---- each spelling
+pub record Pairing (src : List ℕ) (start end pos : ℕ) (out₀ out : List ℕ) (i o : ℕ) : Type 0 where
+  pub within : i ≤ end
+  pub put : Filling (hexAll (cut src start end)) pos out₀ out (hexAll (cut src i end)) o
 
-module _ (src : List ℕ) (start end : ℕ) (k : Spelling) (w : shown (cut src start end) ≡ spelledAs k (cut src start end)) where
-  module _ (z : k ≡ Token) where
-    as-token : shown (cut src start end) ≡ cut src start end
-    unfolding spelledAs
-    as-token = w ∙ rw z
+pub pair-start : (src : List ℕ) (start end pos : ℕ) (out : List ℕ) → start ≤ end → pos + length (hexAll (cut src start end)) + 16 ≤ length out → Pairing src start end pos out out start pos
+pair-start src start end pos out h k = record { within = h; put = fill-start (hexAll (cut src start end)) pos out k }
 
-    pub token-length : end ≤ length src → end - start ≡ length (shown (cut src start end))
-    token-length h = sym (ap length as-token ∙ cut-length src start end h)
+module _ (src : List ℕ) (start end pos : ℕ) (out₀ out : List ℕ) (i o : ℕ) (w : Pairing src start end pos out₀ out i o) where
+  pub pair-long : length out ≡ length out₀
+  pair-long = w .put .long
 
-    pub token-room : (pos room : ℕ) → end ≤ length src → pos + length (shown (cut src start end)) ≤ room → pos + (end - start) ≤ room
-    token-room pos room h r = omega (arith, token-length h)
+  pub pair-room : o + 2 ≤ length out
+  pair-room = omega (arith, w .put .spare, w .put .total, w .put .long)
 
-    pub token-wrote : (pos r : ℕ) (out out′ : List ℕ) → Wrote (take (end - start) (drop start src)) pos out out′ r → Wrote (shown (cut src start end)) pos out out′ r
-    token-wrote pos r out out′ v = rw as-token v
+  pub pair-end : end ≤ i → Front (hexAll (cut src start end)) pos out₀ out o
+  unfolding hexAll
+  pair-end h = fill-done (hexAll (cut src start end)) pos out₀ out (hexAll (cut src i end)) o (w .put) (ap hexAll (cut-none src i end h))
 
-  module _ (z : k ≡ Quoted) where
-    as-quoted : shown (cut src start end) ≡ framed 34 (quoteAll (cut src start end))
-    unfolding spelledAs
-    as-quoted = w ∙ rw z
-
-    quoted-size : length (shown (cut src start end)) ≡ length (quoteAll (cut src start end)) + 2
-    quoted-size = omega (arith, ap length as-quoted, length-append (quoteAll (cut src start end)) (34 ∷ []))
-
-    pub quoted-length : (r : ℕ) → r ≡ length (quoteAll (cut src start end)) + 2 → r ≡ length (shown (cut src start end))
-    quoted-length r e = omega (arith, quoted-size)
-
-    pub quoted-room : (pos room : ℕ) → pos + length (shown (cut src start end)) ≤ room → pos + length (quoteAll (cut src start end)) + 2 ≤ room
-    quoted-room pos room h = omega (arith, quoted-size)
-
-    pub quoted-wrote : (pos r : ℕ) (out out′ : List ℕ) → Wrote (framed 34 (quoteAll (cut src start end))) pos out out′ r → Wrote (shown (cut src start end)) pos out out′ r
-    quoted-wrote pos r out out′ v = rw as-quoted v
-
-  module _ (z : k ≡ Hexadecimal) where
-    as-hex : shown (cut src start end) ≡ framed 35 (hexAll (cut src start end))
-    unfolding spelledAs
-    as-hex = w ∙ rw z
-
-    hex-size : length (shown (cut src start end)) ≡ length (hexAll (cut src start end)) + 2
-    hex-size = omega (arith, ap length as-hex, length-append (hexAll (cut src start end)) (35 ∷ []))
-
-    pub hexed-length : end ≤ length src → (end - start) * 2 + 2 ≡ length (shown (cut src start end))
-    hexed-length h = omega (arith, hex-size, hex-length (cut src start end), cut-length src start end h)
-
-    pub hexed-room : (pos room : ℕ) → pos + length (shown (cut src start end)) ≤ room → pos + length (hexAll (cut src start end)) + 2 ≤ room
-    hexed-room pos room h = omega (arith, hex-size)
-
-    pub hexed-wrote : (pos r : ℕ) (out out′ : List ℕ) → Wrote (framed 35 (hexAll (cut src start end))) pos out out′ r → Wrote (shown (cut src start end)) pos out out′ r
-    hexed-wrote pos r out out′ v = rw as-hex v
-
--- ---- a hexadecimal digit
+  pub pair-on : end ≤ length src → i < end → (out′ : List ℕ) (r : ℕ) → Front (hexPair (getD src i 0)) o out out′ r → Pairing src start end pos out₀ out′ (i + 1) r
+  pair-on long h out′ r f =
+      record {
+        within = omega arith;
+        put =
+            fill-on (hexAll (cut src start end)) pos out₀ out (hexAll (cut src i end)) o (w .put) (hexPair (getD src i 0)) (hexAll (cut src (i + 1) end))
+            (ap hexAll (cut-one src i end h long) ∙ hex-one (getD src i 0) (cut src (i + 1) end)) out′ r f;
+      }
 
 pub digit-low : (n : ℕ) → n < 10 → 48 + n ≡ hexDigit n
 unfolding hexDigit
@@ -185,8 +185,5 @@ pub digit-high : (n : ℕ) → 10 ≤ n → 87 + n ≡ hexDigit n
 unfolding hexDigit
 digit-high n h = sym (unpicked _ _ (le-ltb n 10 h))
 
-pub pair-room : (b pos x : ℕ) (out : List ℕ) → pos + length (hexPair b) ≤ length out → pos + 1 < length (set out pos x)
-pair-room b pos x out h = omega (arith, length-set out pos x)
-
-pub pair-wrote : (out : List ℕ) (pos x y b : ℕ) → x ≡ hexDigit (b / 16) → y ≡ hexDigit (b % 16) → Wrote (hexPair b) pos out (set (set out pos x) (pos + 1) y) (pos + 2)
-pair-wrote out pos x y b e f = rw (sym e, sym f) (wrote-two out pos x y)
+pub pair-front : (b x y pos r : ℕ) (out out′ : List ℕ) → x ≡ hexDigit (b / 16) → y ≡ hexDigit (b % 16) → Front (x ∷ y ∷ []) pos out out′ r → Front (hexPair b) pos out out′ r
+pair-front b x y pos r out out′ e f g = rw (sym e, sym f) g

@@ -1,13 +1,12 @@
--- The three spellings of octets in form 3, and what the passes over them count and write.
-use Prim.Native.Nat.{ℕ, _-_, _/_, _%_, _≤_}
+-- The spellings of octets in form 3, and what is found of them on the way.
+use Prim.Native.Nat.{ℕ, _-_, _/_, _%_, _≤_, _<_}
 use mathlib.Core.Path.{_≡_}
-use mathlib.Core.Bool.{Bool, false}
+use mathlib.Core.Bool.{true, false}
 use mathlib.Core.List.{List, [], _∷_, _++_}
-use lib.ListN.{length, take, drop}
-use Rattle.model.specs.Octets.{isTokenStart}
-use Rattle.model.specs.Write.{quoteOne, quoteAll, hexDigit, hexAll}
-use Rattle.spelling.specs.declared.Spelling.{Spelling}
-use Rattle.spelling.specs.declared.Spelling.the-variants.{Token, Quoted, Hexadecimal}
+use lib.ListN.{length, take, drop, getD}
+use Rattle.base.specs.Choice.{among, every}
+use Rattle.model.specs.Write.{isToken, hexDigit}
+use Rattle.scan.specs.Runs.{Under, Reach}
 
 -- the octets from one place to another
 abbrev pub cut : List ℕ → ℕ → ℕ → List ℕ
@@ -17,22 +16,30 @@ cut src start end = take (end - start) (drop start src)
 abbrev pub framed : ℕ → List ℕ → List ℕ
 framed m d = m ∷ d ++ m ∷ []
 
--- octets, spelled so
-unfoldable pub spelledAs : Spelling → List ℕ → List ℕ
-spelledAs Token d = d
-spelledAs Quoted d = framed 34 (quoteAll d)
-spelledAs Hexadecimal d = framed 35 (hexAll d)
-
--- the first octet may begin a token
-unfoldable pub startsToken : List ℕ → Bool
-startsToken [] = false
-startsToken (b ∷ s) = isTokenStart b
-
--- b takes r octets between quotation marks
-pub record Width (b r : ℕ) : Type 0 where
-  pub is : r ≡ length (quoteOne b)
-  pub few : r ≤ 2
-
 -- the two digits of an octet
 abbrev pub hexPair : ℕ → List ℕ
 hexPair b = hexDigit (b / 16) ∷ hexDigit (b % 16) ∷ []
+
+-- the octets from one place to another stand for themselves between quotation marks
+abbrev pub Standing : List ℕ → ℕ → ℕ → Type 0
+Standing src start r = Reach src start r 4 r
+
+-- as far as the octets make a token, which is all of them where they are one
+pub record TokenEnd (src : List ℕ) (start end r : ℕ) : Type 0 where
+  pub from : start ≤ r
+  pub within : r ≤ end
+  pub standing : Standing src start r
+  pub made : end ≤ r → isToken (cut src start end) ≡ true
+  pub unmade : r < end → isToken (cut src start end) ≡ false
+
+-- octets that are printable, of which the first, if any, is due a backslash
+pub record Escaping (src : List ℕ) (from end : ℕ) : Type 0 where
+  pub order : from ≤ end
+  pub long : end ≤ length src
+  pub printed : every (among 32 126) (cut src from end) ≡ true
+  pub due : from < end → Under 4 (getD src from 0)
+
+-- printable octets, of which those up to `from` stand for themselves, and the next one does not
+pub record Quotable (src : List ℕ) (start from end : ℕ) : Type 0 where
+  pub standing : Standing src start from
+  pub rest : Escaping src from end

@@ -1,157 +1,127 @@
 // How form 3 spells a string: as a token where its octets make one, else quoted where all are printable, else in hexadecimal.
+// The spelling goes to the front of scratch, so that octets are copied in blocks.
 ghost use mathlib.Core.Path.{_≡_};
+ghost use mathlib.Core.List.{_∷_, []};
 ghost use Prim.Native.Nat.{_+_, _≤_, _<_};
 ghost use lib.ListN.{length};
-ghost use Rattle.model.specs.Limits.{maxSource};
-ghost use Rattle.base.specs.Choice.{both};
-ghost use lib.Dec.{leb};
-ghost use Rattle.model.specs.Write.{quoteOne, quoteAll, hexDigit, hexAll, shown};
+ghost use Rattle.base.specs.Choice.{among, every};
+ghost use Rattle.model.specs.Write.{quoteAll, hexDigit, hexAll, shown};
 ghost use Rattle.octets.specs.Classes.{Classed};
-ghost use Rattle.scan.specs.Writes.{Wrote};
-ghost use Rattle.spelling.specs.Spelled.{cut, framed, spelledAs, startsToken, Width, hexPair};
+ghost use Rattle.blocks.specs.Fronts.{Front};
+ghost use Rattle.spelling.specs.Spelled.{cut, framed, hexPair, TokenEnd, Escaping, Quotable};
 use octets::class_of;
+use scan::class_end;
 
-// The three spellings.
-pub enum Spelling {
-    Token,
-    Quoted,
-    Hexadecimal,
-}
-
-// The first octet may begin a token.
-fn starts(classes: &[u8; 256], src: &[u8], start: usize, end: usize) -> bool
+// As far as the octets make a token; the start where none begins.
+fn token_end(classes: &[u8; 256], src: &[u8], start: usize, end: usize) -> usize
     requires { ⌜ Classed (now classes) ⌝ }
-    requires { ⌜ (start ≤ end) × (end ≤ length (now src)) ⌝ }
-    ensures { λ r. ⌜ r ≡ startsToken (cut (now (src .entry)) start end) ⌝ }
+    requires { ⌜ (start < end) × (end ≤ length (now src)) ⌝ }
+    ensures { λ r. ⌜ TokenEnd (now (src .entry)) start end r ⌝ }
 {
-    if start >= end {
-        return false;
-    }
     let c = class_of(classes, src[start]);
     if c < 14 {
-        return false;
+        return start;
     }
-    c < 18
+    if c > 17 {
+        return start;
+    }
+    class_end(classes, src, start + 1, end, 14)
 }
 
-// A token so far, and an octet of this class after it.
-fn still(token: bool, class: u8) -> bool
-    ensures { λ r. ⌜ r ≡ both token (leb 14 class) ⌝ }
-{
-    if token { class >= 14 } else { false }
-}
-
-// Which spelling the octets have, in one pass.
-fn spelling_of(classes: &[u8; 256], src: &[u8], start: usize, end: usize) -> Spelling
+// Whether all octets are printable.
+fn printable(classes: &[u8; 256], src: &[u8], start: usize, end: usize) -> bool
     requires { ⌜ Classed (now classes) ⌝ }
     requires { ⌜ (start ≤ end) × (end ≤ length (now src)) ⌝ }
-    ensures { λ r. ⌜ shown (cut (now (src .entry)) start end) ≡ spelledAs r (cut (now (src .entry)) start end) ⌝ }
+    ensures { λ r. ⌜ r ≡ every (among 32 126) (cut (now (src .entry)) start end) ⌝ }
 {
-    let mut token = starts(classes, src, start, end);
     let mut i = start;
     while i < end {
         let c = class_of(classes, src[i]);
         if c == 0 {
-            return Spelling::Hexadecimal;
+            return false;
         }
         if c == 3 {
-            return Spelling::Hexadecimal;
+            return false;
         }
-        token = still(token, c);
         i += 1;
     }
-    if token {
-        Spelling::Token
-    } else {
-        Spelling::Quoted
-    }
+    true
 }
 
-// How many octets an octet takes between quotation marks.
-fn quoted_width(b: u8) -> usize
-    ensures { λ r. ⌜ Width b r ⌝ }
+// Two octets; the place after them.
+fn put_two(a: u8, b: u8, out: &mut [u8], pos: usize) -> usize
+    requires { ⌜ pos + 2 ≤ length (now out) ⌝ }
+    ensures { λ r. ⌜ Front (a ∷ b ∷ []) pos (now (out .entry)) (now (out .exit)) r ⌝ }
 {
-    if b == 34 {
-        return 2;
-    }
-    if b == 92 {
-        return 2;
-    }
-    1
+    out[pos] = a;
+    out[pos + 1] = b;
+    pos + 2
 }
 
-// How many octets the octets take, with the quotation marks.
-fn quoted_len(src: &[u8], start: usize, end: usize) -> usize
-    requires { ⌜ (start ≤ end) × (end ≤ length (now src)) × (length (now src) ≤ maxSource) ⌝ }
-    ensures { λ r. ⌜ r ≡ length (quoteAll (cut (now (src .entry)) start end)) + 2 ⌝ }
-{
-    let mut len: usize = 2;
-    let mut i = start;
-    while i < end {
-        len += quoted_width(src[i]);
-        i += 1;
-    }
-    len
-}
-
-// How many octets the spelling has.
-pub fn spelled_len(classes: &[u8; 256], src: &[u8], start: usize, end: usize) -> usize
+// Octets with a backslash where one is due, as at the first of them; what stands between is copied.
+fn put_escaped(
+    classes: &[u8; 256],
+    src: &[u8],
+    from: usize,
+    end: usize,
+    out: &mut [u8],
+    pos: usize,
+) -> usize
     requires { ⌜ Classed (now classes) ⌝ }
-    requires { ⌜ (start ≤ end) × (end ≤ length (now src)) × (length (now src) ≤ maxSource) ⌝ }
-    ensures { λ r. ⌜ r ≡ length (shown (cut (now (src .entry)) start end)) ⌝ }
+    requires { ⌜ Escaping (now src) from end ⌝ }
+    requires { ⌜ pos + length (quoteAll (cut (now src) from end)) + 16 ≤ length (now out) ⌝ }
+    ensures { λ r. ⌜ Front (quoteAll (cut (now (src .entry)) from end)) pos (now (out .entry)) (now (out .exit)) r ⌝ }
 {
-    match spelling_of(classes, src, start, end) {
-        Spelling::Token => end - start,
-        Spelling::Quoted => quoted_len(src, start, end),
-        Spelling::Hexadecimal => (end - start) * 2 + 2,
-    }
-}
-
-// An octet between quotation marks.
-fn put_octet(b: u8, out: &mut [u8], pos: usize) -> usize
-    requires { ⌜ pos + length (quoteOne b) ≤ length (now out) ⌝ }
-    ensures { λ r. ⌜ Wrote (quoteOne b) pos (now (out .entry)) (now (out .exit)) r ⌝ }
-{
-    if b == 34 {
-        out[pos] = 92;
-        out[pos + 1] = 34;
-        return pos + 2;
-    }
-    if b == 92 {
-        out[pos] = 92;
-        out[pos + 1] = 92;
-        return pos + 2;
-    }
-    out[pos] = b;
-    pos + 1
-}
-
-// Octets one by one, with a backslash where one is due.
-fn put_escaped(src: &[u8], start: usize, end: usize, out: &mut [u8], pos: usize) -> usize
-    requires { ⌜ (start ≤ end) × (end ≤ length (now src)) ⌝ }
-    requires { ⌜ pos + length (quoteAll (cut (now src) start end)) ≤ length (now out) ⌝ }
-    ensures { λ r. ⌜ Wrote (quoteAll (cut (now (src .entry)) start end)) pos (now (out .entry)) (now (out .exit)) r ⌝ }
-{
-    let mut i = start;
+    let mut i = from;
     let mut o = pos;
     while i < end {
-        o = put_octet(src[i], out, o);
-        i += 1;
+        let p = put_two(92, src[i], out, o);
+        let next = i + 1;
+        let stop = class_end(classes, src, next, end, 4);
+        o = blocks::copy(src, next, stop - next, out, p);
+        i = stop;
     }
     o
 }
 
-// What stands between quotation marks. Where no backslash is due, the octets are copied as they stand.
-fn put_octets(src: &[u8], start: usize, end: usize, out: &mut [u8], pos: usize) -> usize
-    requires { ⌜ (start ≤ end) × (end ≤ length (now src)) × (length (now src) ≤ maxSource) ⌝ }
-    requires { ⌜ pos + length (quoteAll (cut (now src) start end)) ≤ length (now out) ⌝ }
-    ensures { λ r. ⌜ Wrote (quoteAll (cut (now (src .entry)) start end)) pos (now (out .entry)) (now (out .exit)) r ⌝ }
+// What stands between quotation marks. Octets up to `from` stand for themselves.
+fn put_octets(
+    classes: &[u8; 256],
+    src: &[u8],
+    start: usize,
+    from: usize,
+    end: usize,
+    out: &mut [u8],
+    pos: usize,
+) -> usize
+    requires { ⌜ Classed (now classes) ⌝ }
+    requires { ⌜ Quotable (now src) start from end ⌝ }
+    requires { ⌜ pos + length (quoteAll (cut (now src) start end)) + 16 ≤ length (now out) ⌝ }
+    ensures { λ r. ⌜ Front (quoteAll (cut (now (src .entry)) start end)) pos (now (out .entry)) (now (out .exit)) r ⌝ }
 {
-    let len = end - start;
-    if quoted_len(src, start, end) == len + 2 {
-        return scan::copy(src, start, len, out, pos);
-    }
-    put_escaped(src, start, end, out, pos)
+    let o = blocks::copy(src, start, from - start, out, pos);
+    put_escaped(classes, src, from, end, out, o)
+}
+
+// Octets between quotation marks.
+fn put_quoted(
+    classes: &[u8; 256],
+    src: &[u8],
+    start: usize,
+    from: usize,
+    end: usize,
+    out: &mut [u8],
+    pos: usize,
+) -> usize
+    requires { ⌜ Classed (now classes) ⌝ }
+    requires { ⌜ Quotable (now src) start from end ⌝ }
+    requires { ⌜ pos + length (quoteAll (cut (now src) start end)) + 18 ≤ length (now out) ⌝ }
+    ensures { λ r. ⌜ Front (framed 34 (quoteAll (cut (now (src .entry)) start end))) pos (now (out .entry)) (now (out .exit)) r ⌝ }
+{
+    out[pos] = 34;
+    let o = put_octets(classes, src, start, from, end, out, pos + 1);
+    out[o] = 34;
+    o + 1
 }
 
 // A hexadecimal digit, in lower case.
@@ -164,19 +134,17 @@ fn hex_digit(n: u8) -> u8
 
 // The two digits of an octet.
 fn put_pair(b: u8, out: &mut [u8], pos: usize) -> usize
-    requires { ⌜ pos + length (hexPair b) ≤ length (now out) ⌝ }
-    ensures { λ r. ⌜ Wrote (hexPair b) pos (now (out .entry)) (now (out .exit)) r ⌝ }
+    requires { ⌜ pos + 2 ≤ length (now out) ⌝ }
+    ensures { λ r. ⌜ Front (hexPair b) pos (now (out .entry)) (now (out .exit)) r ⌝ }
 {
-    out[pos] = hex_digit(b / 16);
-    out[pos + 1] = hex_digit(b % 16);
-    pos + 2
+    put_two(hex_digit(b / 16), hex_digit(b % 16), out, pos)
 }
 
 // The digits of octets.
 fn put_pairs(src: &[u8], start: usize, end: usize, out: &mut [u8], pos: usize) -> usize
     requires { ⌜ (start ≤ end) × (end ≤ length (now src)) ⌝ }
-    requires { ⌜ pos + length (hexAll (cut (now src) start end)) ≤ length (now out) ⌝ }
-    ensures { λ r. ⌜ Wrote (hexAll (cut (now (src .entry)) start end)) pos (now (out .entry)) (now (out .exit)) r ⌝ }
+    requires { ⌜ pos + length (hexAll (cut (now src) start end)) + 16 ≤ length (now out) ⌝ }
+    ensures { λ r. ⌜ Front (hexAll (cut (now (src .entry)) start end)) pos (now (out .entry)) (now (out .exit)) r ⌝ }
 {
     let mut i = start;
     let mut o = pos;
@@ -187,23 +155,11 @@ fn put_pairs(src: &[u8], start: usize, end: usize, out: &mut [u8], pos: usize) -
     o
 }
 
-// Octets between quotation marks.
-fn put_quoted(src: &[u8], start: usize, end: usize, out: &mut [u8], pos: usize) -> usize
-    requires { ⌜ (start ≤ end) × (end ≤ length (now src)) × (length (now src) ≤ maxSource) ⌝ }
-    requires { ⌜ pos + length (quoteAll (cut (now src) start end)) + 2 ≤ length (now out) ⌝ }
-    ensures { λ r. ⌜ Wrote (framed 34 (quoteAll (cut (now (src .entry)) start end))) pos (now (out .entry)) (now (out .exit)) r ⌝ }
-{
-    out[pos] = 34;
-    let o = put_octets(src, start, end, out, pos + 1);
-    out[o] = 34;
-    o + 1
-}
-
 // Octets in hexadecimal, between number signs.
 fn put_hexadecimal(src: &[u8], start: usize, end: usize, out: &mut [u8], pos: usize) -> usize
     requires { ⌜ (start ≤ end) × (end ≤ length (now src)) ⌝ }
-    requires { ⌜ pos + length (hexAll (cut (now src) start end)) + 2 ≤ length (now out) ⌝ }
-    ensures { λ r. ⌜ Wrote (framed 35 (hexAll (cut (now (src .entry)) start end))) pos (now (out .entry)) (now (out .exit)) r ⌝ }
+    requires { ⌜ pos + length (hexAll (cut (now src) start end)) + 18 ≤ length (now out) ⌝ }
+    ensures { λ r. ⌜ Front (framed 35 (hexAll (cut (now (src .entry)) start end))) pos (now (out .entry)) (now (out .exit)) r ⌝ }
 {
     out[pos] = 35;
     let o = put_pairs(src, start, end, out, pos + 1);
@@ -211,7 +167,7 @@ fn put_hexadecimal(src: &[u8], start: usize, end: usize, out: &mut [u8], pos: us
     o + 1
 }
 
-// The spelling; the place after it.
+// The spelling; the place after it. Up to 15 octets behind it are overwritten.
 pub fn put_spelled(
     classes: &[u8; 256],
     src: &[u8],
@@ -221,13 +177,20 @@ pub fn put_spelled(
     pos: usize,
 ) -> usize
     requires { ⌜ Classed (now classes) ⌝ }
-    requires { ⌜ (start ≤ end) × (end ≤ length (now src)) × (length (now src) ≤ maxSource) ⌝ }
-    requires { ⌜ pos + length (shown (cut (now src) start end)) ≤ length (now out) ⌝ }
-    ensures { λ r. ⌜ Wrote (shown (cut (now (src .entry)) start end)) pos (now (out .entry)) (now (out .exit)) r ⌝ }
+    requires { ⌜ (start ≤ end) × (end ≤ length (now src)) ⌝ }
+    requires { ⌜ pos + length (shown (cut (now src) start end)) + 16 ≤ length (now out) ⌝ }
+    ensures { λ r. ⌜ Front (shown (cut (now (src .entry)) start end)) pos (now (out .entry)) (now (out .exit)) r ⌝ }
 {
-    match spelling_of(classes, src, start, end) {
-        Spelling::Token => scan::copy(src, start, end - start, out, pos),
-        Spelling::Quoted => put_quoted(src, start, end, out, pos),
-        Spelling::Hexadecimal => put_hexadecimal(src, start, end, out, pos),
+    if start >= end {
+        return put_two(34, 34, out, pos);
     }
+    let token = token_end(classes, src, start, end);
+    if token >= end {
+        return blocks::copy(src, start, end - start, out, pos);
+    }
+    let from = class_end(classes, src, token, end, 4);
+    if printable(classes, src, from, end) {
+        return put_quoted(classes, src, start, from, end, out, pos);
+    }
+    put_hexadecimal(src, start, end, out, pos)
 }

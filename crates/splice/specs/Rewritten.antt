@@ -1,6 +1,7 @@
 -- What rewriting a sheet in place needs, and what it leaves.
 use Prim.Native.Nat.{ℕ, _+_, _*_, _-_, _≤_}
 use mathlib.Core.Path.{_≡_}
+use mathlib.Core.Bool.{true}
 use mathlib.Core.Option.{some}
 use mathlib.Core.List.{List}
 use lib.ListN.{length, take, replicate}
@@ -37,4 +38,4 @@ pub record Rewritable (canonical : List ℕ) (numbers old oldCount len count : �
 pub record Rewritten (canonical table : List ℕ) (old oldCount len count : ℕ) (canonical′ table′ : List ℕ) (r : Reading) : Type 0 where
   pub octets : canonical′ ≡ sets canonical len (replicate (old - len) 0)
   pub records : table′ ≡ settled table (width * oldCount) (tableOf (the (decode₁ (take len canonical))))
-  pub tells : (c t : List ℕ) → outcome r c t ≡ record { number = Accepted; octets = len; count = count; canonical = c; table = t }
+  pub tells : (c t : List ℕ) → outcome r c t ≡ record { accepted = true; number = Accepted; octets = len; count = count; canonical = c; table = t }

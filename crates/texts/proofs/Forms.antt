@@ -8,13 +8,13 @@ use mathlib.Core.List.{List, [], _∷_}
 use lib.ListN.{length, getD}
 use borrow.Author.Tests.{ne-eqb}
 use Rattle.base.specs.Choice.{chain}
-use Rattle.base.proofs.Cases.{by-eq, unpicked}
+use Rattle.base.proofs.Cases.{by-eq, unpicked, differ}
 use Rattle.model.specs.Decode.{nestings, onlyTree, onlyIn, nest, decode₁, decode₂, decode₃, decode}
 use Rattle.model.specs.Lexemes.{lexemesBy, strictLexemes}
 use Rattle.model.specs.Tree.{Tree, canon}
 use Rattle.walk.specs.declared.Extent.{Extent}
 use Rattle.advanced.specs.Converted.{Converts}
-use Rattle.texts.specs.Texts.{Takeable, Braced, Enclosed, Opens, Taken}
+use Rattle.texts.specs.Texts.{Takeable, Braced, Enclosed, Opens, Bare, Taken}
 use Rattle.texts.proofs.Taking.{converted}
 
 -- ---- form 2 with a brace, or another text
@@ -49,6 +49,16 @@ module _ (form : ℕ) (text : List ℕ) where
   pub opens-brace : form ≡ 2 → (length text ≡ 0 → ⊥) → getD text 0 0 ≡ 123 → Opens form text true
   unfolding Opens decode
   opens-brace q n e = record { braced = record { more = omega arith; first = e }; is = rw q }
+
+module _ (form : ℕ) (text : List ℕ) where
+  pub bare-not : Bare form text false
+  bare-not = record { bared = λ e. differ e refl }
+
+  pub bare-basic : (form ≡ 2) → (b : Bool) → Opens form text b → b ≡ false → Bare form text true
+  unfolding Opens decode
+  bare-basic e b o f =
+      let q : Opens form text false = subst (Opens form text) f o in
+      record { bared = λ _. record { basic = e; is = q (omega arith) (omega arith) } }
 
 -- ---- each form, told as the form's
 module _ (form : ℕ) (text : List ℕ) (room : ℕ) (g : Takeable form (length text) room) where

@@ -49,6 +49,14 @@ unfoldable pub Opens : ℕ → List ℕ → Bool → Type 0
 Opens form text true = Enclosed form text
 Opens form text false = 1 ≤ form → form ≤ 2 → decode form text ≡ decode₁ text
 
+-- basic text that means what it means as canonical text
+pub record Bared (form : ℕ) (text : List ℕ) : Type 0 where
+  pub basic : form ≡ 2
+  pub is : decode form text ≡ decode 1 text
+
+pub record Bare (form : ℕ) (text : List ℕ) (r : Bool) : Type 0 where
+  pub bared : r ≡ true → Bared form text
+
 -- ---- what is told
 
 -- the sizes of the tree o that a text means, if it means one; where the tree's canonical form is no longer than a sheet, it stands

@@ -5,7 +5,7 @@ ghost use lib.ListN.{length};
 ghost use Rattle.model.specs.Decode.{decode₁, decode₂, decode};
 ghost use Rattle.octets.specs.Classes.{Classed, Lettered};
 ghost use Rattle.advanced.specs.Converted.{Lent};
-ghost use Rattle.texts.specs.Texts.{textVerdict, Takeable, Braced, Opens, Taken};
+ghost use Rattle.texts.specs.Texts.{textVerdict, Takeable, Braced, Opens, Bare, Taken};
 use walk::Extent;
 
 // Row 1 or 2, of a form and a text's length; 0 where neither applies.
@@ -35,6 +35,19 @@ fn braced(form: u32, text: &[u8]) -> bool
         return false;
     }
     if text[0] != b'{' {
+        return false;
+    }
+    true
+}
+
+// Whether a text is basic text outside braces, which is canonical text.
+pub fn bare(form: u32, text: &[u8]) -> bool
+    ensures { λ r. ⌜ Bare form (now (text .entry)) r ⌝ }
+{
+    if form != 2 {
+        return false;
+    }
+    if braced(form, text) {
         return false;
     }
     true

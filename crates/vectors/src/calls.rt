@@ -1,5 +1,4 @@
-// The entries under test, each with the values that a line of `expected` has. Those that are lent a table have it as numbers or, where
-// `records` says so, as records.
+// The entries under test, each with the values that a line of `expected` has.
 use answers::Comparing;
 use answers::Place;
 use answers::Reading;
@@ -34,18 +33,8 @@ fn of_reading(reading: Reading) -> Answer {
     }
 }
 
-pub fn read(
-    records: bool,
-    form: u32,
-    source: &[u8],
-    canonical: &mut [u8],
-    table: &mut [u32],
-) -> Answer {
-    if records {
-        of_reading(over_records::read(form, source, canonical, table))
-    } else {
-        of_reading(etglavino::read(form, source, canonical, table))
-    }
+pub fn read(form: u32, source: &[u8], canonical: &mut [u8], table: &mut [u32]) -> Answer {
+    of_reading(etglavino::read(form, source, canonical, table))
 }
 
 pub fn write(form: u32, canonical: &[u8], length: usize, out: &mut [u8]) -> Answer {
@@ -59,7 +48,6 @@ pub fn write(form: u32, canonical: &[u8], length: usize, out: &mut [u8]) -> Answ
 }
 
 pub fn replace(
-    records: bool,
     form: u32,
     text: &[u8],
     canonical: &mut [u8],
@@ -68,11 +56,7 @@ pub fn replace(
     nodes: usize,
     node: usize,
 ) -> Answer {
-    if records {
-        of_reading(over_records::replace(form, text, canonical, table, length, nodes, node))
-    } else {
-        of_reading(etglavino::replace(form, text, canonical, table, length, nodes, node))
-    }
+    of_reading(etglavino::replace(form, text, canonical, table, length, nodes, node))
 }
 
 pub fn same(a: &[u8], a_length: usize, b: &[u8], b_length: usize, default_hint: &[u8]) -> Answer {
@@ -106,7 +90,6 @@ fn of_place(place: Place, canonical: &[u8], shown: &[u8], otherwise: &[u8]) -> A
 }
 
 pub fn hint<'a>(
-    records: bool,
     canonical: &'a [u8],
     length: usize,
     table: &[u32],
@@ -114,32 +97,13 @@ pub fn hint<'a>(
     node: usize,
     default_hint: &'a [u8],
 ) -> Answer {
-    if records {
-        let place = over_records::place(canonical, length, table, nodes, node, true);
-        let shown = over_records::hint(canonical, length, table, nodes, node, default_hint);
-        of_place(place, canonical, shown, default_hint)
-    } else {
-        let place = etglavino::hint_place(canonical, length, table, nodes, node);
-        let shown = etglavino::hint(canonical, length, table, nodes, node, default_hint);
-        of_place(place, canonical, shown, default_hint)
-    }
+    let place = etglavino::hint_place(canonical, length, table, nodes, node);
+    let shown = etglavino::hint(canonical, length, table, nodes, node, default_hint);
+    of_place(place, canonical, shown, default_hint)
 }
 
-pub fn data(
-    records: bool,
-    canonical: &[u8],
-    length: usize,
-    table: &[u32],
-    nodes: usize,
-    node: usize,
-) -> Answer {
-    if records {
-        let place = over_records::place(canonical, length, table, nodes, node, false);
-        let shown = over_records::data(canonical, length, table, nodes, node);
-        of_place(place, canonical, shown, b"")
-    } else {
-        let place = etglavino::data_place(canonical, length, table, nodes, node);
-        let shown = etglavino::data(canonical, length, table, nodes, node);
-        of_place(place, canonical, shown, b"")
-    }
+pub fn data(canonical: &[u8], length: usize, table: &[u32], nodes: usize, node: usize) -> Answer {
+    let place = etglavino::data_place(canonical, length, table, nodes, node);
+    let shown = etglavino::data(canonical, length, table, nodes, node);
+    of_place(place, canonical, shown, b"")
 }

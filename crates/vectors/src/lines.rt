@@ -14,13 +14,10 @@ fn end() {
 }
 
 // As far as the first value.
-fn begin(number: u64, name: &[u8], records: bool, answer: Answer) {
+fn begin(number: u64, name: &[u8], answer: Answer) {
     io::print_decimal(STDOUT_FILENO, number);
     io::write_all(STDOUT_FILENO, b" ");
     io::write_all(STDOUT_FILENO, name);
-    if records {
-        io::write_all(STDOUT_FILENO, b"_records");
-    }
     if answer.number == DIFFERS {
         io::write_all(STDOUT_FILENO, b" differs");
     } else {
@@ -31,34 +28,27 @@ fn begin(number: u64, name: &[u8], records: bool, answer: Answer) {
 
 // One value.
 pub fn one(number: u64, name: &[u8], answer: Answer) {
-    begin(number, name, false, answer);
+    begin(number, name, answer);
     end();
 }
 
 // Two values.
-pub fn two(number: u64, name: &[u8], records: bool, answer: Answer) {
-    begin(number, name, records, answer);
+pub fn two(number: u64, name: &[u8], answer: Answer) {
+    begin(number, name, answer);
     put(answer.second as u64);
     end();
 }
 
 // One value and an output.
 pub fn output(number: u64, name: &[u8], answer: Answer, out: &[u8]) {
-    begin(number, name, false, answer);
+    begin(number, name, answer);
     put(digest::of_octets(out));
     end();
 }
 
 // Two values, a sheet and its table.
-pub fn sheet(
-    number: u64,
-    name: &[u8],
-    records: bool,
-    answer: Answer,
-    canonical: &[u8],
-    table: &[u32],
-) {
-    begin(number, name, records, answer);
+pub fn sheet(number: u64, name: &[u8], answer: Answer, canonical: &[u8], table: &[u32]) {
+    begin(number, name, answer);
     put(answer.second as u64);
     put(digest::of_octets(canonical));
     put(digest::of_numbers(table));

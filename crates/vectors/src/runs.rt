@@ -1,6 +1,5 @@
 // Cases that are run: lent buffers filled, the other arguments read, the entry called, the line written. The functions that
-// answer a bool say whether the case was well formed; if not, they have written no line. A case with a table is run twice, with the
-// table lent as numbers and as records.
+// answer a bool say whether the case was well formed; if not, they have written no line.
 ghost use mathlib.Core.Path.{_≡_};
 ghost use lib.ListN.{length};
 use crate::calls;
@@ -75,43 +74,13 @@ fn in_table(
     canonical: &mut [u8],
     table: &mut [u32],
 ) {
-    over(number, case, sheet, rows, false, canonical, table);
-    over(number, case, sheet, rows, true, canonical, table);
-}
-
-// The same, over numbers or over records.
-fn over(
-    number: u64,
-    case: &[u8],
-    sheet: Lending,
-    rows: Lending,
-    records: bool,
-    canonical: &mut [u8],
-    table: &mut [u32],
-) {
     lend_octets(case, sheet, canonical);
     lend_numbers(case, rows, table);
     match octet(case, 0) {
-        1 => read(number, case, records, canonical, table),
-        3 => replace(number, case, rows.next, records, canonical, table),
-        5 => hint(
-            number,
-            case,
-            sheet.next,
-            rows.next,
-            records,
-            canonical,
-            table,
-        ),
-        _ => data(
-            number,
-            case,
-            sheet.next,
-            rows.next,
-            records,
-            canonical,
-            table,
-        ),
+        1 => read(number, case, canonical, table),
+        3 => replace(number, case, rows.next, canonical, table),
+        5 => hint(number, case, sheet.next, rows.next, canonical, table),
+        _ => data(number, case, sheet.next, rows.next, canonical, table),
     }
 }
 
@@ -156,9 +125,9 @@ fn in_octets(
     }
 }
 
-fn read(number: u64, case: &[u8], records: bool, canonical: &mut [u8], table: &mut [u32]) {
-    let answer = calls::read(records, number4(case, 1), slice(case, 5), canonical, table);
-    lines::sheet(number, b"read", records, answer, canonical, table);
+fn read(number: u64, case: &[u8], canonical: &mut [u8], table: &mut [u32]) {
+    let answer = calls::read(number4(case, 1), slice(case, 5), canonical, table);
+    lines::sheet(number, b"read", answer, canonical, table);
 }
 
 fn write(number: u64, case: &[u8], at: usize, canonical: &[u8], out: &mut [u8]) {
@@ -166,21 +135,14 @@ fn write(number: u64, case: &[u8], at: usize, canonical: &[u8], out: &mut [u8]) 
     lines::output(number, b"write", answer, out);
 }
 
-fn replace(
-    number: u64,
-    case: &[u8],
-    at: usize,
-    records: bool,
-    canonical: &mut [u8],
-    table: &mut [u32],
-) {
+fn replace(number: u64, case: &[u8], at: usize, canonical: &mut [u8], table: &mut [u32]) {
     let length = number8(case, at);
     let nodes = number8(case, past(case, at, 8));
     let node = number8(case, past(case, at, 16));
     let form = number4(case, 1);
     let text = slice(case, 5);
-    let answer = calls::replace(records, form, text, canonical, table, length, nodes, node);
-    lines::sheet(number, b"replace", records, answer, canonical, table);
+    let answer = calls::replace(form, text, canonical, table, length, nodes, node);
+    lines::sheet(number, b"replace", answer, canonical, table);
 }
 
 fn same(number: u64, case: &[u8], left_at: usize, right_at: usize, left: &[u8], right: &[u8]) {
@@ -196,7 +158,6 @@ fn hint<'a>(
     case: &'a [u8],
     length_at: usize,
     at: usize,
-    records: bool,
     canonical: &'a [u8],
     table: &[u32],
 ) {
@@ -204,22 +165,14 @@ fn hint<'a>(
     let nodes = number8(case, at);
     let node = number8(case, past(case, at, 8));
     let default_hint = slice(case, past(case, at, 16));
-    let answer = calls::hint(records, canonical, length, table, nodes, node, default_hint);
-    lines::two(number, b"hint", records, answer);
+    let answer = calls::hint(canonical, length, table, nodes, node, default_hint);
+    lines::two(number, b"hint", answer);
 }
 
-fn data(
-    number: u64,
-    case: &[u8],
-    length_at: usize,
-    at: usize,
-    records: bool,
-    canonical: &[u8],
-    table: &[u32],
-) {
+fn data(number: u64, case: &[u8], length_at: usize, at: usize, canonical: &[u8], table: &[u32]) {
     let length = number8(case, length_at);
     let nodes = number8(case, at);
     let node = number8(case, past(case, at, 8));
-    let answer = calls::data(records, canonical, length, table, nodes, node);
-    lines::two(number, b"data", records, answer);
+    let answer = calls::data(canonical, length, table, nodes, node);
+    lines::two(number, b"data", answer);
 }

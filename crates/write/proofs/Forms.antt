@@ -12,14 +12,16 @@ use Rattle.model.specs.Answers.{the, written}
 use Rattle.model.specs.Decode.{decode₁}
 use Rattle.model.specs.Tree.{Tree, canon}
 use Rattle.model.specs.Write.{advanced, basic}
+use Rattle.model.proofs.Laws.{advanced-within-2n}
 use Rattle.model.proofs.OutputSizes.{basic-length}
 use Rattle.scan.specs.Writes.{Wrote}
+use Rattle.blocks.specs.Fronts.{Front}
 use Rattle.writer.specs.Sheets.{Sheet}
 use Rattle.write.proofs.Outputs.{own-sheet, own-advanced, own-basic, own-canonical, wrote-settled}
 use Rattle.base.proofs.Lists.{front-length}
 use Rattle.lookup.proofs.Sheets.{sheet-of}
 use Rattle.answers.specs.Cases.{RefusesWriting, output}
-use Rattle.write.specs.Sized.{Good, sized}
+use Rattle.write.specs.Sized.{Good, Roomy, sized}
 use Rattle.answers.specs.declared.Writing.{Writing}
 use Rattle.answers.specs.declared.Writing.the-variants.{Accepted}
 
@@ -93,14 +95,17 @@ module _ (c : List ℕ) (n : ℕ) (g : Good c n) where
   advanced-here : advanced (the (decode₁ (take n c))) ≡ written 3 c n
   advanced-here = own-advanced c n (g .tree) (g .is)
 
-  module _ (k : ℕ) (e : k ≡ length (advanced (the (decode₁ (take n c))))) where
+  pub scratch-room : (scratch : List ℕ) → Roomy n scratch → length (advanced (the (decode₁ (take n c)))) + 16 ≤ length scratch
+  scratch-room scratch r = omega (arith, r .room, advanced-within-2n (the (decode₁ (take n c))), tree-size)
+
+  module _ (scratch scratch′ : List ℕ) (k : ℕ) (f : Front (advanced (the (decode₁ (take n c)))) 0 scratch scratch′ k) where
+    advanced-size : k ≡ length (written 3 c n)
+    advanced-size = omega (arith, f .place, ap length advanced-here)
+
     pub advanced-refused : (out : List ℕ) (a : Writing) → RefusesWriting 6 a → length out < k → output a out ≡ sized (written 3 c n) out
-    advanced-refused out a f h = too-long (written 3 c n) out (omega (arith, e, ap length advanced-here)) a f
+    advanced-refused out a g h = too-long (written 3 c n) out (omega (arith, advanced-size)) a g
 
-    pub advanced-room : (out : List ℕ) → k ≤ length out → length (advanced (the (decode₁ (take n c)))) ≤ length out
-    advanced-room out h = omega (arith, e)
-
-    pub advanced-written : (out out′ : List ℕ) (r : ℕ) → k ≤ length out → Wrote (advanced (the (decode₁ (take n c)))) 0 out out′ r → output (Accepted k) out′ ≡ sized (written 3 c n) out
+    pub advanced-written : (out out′ : List ℕ) (r : ℕ) → k ≤ length out → Wrote (take k (drop 0 scratch′)) 0 out out′ r → output (Accepted k) out′ ≡ sized (written 3 c n) out
     advanced-written out out′ r h w =
-        let v : Wrote (written 3 c n) 0 out out′ r = rw advanced-here at w in
-        goes-out (written 3 c n) out out′ k r (e ∙ ap length advanced-here) (omega (arith, e, ap length advanced-here)) v
+        let v : Wrote (written 3 c n) 0 out out′ r = rw (f .same ∙ advanced-here) at w in
+        goes-out (written 3 c n) out out′ k r advanced-size (omega (arith, advanced-size)) v

@@ -1,5 +1,5 @@
 -- Row 6 of what is written out.
-use Prim.Native.Nat.{ℕ}
+use Prim.Native.Nat.{ℕ, _+_, _*_, _≤_}
 use mathlib.Core.Path.{_≡_}
 use mathlib.Core.Option.{some}
 use mathlib.Core.List.{List}
@@ -20,3 +20,7 @@ sized x out = pick (ltb (length out) (length x)) (unwritten Size out) (output (A
 pub record Good (canonical : List ℕ) (len : ℕ) : Type 0 where
   pub tree : Tree
   pub is : sheetTree canonical len ≡ some tree
+
+-- scratch for form 3 of a sheet of n octets, and for what a block may overrun
+pub record Roomy (n : ℕ) (scratch : List ℕ) : Type 0 where
+  pub room : 2 * n + 64 ≤ length scratch

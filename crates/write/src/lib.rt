@@ -1,12 +1,12 @@
-// Writing: a sheet out in any of the three forms. The length is told before anything is written, so that a refusal leaves the
-// lent output as it was.
+// Writing: a sheet out in any of the three forms. The length is known before anything is written to the lent output, so that a
+// refusal leaves it as it was.
 ghost use mathlib.Core.Path.{_≡_};
+ghost use Prim.Native.Nat.{_≤_};
 ghost use Rattle.model.specs.Answers.{written, writing};
 ghost use Rattle.answers.specs.Cases.{output};
-ghost use Rattle.write.specs.Sized.{Good, sized};
+ghost use Rattle.write.specs.Sized.{Good, Roomy, sized};
 use answers::Writing;
 use answers::refused_writing;
-use writer::advanced::advanced_len;
 use writer::advanced::put_advanced;
 use writer::basic::basic_len;
 use writer::basic::put_basic;
@@ -32,9 +32,55 @@ fn write_basic(canonical: &[u8], length: usize, out: &mut [u8]) -> Writing
     if len > out.len() {
         return refused_writing(6);
     }
+    let alphabet = letters::alphabet();
     let part = &canonical[..length];
-    put_basic(part, out);
+    put_basic(&alphabet, part, out);
     Writing::Accepted { length: len }
+}
+
+// Form 3, by way of scratch: how long it is is known once it is written.
+fn write_through(canonical: &[u8], length: usize, scratch: &mut [u8], out: &mut [u8]) -> Writing
+    requires { ⌜ Good (now canonical) length ⌝ }
+    requires { ⌜ Roomy length (now scratch) ⌝ }
+    ensures { λ r. ⌜ output r (now (out .exit)) ≡ sized (written 3 (now (canonical .entry)) length) (now (out .entry)) ⌝ }
+{
+    let classes = octets::classes();
+    let part = &canonical[..length];
+    let len = put_advanced(&classes, part, scratch);
+    if len > out.len() {
+        return refused_writing(6);
+    }
+    scan::copy(scratch, 0, len, out, 0);
+    Writing::Accepted { length: len }
+}
+
+// Form 3 of a short sheet, for which little scratch is cleared.
+fn write_short(canonical: &[u8], length: usize, out: &mut [u8]) -> Writing
+    requires { ⌜ Good (now canonical) length ⌝ }
+    requires { ⌜ length ≤ 256 ⌝ }
+    ensures { λ r. ⌜ output r (now (out .exit)) ≡ sized (written 3 (now (canonical .entry)) length) (now (out .entry)) ⌝ }
+{
+    let mut scratch: [u8; 576] = [0; 576];
+    write_through(canonical, length, &mut scratch, out)
+}
+
+// Form 3 of one that is longer.
+fn write_middle(canonical: &[u8], length: usize, out: &mut [u8]) -> Writing
+    requires { ⌜ Good (now canonical) length ⌝ }
+    requires { ⌜ length ≤ 2048 ⌝ }
+    ensures { λ r. ⌜ output r (now (out .exit)) ≡ sized (written 3 (now (canonical .entry)) length) (now (out .entry)) ⌝ }
+{
+    let mut scratch: [u8; 4160] = [0; 4160];
+    write_through(canonical, length, &mut scratch, out)
+}
+
+// Form 3 of any sheet.
+fn write_long(canonical: &[u8], length: usize, out: &mut [u8]) -> Writing
+    requires { ⌜ Good (now canonical) length ⌝ }
+    ensures { λ r. ⌜ output r (now (out .exit)) ≡ sized (written 3 (now (canonical .entry)) length) (now (out .entry)) ⌝ }
+{
+    let mut scratch: [u8; 2 * limits::CANONICAL + 64] = [0; 2 * limits::CANONICAL + 64];
+    write_through(canonical, length, &mut scratch, out)
 }
 
 // Form 3.
@@ -42,14 +88,13 @@ fn write_advanced(canonical: &[u8], length: usize, out: &mut [u8]) -> Writing
     requires { ⌜ Good (now canonical) length ⌝ }
     ensures { λ r. ⌜ output r (now (out .exit)) ≡ sized (written 3 (now (canonical .entry)) length) (now (out .entry)) ⌝ }
 {
-    let classes = octets::classes();
-    let part = &canonical[..length];
-    let len = advanced_len(&classes, part);
-    if len > out.len() {
-        return refused_writing(6);
+    if length <= 256 {
+        return write_short(canonical, length, out);
     }
-    put_advanced(&classes, part, out);
-    Writing::Accepted { length: len }
+    if length <= 2048 {
+        return write_middle(canonical, length, out);
+    }
+    write_long(canonical, length, out)
 }
 
 // The sheet in the first `length` octets, written in the form named (1 canonical, 2 basic, 3 advanced). In a refusal the output

@@ -16,7 +16,7 @@ use Rattle.model.proofs.OutputSizes.{base-length}
 use Rattle.scan.specs.Writes.{Wrote}
 use Rattle.scan.proofs.Places.{one-here, two-here}
 use Rattle.letters.specs.Groups.{lettersOf}
-use Rattle.spelling.proofs.Putting.{Putting, put-start, put-room, put-on, put-done, wrote-length, wrote-one, wrote-both}
+use Rattle.writer.proofs.Putting.{Putting, put-start, put-room, put-on, put-done, wrote-length, wrote-one, wrote-both}
 use Rattle.writer.specs.Sheets.{Sheet, quartet}
 use Rattle.writer.proofs.Lefts.{sheet-tree}
 

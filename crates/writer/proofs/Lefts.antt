@@ -6,16 +6,12 @@ use mathlib.Core.Bool.{Bool, false}
 use mathlib.Core.Option.{some}
 use mathlib.Core.List.{List, [], _++_}
 use lib.ListN.{length, drop, getD, drop-of-length-le}
-use Rattle.model.specs.Limits.{maxSource}
 use Rattle.base.proofs.Cases.{some-same, none-some, chain-cases}
 use Rattle.model.specs.Answers.{the}
 use Rattle.model.specs.Decode.{nest, decode₁}
 use Rattle.model.specs.Lexemes.{Lexeme, strictLexeme, lexemes, strictLexemes}
 use Rattle.model.specs.Strings.{refused}
-use Rattle.model.specs.Tree.{Tree, canon}
 use Rattle.model.specs.Write.{advanced}
-use Rattle.model.proofs.Exact.{canon-sound}
-use Rattle.model.proofs.Laws.{advanced-within-2n}
 use Rattle.model.proofs.LexemeLoop.{strict-end, strict-next, strict-none}
 use Rattle.model.proofs.Lexemes.{before-cases}
 use Rattle.model.proofs.Nesting.{nest-sound}
@@ -46,11 +42,6 @@ left-start src s =
       reads = h₁;
       is = ap advanced (sheet-tree src s) ∙ sym (spelled-whole (s .tree)) ∙ ap (spelledAll false) (sym (nest-sound ls (s .tree) h₂));
     })
-
-pub sheet-small : (src : List ℕ) → Sheet src → length (advanced (the (decode₁ src))) ≤ maxSource
-sheet-small src s =
-    let e : length (canon (s .tree)) ≡ length src = sym (ap length (canon-sound src (s .tree) (s .is))) in
-    omega (arith, s .short, advanced-within-2n (s .tree), ap (λ (t : Tree). length (advanced t)) (sheet-tree src s))
 
 module _ (src : List ℕ) (at : ℕ) (due : Bool) (x : List ℕ) (w : Left src at due x) where
   pub left-end : length src ≤ at → x ≡ []

@@ -2,6 +2,7 @@ pub mod Pieces
 pub mod Spelled
 pub mod Places
 pub mod Lefts
-pub mod Telling
 pub mod Writing
 pub mod Groups
+pub mod Putting
+pub mod Hinted

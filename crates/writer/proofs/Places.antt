@@ -1,11 +1,10 @@
 -- Where the octets of a lexeme stand in canonical text.
 use Prim.Native.Nat.{ℕ, _+_, _-_, _≤_, _<_}
 use native.Mathlib.Omega.{arith}
-use mathlib.Core.Path.{_≡_, refl, sym, ap, ap₂, _∙_, subst}
+use mathlib.Core.Path.{_≡_, refl, sym, ap, ap₂, _∙_}
 use mathlib.Core.List.{List, [], _∷_, _++_, append-assoc}
 use lib.ListN.{length, take, drop, length-append}
 use lib.Seq.{take-at, drop-at, drop-drop}
-use Rattle.model.specs.Limits.{maxCanonical}
 use Rattle.model.specs.Lexemes.{Lexeme, opening, closing, atom, hinting, strictLexeme}
 use Rattle.model.specs.Strings.{got, refused}
 use Rattle.model.specs.Table.{bodyStart, bodyEnd}
@@ -15,7 +14,6 @@ use Rattle.model.proofs.Strict.{octetsOfLexeme, strict-sound}
 use Rattle.canonical.specs.Lexed.{Plainly, Hintedly, ItemAt}
 use Rattle.spelling.specs.Spelled.{cut}
 use Rattle.writer.specs.Sheets.{Strings}
-use Rattle.canonical.specs.declared.Item.{Item}
 use Rattle.canonical.specs.declared.Item.the-variants.{Open, Close, Plain, Hinted, Other}
 
 after : (src a b : List ℕ) (at : ℕ) → drop at src ≡ a ++ b → drop (at + length a) src ≡ b
@@ -44,24 +42,24 @@ pub record Next (src : List ℕ) (at : ℕ) (l : Lexeme) (next : ℕ) : Type 0 w
 pub next-less : (src : List ℕ) (at : ℕ) (l : Lexeme) (next : ℕ) → Next src at l next → length src - next < length src - at
 next-less src at l next n = omega (arith, n .on, n .within)
 
-module _ (src : List ℕ) (at : ℕ) (r : Item) (v : ItemAt src at r) where
+module _ (src : List ℕ) (at : ℕ) where
   module _ (h : at < length src) where
-    pub open-next : r ≡ Open → Next src at opening (at + 1)
+    pub open-next : ItemAt src at Open → Next src at opening (at + 1)
     unfolding ItemAt
-    open-next z = record { reads = subst (ItemAt src at) z v; on = omega arith; within = omega arith }
+    open-next v = record { reads = v; on = omega arith; within = omega arith }
 
-    pub close-next : r ≡ Close → Next src at closing (at + 1)
+    pub close-next : ItemAt src at Close → Next src at closing (at + 1)
     unfolding ItemAt
-    close-next z = record { reads = subst (ItemAt src at) z v; on = omega arith; within = omega arith }
+    close-next v = record { reads = v; on = omega arith; within = omega arith }
 
-  pub other-none : r ≡ Other → strictLexeme (drop at src) ≡ refused
+  pub other-none : ItemAt src at Other → strictLexeme (drop at src) ≡ refused
   unfolding ItemAt
-  other-none z = subst (ItemAt src at) z v
+  other-none v = v
 
-  module _ (s e : ℕ) (z : r ≡ Plain s e) where
+  module _ (s e : ℕ) (v : ItemAt src at (Plain s e)) where
     plainly : Plainly src at s e
     unfolding ItemAt
-    plainly = subst (ItemAt src at) z v
+    plainly = v
 
     plain-is : cut src s e ≡ plainly .octets
     unfolding octetsOfLexeme
@@ -78,13 +76,10 @@ module _ (src : List ℕ) (at : ℕ) (r : Item) (v : ItemAt src at r) where
         let p : Plainly src at s e = plainly in
         record { reads = p .reads ∙ ap (λ (x : List ℕ). got (atom x) (drop e src)) (sym plain-is); on = omega (arith, p .ends, verbatim-length (p .octets)); within = p .within }
 
-    pub plain-less : length src - e < length src - at
-    plain-less = next-less src at (atom (cut src s e)) e plain-next
-
-  module _ (hs he s e : ℕ) (z : r ≡ Hinted hs he s e) where
+  module _ (hs he s e : ℕ) (v : ItemAt src at (Hinted hs he s e)) where
     hintedly : Hintedly src at hs he s e
     unfolding ItemAt
-    hintedly = subst (ItemAt src at) z v
+    hintedly = v
 
     -- what stands from the hint on, and from the string on
     hint-here : drop (at + 1) src ≡ verbatim (hintedly .hint) ++ (93 ∷ verbatim (hintedly .octets) ++ drop e src)
@@ -108,21 +103,17 @@ module _ (src : List ℕ) (at : ℕ) (r : Item) (v : ItemAt src at r) where
     hinted-ahead : at < e
     hinted-ahead = let p : Hintedly src at hs he s e = hintedly in omega (arith, p .ends, p .hintEnds)
 
-    pub hinted-strings : length src ≤ maxCanonical → Strings src hs he s e
-    hinted-strings short =
+    pub hinted-strings : Strings src hs he s e
+    hinted-strings =
         let p : Hintedly src at hs he s e = hintedly in
         record {
           hintOrder = omega (arith, p .hintBegins, p .hintEnds, verbatim-length (p .hint));
           hintWithin = omega (arith, p .ends, p .within);
           order = omega (arith, p .begins, p .ends, verbatim-length (p .octets));
           within = p .within;
-          short = short;
         }
 
     pub hinted-next : Next src at (hinting (cut src hs he) (cut src s e)) e
     hinted-next =
         let p : Hintedly src at hs he s e = hintedly in
         record { reads = p .reads ∙ ap₂ (λ (x y : List ℕ). got (hinting x y) (drop e src)) (sym hint-is) (sym data-is); on = hinted-ahead; within = p .within }
-
-    pub hinted-less : length src - e < length src - at
-    hinted-less = next-less src at (hinting (cut src hs he) (cut src s e)) e hinted-next

@@ -20,7 +20,6 @@ pub record Strings (src : List ℕ) (hintStart hintEnd start end : ℕ) : Type 0
   pub hintWithin : hintEnd ≤ length src
   pub order : start ≤ end
   pub within : end ≤ length src
-  pub short : length src ≤ maxCanonical
 
 -- the four elements of a group
 abbrev pub quartet : List ℕ → List ℕ

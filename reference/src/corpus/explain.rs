@@ -1,20 +1,17 @@
 //! A case and its outcome as a person reads them.
 
 use super::case::{Argument, Case};
-use super::run::{lines, run, Buffer};
+use super::run::{run, Buffer};
 use crate::limits::RECORD;
 
-/// The case's arguments, the lines expected of it, and every buffer afterwards.
+/// The case's arguments, the line expected of it, and every buffer afterwards.
 pub fn explain(number: u64, case: &Case) -> String {
     let mut page = format!("case {number}: {}\n", case.name());
     for (name, value) in case.arguments() {
         page += &argument(name, value);
     }
     let outcome = run(case);
-    page += "expected\n";
-    for line in lines(number, case).lines() {
-        page += &format!("  {line}\n");
-    }
+    page += &format!("expected\n  {}", outcome.line(number, case.name()));
     for (name, buffer) in &outcome.buffers {
         page += &format!("{name} afterwards\n");
         page += &match buffer {

@@ -6,7 +6,7 @@ use std::io::{self, BufWriter, Write};
 use std::path::Path;
 
 use super::case::Case;
-use super::run::{lines, run};
+use super::run::run;
 use super::{fixed, random, wire};
 
 /// The seed of the corpus that is committed.
@@ -37,7 +37,7 @@ pub fn write(
     for (number, case) in (0..).zip(cases(seed, count)) {
         let outcome = run(&case);
         cases_file.write_all(&wire::encode(&case))?;
-        expected_file.write_all(lines(number, &case).as_bytes())?;
+        expected_file.write_all(outcome.line(number, case.name()).as_bytes())?;
         let answer = answer(&case, outcome.answer, outcome.values[0]);
         *summary.entry((case.name(), answer)).or_default() += 1;
     }

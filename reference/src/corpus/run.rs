@@ -2,7 +2,7 @@
 
 use super::case::*;
 use crate::entries::{self, Comparing, Reading, Writing};
-use crate::limits::{ACCEPTED, RECORD};
+use crate::limits::ACCEPTED;
 
 /// A buffer after the entry ran.
 #[derive(Clone, Debug, PartialEq, Eq)]
@@ -53,35 +53,6 @@ impl Outcome {
         }
         line + "\n"
     }
-}
-
-/// The lines of the expected file for a case: one with the table lent as
-/// numbers, and where there is a table one with it lent as records.
-pub fn lines(number: u64, case: &Case) -> String {
-    let mut lines = run(case).line(number, case.name());
-    if let Some(outcome) = run_records(case) {
-        lines += &outcome.line(number, &format!("{}_records", case.name()));
-    }
-    lines
-}
-
-/// Runs the entry of a case with the table lent as records, as many as its
-/// numbers make. Numbers too few for a record are not lent; the outcome has
-/// them as they were.
-pub fn run_records(case: &Case) -> Option<Outcome> {
-    let mut case = case.clone();
-    let table = case.table_mut()?;
-    let room = table.room / RECORD * RECORD;
-    let rest = table.buffer().split_off(room);
-    table.room = room;
-    table.given.truncate(room);
-    let mut outcome = run(&case);
-    for (_, buffer) in &mut outcome.buffers {
-        if let Buffer::Numbers(numbers) = buffer {
-            numbers.extend(&rest);
-        }
-    }
-    Some(outcome)
 }
 
 /// Runs the entry of a case.

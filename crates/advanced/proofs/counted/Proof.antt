@@ -3,20 +3,8 @@ use borrow.Author.Needs.{needs}
 use Rattle.advanced.proofs.counted.Statement.{statement}
 use Rattle.advanced.proofs.counted.Tie as tie
 
-decimal-at-requires : tie.Need-decimal-at-requires
-decimal-at-requires c κs = search needs
-
-enum-known-value : tie.Need-enum-known-value
-enum-known-value c = search needs
-
 after-number-requires : tie.Need-after-number-requires
 after-number-requires c κs = (search needs, (search needs, search number-room))
-
-enum-told : tie.Need-enum-told
-enum-told c = search needs
-
-same-length : tie.Need-same-length
-same-length c = search needs
 
 returns : tie.Need-returns
 returns c = search number-on
@@ -28,10 +16,10 @@ pub counted-spec : {M : Type 1} → statement M
 counted-spec =
     tie.close
     (tie.spec
-    decimal-at-requires
-    enum-known-value
+    (λ c κs. search needs)
+    (λ c. search needs)
     after-number-requires
-    enum-told
-    same-length
+    (λ c. search needs)
+    (λ c. search needs)
     returns
     returns-2)

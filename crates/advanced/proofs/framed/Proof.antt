@@ -4,23 +4,14 @@ use borrow.Author.Needs.{needs}
 use Rattle.advanced.proofs.framed.Statement.{statement}
 use Rattle.advanced.proofs.framed.Tie as tie
 
-add-decode : tie.Need-add-decode
-add-decode c = search needs
-
 decode-requires : tie.Need-decode-requires
 decode-requires c κs = (search needs, (search needs, (search needs, search (room-spacious, arith))))
-
-same-length : tie.Need-same-length
-same-length c = search needs
 
 returns : tie.Need-returns
 returns c = search (framed-none, arith)
 
 frame-requires : tie.Need-frame-requires
 frame-requires c κs = (search (frame-small, arith), search (frame-room, arith))
-
-same-length-2 : tie.Need-same-length-2
-same-length-2 c = search needs
 
 returns-2 : tie.Need-returns-2
 returns-2 c = search (framed-some, arith)
@@ -29,10 +20,10 @@ pub framed-spec : {M : Type 1} → statement M
 framed-spec =
     tie.close
     (tie.spec
-    add-decode
+    (λ c. search needs)
     decode-requires
-    same-length
+    (λ c. search needs)
     returns
     frame-requires
-    same-length-2
+    (λ c. search needs)
     returns-2)

@@ -4,18 +4,6 @@ use borrow.Author.Needs.{needs}
 use Rattle.advanced.proofs.hint.Statement.{statement}
 use Rattle.advanced.proofs.hint.Tie as tie
 
-slice-write-out : tie.Need-slice-write-out
-slice-write-out c = search needs
-
-add-skip-at : tie.Need-add-skip-at
-add-skip-at c = search needs
-
-skip-at-requires : tie.Need-skip-at-requires
-skip-at-requires c κs = search needs
-
-add-simple : tie.Need-add-simple
-add-simple c = search needs
-
 simple-requires : tie.Need-simple-requires
 simple-requires c κs = (search needs, (search needs, search (hint-room, arith)))
 
@@ -38,10 +26,10 @@ pub hint-spec : {M : Type 1} → statement M
 hint-spec =
     tie.close
     (tie.spec
-    slice-write-out
-    add-skip-at
-    skip-at-requires
-    add-simple
+    (λ c. search needs)
+    (λ c. search needs)
+    (λ c κs. search needs)
+    (λ c. search needs)
     simple-requires
     same-length
     returns

@@ -7,9 +7,6 @@ use Rattle.canonical.proofs.verbatim_at.Tie as tie
 returns : tie.Need-returns
 returns c = search (verb-end, arith)
 
-shared-slice-read-b : tie.Need-shared-slice-read-b
-shared-slice-read-b c = search needs
-
 returns-2 : tie.Need-returns-2
 returns-2 c = search (verb-low, arith)
 
@@ -19,14 +16,8 @@ returns-3 c = search (verb-high, arith)
 decimal-at-requires : tie.Need-decimal-at-requires
 decimal-at-requires c κs = search (verb-digit, arith)
 
-enum-known-value : tie.Need-enum-known-value
-enum-known-value c = search needs
-
 after-length-requires : tie.Need-after-length-requires
 after-length-requires c κs = search (value-within, arith)
-
-enum-told : tie.Need-enum-told
-enum-told c = search needs
 
 returns-4 : tie.Need-returns-4
 returns-4 c = search (verb-value, arith)
@@ -39,12 +30,12 @@ verbatim-at-spec =
     tie.close
     (tie.spec
     returns
-    shared-slice-read-b
+    (λ c. search needs)
     returns-2
     returns-3
     decimal-at-requires
-    enum-known-value
+    (λ c. search needs)
     after-length-requires
-    enum-told
+    (λ c. search needs)
     returns-4
     returns-5)

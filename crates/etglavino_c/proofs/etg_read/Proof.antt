@@ -4,21 +4,15 @@ use borrow.Author.Needs.{needs}
 use Rattle.etglavino_c.proofs.etg_read.Statement.{statement}
 use Rattle.etglavino_c.proofs.etg_read.Tie as tie
 
-read-requires : tie.Need-read-requires
-read-requires c κs = search needs
-
-hand-reading-requires : tie.Need-hand-reading-requires
-hand-reading-requires c κs = search needs
-
-same-length : tie.Need-same-length
-same-length c = search needs
-
-same-length-2 : tie.Need-same-length-2
-same-length-2 c = search needs
-
 returns : tie.Need-returns
 returns c = search (read-handed, arith)
 
 pub etg-read-spec : {M : Type 1} → statement M
 etg-read-spec =
-    tie.close (tie.spec read-requires hand-reading-requires same-length same-length-2 returns)
+    tie.close
+    (tie.spec
+    (λ c κs. search needs)
+    (λ c κs. search needs)
+    (λ c. search needs)
+    (λ c. search needs)
+    returns)

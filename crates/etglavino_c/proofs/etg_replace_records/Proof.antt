@@ -52,7 +52,7 @@ use Rattle.records.proofs.replace.Symbol as callee-def
 use Rattle.records.proofs.replace.Symbol.{name as #callee}
 use Rattle.records.proofs.replace.Met as callee-thm
 use Rattle.etglavino_c.specs.Pointers.{HandsReading}
-use Rattle.etglavino_c.proofs.Handed.{read-handed}
+use Rattle.etglavino_c.proofs.Handed.{replace-handed}
 use Rattle.etglavino_c.proofs.Addresses.{toWord, pointer}
 use Rattle.etglavino_c.proofs.ReadingHanding.{Handing, to-hand, goes-hand, Left, LastOf}
 use Rattle.etglavino_c.proofs.hand_reading.Symbol as hand-def
@@ -139,7 +139,7 @@ module _ {M : Type 1} (𝓤 : URA M) (H : Heap 𝓤) (A : Atoms 𝓤) (W : Given
   exits r c′ zs lc lz said n w is len′ count′ h =
       qed W (Kept c′ zs len′ count′) ∵
       suffices ! _ (ends-at 𝓤 H A entry.ended stayed (entry.clauses 𝓤 H A mem run) W ((κs, (q₀, (q₁, (q₂, (q₃, (q₄, tt))))), tt, a, vals), tt) w n (tt, (tt, (c′, (zs, (tt, (tt, (tt, (len′, (count′, tt))))))))) (tt, (tt, (lc, (lz, (tt, (tt, (tt, (tt, (tt, tt)))))))))) $
-      says ! (read-handed r c′ (numbers zs) (replacing form (text .now) (can .now) (numbers (rec .now)) len nodes node) said n len′ count′ h) $
+      says ! (replace-handed r c′ (numbers zs) n len′ count′ h form (text .now) (can .now) (numbers (rec .now)) len nodes node said) $
       nothing ! $ move ! (9 ∷ 0 ∷ []) $ join ! $ move ! (8 ∷ 0 ∷ []) $ join ! $ move ! (7 ∷ 0 ∷ []) $ join ! $ move ! (6 ∷ 0 ∷ []) $ join ! $ move ! (5 ∷ 0 ∷ []) $ join ! $ frame ! $ nothing ! $ move ! (4 ∷ 0 ∷ []) $ fjoin ! $ move ! (3 ∷ 0 ∷ []) $ fjoin ! $ nothing ! $ fjoin ! $ nothing ! $ fjoin ! $ nothing ! $ fjoin ! $ move ! (2 ∷ 0 ∷ []) $ fjoin ! $ move ! (1 ∷ 0 ∷ []) $ fjoin ! $ nothing ! $ fjoin ! $ nothing ! $ fjoin ! $ owned ! u32 (Is u32) (uint-makes 𝓤 H A W w32) n (w ∷ []) is $ move ! (1 ∷ 0 ∷ []) $ done !
 
   module _ (𝓣 : Tables 𝓤 H) (known-core : Triple 𝓤 (𝓣 .C #callee) (Core 𝓤 H A mem run)) (known-hand : Triple 𝓤 (𝓣 .C #hand) (Handing 𝓤 H A mem run)) where

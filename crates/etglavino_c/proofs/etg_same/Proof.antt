@@ -4,15 +4,6 @@ use borrow.Author.Needs.{needs}
 use Rattle.etglavino_c.proofs.etg_same.Statement.{statement}
 use Rattle.etglavino_c.proofs.etg_same.Tie as tie
 
-same-requires : tie.Need-same-requires
-same-requires c κs = search needs
-
-enum-known-yes : tie.Need-enum-known-yes
-enum-known-yes c = search needs
-
-enum-known-refusal : tie.Need-enum-known-refusal
-enum-known-refusal c = search needs
-
 returns : tie.Need-returns
 returns c = search (same-yes, arith)
 
@@ -25,4 +16,10 @@ returns-3 c = search (same-refused, arith)
 pub etg-same-spec : {M : Type 1} → statement M
 etg-same-spec =
     tie.close
-    (tie.spec same-requires enum-known-yes enum-known-refusal returns returns-2 returns-3)
+    (tie.spec
+    (λ c κs. search needs)
+    (λ c. search needs)
+    (λ c. search needs)
+    returns
+    returns-2
+    returns-3)

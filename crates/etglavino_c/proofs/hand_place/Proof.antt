@@ -4,12 +4,6 @@ use borrow.Author.Needs.{needs}
 use Rattle.etglavino_c.proofs.hand_place.Statement.{statement}
 use Rattle.etglavino_c.proofs.hand_place.Tie as tie
 
-enum-known-place : tie.Need-enum-known-place
-enum-known-place c = search needs
-
-enum-told : tie.Need-enum-told
-enum-told c = search needs
-
 returns : tie.Need-returns
 returns c = search (hand-part, arith)
 
@@ -17,4 +11,10 @@ returns-2 : tie.Need-returns-2
 returns-2 c = search (hand-none, arith)
 
 pub hand-place-spec : {M : Type 1} → statement M
-hand-place-spec = tie.close (tie.spec enum-known-place enum-told returns returns-2)
+hand-place-spec =
+    tie.close
+    (tie.spec
+    (λ c. search needs)
+    (λ c. search needs)
+    returns
+    returns-2)

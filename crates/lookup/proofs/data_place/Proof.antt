@@ -4,9 +4,6 @@ use borrow.Author.Needs.{needs}
 use Rattle.lookup.proofs.data_place.Statement.{statement}
 use Rattle.lookup.proofs.data_place.Tie as tie
 
-own-sheet-requires : tie.Need-own-sheet-requires
-own-sheet-requires c κs = search needs
-
 returns : tie.Need-returns
 returns c = search (data-beyond, arith)
 
@@ -25,4 +22,10 @@ returns-3 c = search (data-unowned, arith)
 pub data-place-spec : {M : Type 1} → statement M
 data-place-spec =
     tie.close
-    (tie.spec own-sheet-requires returns number-requires number-requires-2 returns-2 returns-3)
+    (tie.spec
+    (λ c κs. search needs)
+    returns
+    number-requires
+    number-requires-2
+    returns-2
+    returns-3)

@@ -4,9 +4,6 @@ use borrow.Author.Needs.{needs}
 use Rattle.lookup.proofs.hint_place.Statement.{statement}
 use Rattle.lookup.proofs.hint_place.Tie as tie
 
-own-sheet-requires : tie.Need-own-sheet-requires
-own-sheet-requires c κs = search needs
-
 returns : tie.Need-returns
 returns c = search (hint-beyond, arith)
 
@@ -32,7 +29,7 @@ pub hint-place-spec : {M : Type 1} → statement M
 hint-place-spec =
     tie.close
     (tie.spec
-    own-sheet-requires
+    (λ c κs. search needs)
     returns
     number-requires
     returns-2

@@ -17,14 +17,8 @@ slice-aggregate-part c = search (front-length, arith)
 measure-requires : tie.Need-measure-requires
 measure-requires c κs = search (front-short, arith)
 
-enum-known-nodes : tie.Need-enum-known-nodes
-enum-known-nodes c = search needs
-
 returns-3 : tie.Need-returns-3
 returns-3 c = search (sheet-deep, arith)
-
-enum-told : tie.Need-enum-told
-enum-told c = search needs
 
 returns-4 : tie.Need-returns-4
 returns-4 c = search (sheet-whole, arith)
@@ -40,8 +34,8 @@ sheet-spec =
     returns-2
     slice-aggregate-part
     measure-requires
-    enum-known-nodes
+    (λ c. search needs)
     returns-3
-    enum-told
+    (λ c. search needs)
     returns-4
     returns-5)

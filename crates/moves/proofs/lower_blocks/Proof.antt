@@ -15,29 +15,11 @@ abbrev μ-loop : tie.MeasureT-loop
 loop-holds : tie.Need-loop-holds Inv-loop μ-loop
 loop-holds c = search (down-start, arith)
 
-sub-loop : tie.Need-sub-loop Inv-loop μ-loop
-sub-loop c = omega arith
-
-sub-move-block : tie.Need-sub-move-block Inv-loop μ-loop
-sub-move-block c = omega arith
-
-move-block-requires : tie.Need-move-block-requires Inv-loop μ-loop
-move-block-requires c κs = search needs
-
-add-j : tie.Need-add-j Inv-loop μ-loop
-add-j c = omega arith
-
-loop-less : tie.Need-loop-less Inv-loop μ-loop
-loop-less c = omega arith
-
 loop-again : tie.Need-loop-again Inv-loop μ-loop
 loop-again c = search (down-block, arith)
 
 same-length : tie.Need-same-length Inv-loop μ-loop
 same-length c = search (down-long, arith)
-
-returns : tie.Need-returns Inv-loop μ-loop
-returns c = search needs
 
 pub lower-blocks-spec : {M : Type 1} → statement M
 lower-blocks-spec =
@@ -46,11 +28,11 @@ lower-blocks-spec =
     Inv-loop
     μ-loop
     loop-holds
-    sub-loop
-    sub-move-block
-    move-block-requires
-    add-j
-    loop-less
+    (λ c. omega arith)
+    (λ c. omega arith)
+    (λ c κs. search needs)
+    (λ c. omega arith)
+    (λ c. omega arith)
     loop-again
     same-length
-    returns)
+    (λ c. search needs))

@@ -14,29 +14,11 @@ abbrev μ-loop : tie.MeasureT-loop
 loop-holds : tie.Need-loop-holds Inv-loop μ-loop
 loop-holds c = search (up-start, arith)
 
-sub-loop : tie.Need-sub-loop Inv-loop μ-loop
-sub-loop c = omega arith
-
-sub-j : tie.Need-sub-j Inv-loop μ-loop
-sub-j c = omega arith
-
-add-move-block : tie.Need-add-move-block Inv-loop μ-loop
-add-move-block c = omega arith
-
-move-block-requires : tie.Need-move-block-requires Inv-loop μ-loop
-move-block-requires c κs = search needs
-
-loop-less : tie.Need-loop-less Inv-loop μ-loop
-loop-less c = omega arith
-
 loop-again : tie.Need-loop-again Inv-loop μ-loop
 loop-again c = search (up-block, arith)
 
 same-length : tie.Need-same-length Inv-loop μ-loop
 same-length c = search (up-long, arith)
-
-returns : tie.Need-returns Inv-loop μ-loop
-returns c = search needs
 
 pub raise-blocks-spec : {M : Type 1} → statement M
 raise-blocks-spec =
@@ -45,11 +27,11 @@ raise-blocks-spec =
     Inv-loop
     μ-loop
     loop-holds
-    sub-loop
-    sub-j
-    add-move-block
-    move-block-requires
-    loop-less
+    (λ c. omega arith)
+    (λ c. omega arith)
+    (λ c. omega arith)
+    (λ c κs. search needs)
+    (λ c. omega arith)
     loop-again
     same-length
-    returns)
+    (λ c. search needs))

@@ -2,11 +2,12 @@ use borrow.Author.Needs.{needs}
 use Rattle.octets.proofs.class_of.Statement.{statement}
 use Rattle.octets.proofs.class_of.Tie as tie
 
-element-copy-out-result : tie.Need-element-copy-out-result
-element-copy-out-result c = search needs
-
 returns : tie.Need-returns
 returns c = c .before .pre .at (c .before .args .b) (search needs)
 
 pub class-of-spec : {M : Type 1} → statement M
-class-of-spec = tie.close (tie.spec element-copy-out-result returns)
+class-of-spec =
+    tie.close
+    (tie.spec
+    (λ c. search needs)
+    returns)

@@ -4,14 +4,8 @@ use Rattle.octets.proofs.hex_of.Tie as tie
 use native.Mathlib.Omega.{arith}
 use Rattle.octets.proofs.Values.{hex-none, hex-letter, hex-digit, hex-digit-low}
 
-class-of-requires : tie.Need-class-of-requires
-class-of-requires c κs = search needs
-
 returns : tie.Need-returns
 returns c = search (hex-none, arith)
-
-add-result : tie.Need-add-result
-add-result c = search needs
 
 sub-result : tie.Need-sub-result
 sub-result c = search (hex-digit-low, arith)
@@ -24,4 +18,11 @@ returns-3 c = search (hex-digit, arith)
 
 pub hex-of-spec : {M : Type 1} → statement M
 hex-of-spec =
-    tie.close (tie.spec class-of-requires returns add-result sub-result returns-2 returns-3)
+    tie.close
+    (tie.spec
+    (λ c κs. search needs)
+    returns
+    (λ c. search needs)
+    sub-result
+    returns-2
+    returns-3)

@@ -2,11 +2,12 @@ use borrow.Author.Needs.{needs}
 use Rattle.octets.proofs.letter_of.Statement.{statement}
 use Rattle.octets.proofs.letter_of.Tie as tie
 
-element-copy-out-result : tie.Need-element-copy-out-result
-element-copy-out-result c = search needs
-
 returns : tie.Need-returns
 returns c = c .before .pre .at (c .before .args .b) (search needs)
 
 pub letter-of-spec : {M : Type 1} → statement M
-letter-of-spec = tie.close (tie.spec element-copy-out-result returns)
+letter-of-spec =
+    tie.close
+    (tie.spec
+    (λ c. search needs)
+    returns)

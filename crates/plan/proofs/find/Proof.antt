@@ -5,9 +5,6 @@ use borrow.Author.Needs.{needs}
 use Rattle.plan.proofs.find.Statement.{statement}
 use Rattle.plan.proofs.find.Tie as tie
 
-own-sheet-requires : tie.Need-own-sheet-requires
-own-sheet-requires c κs = search needs
-
 returns : tie.Need-returns
 returns c = search (find-beyond, arith)
 
@@ -30,7 +27,7 @@ pub find-spec : {M : Type 1} → statement M
 find-spec =
     tie.close
     (tie.spec
-    own-sheet-requires
+    (λ c κs. search needs)
     returns
     number-requires
     number-requires-2

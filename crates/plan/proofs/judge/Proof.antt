@@ -4,23 +4,11 @@ use borrow.Author.Needs.{needs}
 use Rattle.plan.proofs.judge.Statement.{statement}
 use Rattle.plan.proofs.judge.Tie as tie
 
-find-requires : tie.Need-find-requires
-find-requires c κs = search needs
-
-enum-known-start : tie.Need-enum-known-start
-enum-known-start c = search needs
-
 resize-requires : tie.Need-resize-requires
 resize-requires c κs = search (plan-resizable, arith)
 
-room-requires : tie.Need-room-requires
-room-requires c κs = search needs
-
 returns : tie.Need-returns
 returns c = search (plan-misfit, arith)
-
-enum-known-number : tie.Need-enum-known-number
-enum-known-number c = search needs
 
 returns-2 : tie.Need-returns-2
 returns-2 c = search (plan-fits, arith)
@@ -32,11 +20,11 @@ pub judge-spec : {M : Type 1} → statement M
 judge-spec =
     tie.close
     (tie.spec
-    find-requires
-    enum-known-start
+    (λ c κs. search needs)
+    (λ c. search needs)
     resize-requires
-    room-requires
+    (λ c κs. search needs)
     returns
-    enum-known-number
+    (λ c. search needs)
     returns-2
     returns-3)

@@ -17,17 +17,8 @@ loop-holds c = search (level-start, arith)
 number-requires : tie.Need-number-requires Inv-loop μ-loop
 number-requires c κs = search (level-record, arith)
 
-sub-if1 : tie.Need-sub-if1 Inv-loop μ-loop
-sub-if1 c = omega arith
-
 add-level : tie.Need-add-level Inv-loop μ-loop
 add-level c = omega (arith, c .before .before .before .loop .inv .few)
-
-add-j : tie.Need-add-j Inv-loop μ-loop
-add-j c = omega arith
-
-loop-less : tie.Need-loop-less Inv-loop μ-loop
-loop-less c = omega arith
 
 loop-again : tie.Need-loop-again Inv-loop μ-loop
 loop-again c =
@@ -47,9 +38,9 @@ level-spec =
     μ-loop
     loop-holds
     number-requires
-    sub-if1
+    (λ c. omega arith)
     add-level
-    add-j
-    loop-less
+    (λ c. omega arith)
+    (λ c. omega arith)
     loop-again
     returns)

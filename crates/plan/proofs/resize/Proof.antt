@@ -10,24 +10,21 @@ sub-t9 c = search (resize-order, arith)
 sub-t10 : tie.Need-sub-t10
 sub-t10 c = search (resize-cut, arith)
 
-add-t11 : tie.Need-add-t11
-add-t11 c = search needs
-
 sub-t12 : tie.Need-sub-t12
 sub-t12 c = search (resize-fewer, arith)
-
-add-t13 : tie.Need-add-t13
-add-t13 c = search needs
-
-level-requires : tie.Need-level-requires
-level-requires c κs = search needs
-
-add-t15 : tie.Need-add-t15
-add-t15 c = search needs
 
 returns : tie.Need-returns
 returns c = search (resized, arith)
 
 pub resize-spec : {M : Type 1} → statement M
 resize-spec =
-    tie.close (tie.spec sub-t9 sub-t10 add-t11 sub-t12 add-t13 level-requires add-t15 returns)
+    tie.close
+    (tie.spec
+    sub-t9
+    sub-t10
+    (λ c. search needs)
+    sub-t12
+    (λ c. search needs)
+    (λ c κs. search needs)
+    (λ c. search needs)
+    returns)

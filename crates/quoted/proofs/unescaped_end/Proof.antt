@@ -4,15 +4,6 @@ use borrow.Author.Needs.{needs}
 use Rattle.quoted.proofs.unescaped_end.Statement.{statement}
 use Rattle.quoted.proofs.unescaped_end.Tie as tie
 
-plain-end-requires : tie.Need-plain-end-requires
-plain-end-requires c κs = search needs
-
-shared-slice-read-if2 : tie.Need-shared-slice-read-if2
-shared-slice-read-if2 c = search needs
-
-add-result : tie.Need-add-result
-add-result c = search needs
-
 returns : tie.Need-returns
 returns c = search (unescaped-whole, arith)
 
@@ -25,4 +16,10 @@ returns-3 c = search (unescaped-none, arith)
 pub unescaped-end-spec : {M : Type 1} → statement M
 unescaped-end-spec =
     tie.close
-    (tie.spec plain-end-requires shared-slice-read-if2 add-result returns returns-2 returns-3)
+    (tie.spec
+    (λ c κs. search needs)
+    (λ c. search needs)
+    (λ c. search needs)
+    returns
+    returns-2
+    returns-3)

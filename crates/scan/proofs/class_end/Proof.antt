@@ -1,7 +1,7 @@
 use borrow.Author.Needs.{needs}
 use native.Mathlib.Omega.{arith}
 use Prim.Native.Nat.{_-_}
-use Rattle.scan.proofs.Reaching.{Reaching, reach-none, reach-stop, reach-end, reach-on, stop-second, stop-third, stop-fourth, reach-four}
+use Rattle.scan.proofs.Reaching.{Reaching, reach-none, reach-stop, reach-on, stop-second, stop-third, stop-fourth, reach-four}
 use Rattle.scan.proofs.class_end.Statement.{statement}
 use Rattle.scan.proofs.class_end.Tie as tie
 
@@ -14,74 +14,20 @@ abbrev μ-loop : tie.MeasureT-loop
 loop-holds : tie.Need-loop-holds Inv-loop μ-loop
 loop-holds c = search (reach-none, arith)
 
-sub-loop : tie.Need-sub-loop Inv-loop μ-loop
-sub-loop c = search needs
-
-shared-slice-read-class-of : tie.Need-shared-slice-read-class-of Inv-loop μ-loop
-shared-slice-read-class-of c = search needs
-
-class-of-requires : tie.Need-class-of-requires Inv-loop μ-loop
-class-of-requires c κs = search needs
-
 returns : tie.Need-returns Inv-loop μ-loop
 returns c = search (reach-stop, arith)
-
-add-class-of : tie.Need-add-class-of Inv-loop μ-loop
-add-class-of c = search needs
-
-shared-slice-read-class-of-2 : tie.Need-shared-slice-read-class-of-2 Inv-loop μ-loop
-shared-slice-read-class-of-2 c = search needs
-
-class-of-requires-2 : tie.Need-class-of-requires-2 Inv-loop μ-loop
-class-of-requires-2 c κs = search needs
-
-add-result : tie.Need-add-result Inv-loop μ-loop
-add-result c = search needs
 
 returns-2 : tie.Need-returns-2 Inv-loop μ-loop
 returns-2 c = stop-second _ _ _ _ _ (c .before .before .before .before .before .before .before .loop .inv) (c .before .before .before .before .before .before .loop-test .taken) _ (c .before .before .before .before .class-of .ensures) (c .before .before .before .if1 .left) _ (c .before .class-of2 .ensures) (c .if2 .taken)
 
-add-class-of-2 : tie.Need-add-class-of-2 Inv-loop μ-loop
-add-class-of-2 c = search needs
-
-shared-slice-read-class-of-3 : tie.Need-shared-slice-read-class-of-3 Inv-loop μ-loop
-shared-slice-read-class-of-3 c = search needs
-
-class-of-requires-3 : tie.Need-class-of-requires-3 Inv-loop μ-loop
-class-of-requires-3 c κs = search needs
-
-add-result-2 : tie.Need-add-result-2 Inv-loop μ-loop
-add-result-2 c = search needs
-
 returns-3 : tie.Need-returns-3 Inv-loop μ-loop
 returns-3 c = stop-third _ _ _ _ _ (c .before .before .before .before .before .before .before .before .before .before .loop .inv) (c .before .before .before .before .before .before .before .before .before .loop-test .taken) _ (c .before .before .before .before .before .before .before .class-of .ensures) (c .before .before .before .before .before .before .if1 .left) _ (c .before .before .before .before .class-of2 .ensures) (c .before .before .before .if2 .left) _ (c .before .class-of3 .ensures) (c .if3 .taken)
-
-add-class-of-3 : tie.Need-add-class-of-3 Inv-loop μ-loop
-add-class-of-3 c = search needs
-
-shared-slice-read-class-of-4 : tie.Need-shared-slice-read-class-of-4 Inv-loop μ-loop
-shared-slice-read-class-of-4 c = search needs
-
-class-of-requires-4 : tie.Need-class-of-requires-4 Inv-loop μ-loop
-class-of-requires-4 c κs = search needs
-
-add-result-3 : tie.Need-add-result-3 Inv-loop μ-loop
-add-result-3 c = search needs
 
 returns-4 : tie.Need-returns-4 Inv-loop μ-loop
 returns-4 c = stop-fourth _ _ _ _ _ (c .before .before .before .before .before .before .before .before .before .before .before .before .before .loop .inv) (c .before .before .before .before .before .before .before .before .before .before .before .before .loop-test .taken) _ (c .before .before .before .before .before .before .before .before .before .before .class-of .ensures) (c .before .before .before .before .before .before .before .before .before .if1 .left) _ (c .before .before .before .before .before .before .before .class-of2 .ensures) (c .before .before .before .before .before .before .if2 .left) _ (c .before .before .before .before .class-of3 .ensures) (c .before .before .before .if3 .left) _ (c .before .class-of4 .ensures) (c .if4 .taken)
 
-add-i : tie.Need-add-i Inv-loop μ-loop
-add-i c = search needs
-
-loop-less : tie.Need-loop-less Inv-loop μ-loop
-loop-less c = search needs
-
 loop-again : tie.Need-loop-again Inv-loop μ-loop
 loop-again c = reach-four _ _ _ _ _ (c .before .before .before .before .before .before .before .before .before .before .before .before .before .loop .inv) (c .before .before .before .before .before .before .before .before .before .before .before .before .loop-test .taken) _ (c .before .before .before .before .before .before .before .before .before .before .class-of .ensures) (c .before .before .before .before .before .before .before .before .before .if1 .left) _ (c .before .before .before .before .before .before .before .class-of2 .ensures) (c .before .before .before .before .before .before .if2 .left) _ (c .before .before .before .before .class-of3 .ensures) (c .before .before .before .if3 .left) _ (c .before .class-of4 .ensures) (c .if4 .left)
-
-class-rest-requires : tie.Need-class-rest-requires Inv-loop μ-loop
-class-rest-requires c κs = search needs
 
 returns-5 : tie.Need-returns-5 Inv-loop μ-loop
 returns-5 c = search (reach-on, arith)
@@ -93,27 +39,27 @@ class-end-spec =
     Inv-loop
     μ-loop
     loop-holds
-    sub-loop
-    shared-slice-read-class-of
-    class-of-requires
+    (λ c. search needs)
+    (λ c. search needs)
+    (λ c κs. search needs)
     returns
-    add-class-of
-    shared-slice-read-class-of-2
-    class-of-requires-2
-    add-result
+    (λ c. search needs)
+    (λ c. search needs)
+    (λ c κs. search needs)
+    (λ c. search needs)
     returns-2
-    add-class-of-2
-    shared-slice-read-class-of-3
-    class-of-requires-3
-    add-result-2
+    (λ c. search needs)
+    (λ c. search needs)
+    (λ c κs. search needs)
+    (λ c. search needs)
     returns-3
-    add-class-of-3
-    shared-slice-read-class-of-4
-    class-of-requires-4
-    add-result-3
+    (λ c. search needs)
+    (λ c. search needs)
+    (λ c κs. search needs)
+    (λ c. search needs)
     returns-4
-    add-i
-    loop-less
+    (λ c. search needs)
+    (λ c. search needs)
     loop-again
-    class-rest-requires
+    (λ c κs. search needs)
     returns-5)

@@ -1,40 +1,30 @@
 use borrow.Author.Needs.{needs}
 use native.Mathlib.Omega.{arith}
-use Rattle.spelling.proofs.Putting.{turn-start, hex-room, hex-on, hex-end, Turning}
 use Prim.Native.Nat.{_-_}
-use Rattle.model.specs.Write.{hexAll}
+use Rattle.spelling.proofs.Spellings.{Pairing, pair-start, pair-room, pair-on, pair-end, pair-long}
 use Rattle.spelling.proofs.put_pairs.Statement.{statement}
 use Rattle.spelling.proofs.put_pairs.Tie as tie
 
 abbrev Inv-loop : tie.InvT-loop
-Inv-loop src start end out₀ pos i₀ o₀ out i o = Turning hexAll src start end pos out₀ out i o
+Inv-loop src start end out₀ pos i₀ o₀ out i o = Pairing src start end pos out₀ out i o
 
 abbrev μ-loop : tie.MeasureT-loop
 μ-loop src start end out₀ pos i₀ o₀ out i o = end - i
 
 loop-holds : tie.Need-loop-holds Inv-loop μ-loop
-loop-holds c = search (turn-start, arith)
-
-shared-slice-read-put-pair : tie.Need-shared-slice-read-put-pair Inv-loop μ-loop
-shared-slice-read-put-pair c = search needs
+loop-holds c = search (pair-start, arith)
 
 put-pair-requires : tie.Need-put-pair-requires Inv-loop μ-loop
-put-pair-requires c κs = search (hex-room, arith)
-
-add-i : tie.Need-add-i Inv-loop μ-loop
-add-i c = search needs
-
-loop-less : tie.Need-loop-less Inv-loop μ-loop
-loop-less c = search needs
+put-pair-requires c κs = search (pair-room, arith)
 
 loop-again : tie.Need-loop-again Inv-loop μ-loop
-loop-again c = search (hex-on, arith)
+loop-again c = search (pair-on, arith)
 
 same-length : tie.Need-same-length Inv-loop μ-loop
-same-length c = search needs
+same-length c = search (pair-long, arith)
 
 returns : tie.Need-returns Inv-loop μ-loop
-returns c = search (hex-end, arith)
+returns c = search (pair-end, arith)
 
 pub put-pairs-spec : {M : Type 1} → statement M
 put-pairs-spec =
@@ -43,10 +33,10 @@ put-pairs-spec =
     Inv-loop
     μ-loop
     loop-holds
-    shared-slice-read-put-pair
+    (λ c. search needs)
     put-pair-requires
-    add-i
-    loop-less
+    (λ c. search needs)
+    (λ c. search needs)
     loop-again
     same-length
     returns)

@@ -1,23 +1,14 @@
 use native.Mathlib.Omega.{arith}
-use Rattle.spelling.proofs.Putting.{mark-body, mark-last, mark-long, mark-both}
+use Rattle.spelling.proofs.Filling.{mark-body, mark-last, mark-long, mark-both}
 use borrow.Author.Needs.{needs}
 use Rattle.spelling.proofs.put_quoted.Statement.{statement}
 use Rattle.spelling.proofs.put_quoted.Tie as tie
 
-slice-write-out : tie.Need-slice-write-out
-slice-write-out c = search needs
-
-add-put-octets : tie.Need-add-put-octets
-add-put-octets c = search needs
-
 put-octets-requires : tie.Need-put-octets-requires
-put-octets-requires c κs = search (mark-body, arith)
+put-octets-requires c κs = (search needs, (search needs, search (mark-body, arith)))
 
 slice-write-out-2 : tie.Need-slice-write-out-2
 slice-write-out-2 c = search (mark-last, arith)
-
-add-result : tie.Need-add-result
-add-result c = search needs
 
 same-length : tie.Need-same-length
 same-length c = search (mark-long, arith)
@@ -29,10 +20,10 @@ pub put-quoted-spec : {M : Type 1} → statement M
 put-quoted-spec =
     tie.close
     (tie.spec
-    slice-write-out
-    add-put-octets
+    (λ c. search needs)
+    (λ c. search needs)
     put-octets-requires
     slice-write-out-2
-    add-result
+    (λ c. search needs)
     same-length
     returns)

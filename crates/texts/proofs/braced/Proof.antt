@@ -10,9 +10,6 @@ returns c = search (opens-form, arith)
 returns-2 : tie.Need-returns-2
 returns-2 c = search (opens-empty, arith)
 
-shared-slice-read-if3 : tie.Need-shared-slice-read-if3
-shared-slice-read-if3 c = search needs
-
 returns-3 : tie.Need-returns-3
 returns-3 c = search (opens-other, arith)
 
@@ -20,4 +17,11 @@ returns-4 : tie.Need-returns-4
 returns-4 c = search (opens-brace, arith)
 
 pub braced-spec : {M : Type 1} → statement M
-braced-spec = tie.close (tie.spec returns returns-2 shared-slice-read-if3 returns-3 returns-4)
+braced-spec =
+    tie.close
+    (tie.spec
+    returns
+    returns-2
+    (λ c. search needs)
+    returns-3
+    returns-4)

@@ -7,9 +7,6 @@ use Rattle.write.proofs.write_basic.Tie as tie
 basic-len-requires : tie.Need-basic-len-requires
 basic-len-requires c κs = search (good-short, arith)
 
-refused-writing-requires : tie.Need-refused-writing-requires
-refused-writing-requires c κs = search needs
-
 returns : tie.Need-returns
 returns c = search (basic-refused, arith)
 
@@ -17,10 +14,7 @@ slice-aggregate-part : tie.Need-slice-aggregate-part
 slice-aggregate-part c = search (good-length, arith)
 
 put-basic-requires : tie.Need-put-basic-requires
-put-basic-requires c κs = (search (good-sheet, arith), search (basic-room, arith))
-
-same-length : tie.Need-same-length
-same-length c = search needs
+put-basic-requires c κs = (search needs, (search (good-sheet, arith), search (basic-room, arith)))
 
 returns-2 : tie.Need-returns-2
 returns-2 c = search (basic-written, arith)
@@ -30,9 +24,10 @@ write-basic-spec =
     tie.close
     (tie.spec
     basic-len-requires
-    refused-writing-requires
+    (λ c κs. search needs)
     returns
+    (λ c κs. search needs)
     slice-aggregate-part
     put-basic-requires
-    same-length
+    (λ c. search needs)
     returns-2)

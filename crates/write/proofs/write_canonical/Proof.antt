@@ -4,9 +4,6 @@ use borrow.Author.Needs.{needs}
 use Rattle.write.proofs.write_canonical.Statement.{statement}
 use Rattle.write.proofs.write_canonical.Tie as tie
 
-refused-writing-requires : tie.Need-refused-writing-requires
-refused-writing-requires c κs = search needs
-
 returns : tie.Need-returns
 returns c = search (canonical-refused, arith)
 
@@ -14,12 +11,15 @@ copy-requires : tie.Need-copy-requires
 copy-requires c κs =
     canonical-room _ _ (c .before .before .before .before .pre) (c .before .before .before .before .args .out .now) (c .before .if1 .left)
 
-same-length : tie.Need-same-length
-same-length c = search needs
-
 returns-2 : tie.Need-returns-2
 returns-2 c = search (canonical-written, arith)
 
 pub write-canonical-spec : {M : Type 1} → statement M
 write-canonical-spec =
-    tie.close (tie.spec refused-writing-requires returns copy-requires same-length returns-2)
+    tie.close
+    (tie.spec
+    (λ c κs. search needs)
+    returns
+    copy-requires
+    (λ c. search needs)
+    returns-2)

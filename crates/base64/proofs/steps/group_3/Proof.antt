@@ -5,35 +5,11 @@ use borrow.Author.Needs.{needs}
 use Rattle.base64.proofs.steps.group_3.Statement.{statement}
 use Rattle.base64.proofs.steps.group_3.Tie as tie
 
-letter-at-requires : tie.Need-letter-at-requires
-letter-at-requires c κs = search needs
-
-enum-known-octet : tie.Need-enum-known-octet
-enum-known-octet c = search needs
-
 group-4-requires : tie.Need-group-4-requires
 group-4-requires c κs = search (char-place, char-low, arith)
 
-enum-known-next : tie.Need-enum-known-next
-enum-known-next c = search needs
-
-letter-of-requires : tie.Need-letter-of-requires
-letter-of-requires c κs = search needs
-
-letter-of-requires-2 : tie.Need-letter-of-requires-2
-letter-of-requires-2 c κs = search needs
-
-last-two-requires : tie.Need-last-two-requires
-last-two-requires c κs = search needs
-
-enum-known-next-2 : tie.Need-enum-known-next-2
-enum-known-next-2 c = search needs
-
 padded-requires : tie.Need-padded-requires
 padded-requires c κs = search (pad-place, arith)
-
-enum-told : tie.Need-enum-told
-enum-told c = search needs
 
 returns : tie.Need-returns
 returns c = search (g3-char, g3-end, g3-pad)
@@ -51,16 +27,16 @@ pub group-3-spec : {M : Type 1} → statement M
 group-3-spec =
     tie.close
     (tie.spec
-    letter-at-requires
-    enum-known-octet
+    (λ c κs. search needs)
+    (λ c. search needs)
     group-4-requires
-    enum-known-next
-    letter-of-requires
-    letter-of-requires-2
-    last-two-requires
-    enum-known-next-2
+    (λ c. search needs)
+    (λ c κs. search needs)
+    (λ c κs. search needs)
+    (λ c κs. search needs)
+    (λ c. search needs)
     padded-requires
-    enum-told
+    (λ c. search needs)
     returns
     returns-2
     returns-3

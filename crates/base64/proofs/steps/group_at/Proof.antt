@@ -5,38 +5,11 @@ use borrow.Author.Needs.{needs}
 use Rattle.base64.proofs.steps.group_at.Statement.{statement}
 use Rattle.base64.proofs.steps.group_at.Tie as tie
 
-letter-at-requires : tie.Need-letter-at-requires
-letter-at-requires c κs = search needs
-
-enum-known-x : tie.Need-enum-known-x
-enum-known-x c = search needs
-
 letter-at-requires-2 : tie.Need-letter-at-requires-2
 letter-at-requires-2 c κs = search (char-place, arith)
 
-enum-known-y : tie.Need-enum-known-y
-enum-known-y c = search needs
-
 group-3-requires : tie.Need-group-3-requires
 group-3-requires c κs = search (char-place, char-low, arith)
-
-enum-told : tie.Need-enum-told
-enum-told c = search needs
-
-enum-told-2 : tie.Need-enum-told-2
-enum-told-2 c = search needs
-
-enum-told-3 : tie.Need-enum-told-3
-enum-told-3 c = search needs
-
-enum-known-next : tie.Need-enum-known-next
-enum-known-next c = search needs
-
-enum-told-4 : tie.Need-enum-told-4
-enum-told-4 c = search needs
-
-enum-told-5 : tie.Need-enum-told-5
-enum-told-5 c = search needs
 
 returns : tie.Need-returns
 returns c = search (g2-char)
@@ -63,17 +36,17 @@ pub group-at-spec : {M : Type 1} → statement M
 group-at-spec =
     tie.close
     (tie.spec
-    letter-at-requires
-    enum-known-x
+    (λ c κs. search needs)
+    (λ c. search needs)
     letter-at-requires-2
-    enum-known-y
+    (λ c. search needs)
     group-3-requires
-    enum-told
-    enum-told-2
-    enum-told-3
-    enum-known-next
-    enum-told-4
-    enum-told-5
+    (λ c. search needs)
+    (λ c. search needs)
+    (λ c. search needs)
+    (λ c. search needs)
+    (λ c. search needs)
+    (λ c. search needs)
     returns
     returns-2
     returns-3

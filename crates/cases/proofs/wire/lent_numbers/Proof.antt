@@ -4,11 +4,12 @@ use borrow.Author.Needs.{needs}
 use Rattle.cases.proofs.wire.lent_numbers.Statement.{statement}
 use Rattle.cases.proofs.wire.lent_numbers.Tie as tie
 
-lent-requires : tie.Need-lent-requires
-lent-requires c κs = search needs
-
 returns : tie.Need-returns
 returns c = counts _ _ (omega arith)
 
 pub lent-numbers-spec : {M : Type 1} → statement M
-lent-numbers-spec = tie.close (tie.spec lent-requires returns)
+lent-numbers-spec =
+    tie.close
+    (tie.spec
+    (λ c κs. search needs)
+    returns)

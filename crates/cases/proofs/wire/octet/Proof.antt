@@ -4,14 +4,13 @@ use borrow.Author.Needs.{needs}
 use Rattle.cases.proofs.wire.octet.Statement.{statement}
 use Rattle.cases.proofs.wire.octet.Tie as tie
 
-shared-slice-read-result : tie.Need-shared-slice-read-result
-shared-slice-read-result c = search needs
-
-returns : tie.Need-returns
-returns c = search needs
-
 returns-2 : tie.Need-returns-2
 returns-2 c = search (no-octet, arith)
 
 pub octet-spec : {M : Type 1} → statement M
-octet-spec = tie.close (tie.spec shared-slice-read-result returns returns-2)
+octet-spec =
+    tie.close
+    (tie.spec
+    (λ c. search needs)
+    (λ c. search needs)
+    returns-2)

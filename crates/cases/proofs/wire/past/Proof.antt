@@ -7,17 +7,18 @@ use Rattle.cases.proofs.wire.past.Tie as tie
 returns : tie.Need-returns
 returns c = nowhere _ _ _ (omega arith)
 
-sub-if2 : tie.Need-sub-if2
-sub-if2 c = search needs
-
 returns-2 : tie.Need-returns-2
 returns-2 c = nowhere _ _ _ (omega arith)
-
-add-result : tie.Need-add-result
-add-result c = search needs
 
 returns-3 : tie.Need-returns-3
 returns-3 c = place-is _ _ _ (omega arith)
 
 pub past-spec : {M : Type 1} → statement M
-past-spec = tie.close (tie.spec returns sub-if2 returns-2 add-result returns-3)
+past-spec =
+    tie.close
+    (tie.spec
+    returns
+    (λ c. search needs)
+    returns-2
+    (λ c. search needs)
+    returns-3)

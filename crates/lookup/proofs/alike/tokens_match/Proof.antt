@@ -10,18 +10,6 @@ returns c = search (match-sorts, arith)
 returns-2 : tie.Need-returns-2
 returns-2 c = search (match-marks, arith)
 
-hints-match-requires : tie.Need-hints-match-requires
-hints-match-requires c κs = search needs
-
-data-of-requires : tie.Need-data-of-requires
-data-of-requires c κs = search needs
-
-data-of-requires-2 : tie.Need-data-of-requires-2
-data-of-requires-2 c κs = search needs
-
-parts-equal-requires : tie.Need-parts-equal-requires
-parts-equal-requires c κs = search needs
-
 returns-3 : tie.Need-returns-3
 returns-3 c = search (match-data, arith)
 
@@ -34,9 +22,9 @@ tokens-match-spec =
     (tie.spec
     returns
     returns-2
-    hints-match-requires
-    data-of-requires
-    data-of-requires-2
-    parts-equal-requires
+    (λ c κs. search needs)
+    (λ c κs. search needs)
+    (λ c κs. search needs)
+    (λ c κs. search needs)
     returns-3
     returns-4)

@@ -7,12 +7,6 @@ use Rattle.quoted.proofs.escapes.line_escape.Tie as tie
 returns : tie.Need-returns
 returns c = search (line-end, arith)
 
-shared-slice-read-if2 : tie.Need-shared-slice-read-if2
-shared-slice-read-if2 c = search needs
-
-add-t8 : tie.Need-add-t8
-add-t8 c = search needs
-
 returns-2 : tie.Need-returns-2
 returns-2 c = search (line-both, arith)
 
@@ -20,4 +14,11 @@ returns-3 : tie.Need-returns-3
 returns-3 c = search (line-one, arith)
 
 pub line-escape-spec : {M : Type 1} → statement M
-line-escape-spec = tie.close (tie.spec returns shared-slice-read-if2 add-t8 returns-2 returns-3)
+line-escape-spec =
+    tie.close
+    (tie.spec
+    returns
+    (λ c. search needs)
+    (λ c. search needs)
+    returns-2
+    returns-3)

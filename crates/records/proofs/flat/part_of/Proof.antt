@@ -4,9 +4,6 @@ use borrow.Author.Needs.{needs}
 use Rattle.records.proofs.flat.part_of.Statement.{statement}
 use Rattle.records.proofs.flat.part_of.Tie as tie
 
-mul-result : tie.Need-mul-result
-mul-result c = search needs
-
 returns : tie.Need-returns
 unfolding part
 returns c = omega arith
@@ -16,4 +13,9 @@ unfolding part
 returns-2 c = omega arith
 
 pub part-of-spec : {M : Type 1} → statement M
-part-of-spec = tie.close (tie.spec mul-result returns returns-2)
+part-of-spec =
+    tie.close
+    (tie.spec
+    (λ c. search needs)
+    returns
+    returns-2)

@@ -4,12 +4,6 @@ use borrow.Author.Needs.{needs}
 use Rattle.records.proofs.flat.touched_by.Statement.{statement}
 use Rattle.records.proofs.flat.touched_by.Tie as tie
 
-enum-known-r : tie.Need-enum-known-r
-enum-known-r c = search needs
-
-enum-told : tie.Need-enum-told
-enum-told c = search needs
-
 returns : tie.Need-returns
 returns c = search (touched-old, arith)
 
@@ -20,4 +14,11 @@ returns-3 : tie.Need-returns-3
 returns-3 c = search (touched-none, arith)
 
 pub touched-by-spec : {M : Type 1} → statement M
-touched-by-spec = tie.close (tie.spec enum-known-r enum-told returns returns-2 returns-3)
+touched-by-spec =
+    tie.close
+    (tie.spec
+    (λ c. search needs)
+    (λ c. search needs)
+    returns
+    returns-2
+    returns-3)

@@ -1,9 +1,8 @@
 use borrow.Author.Needs.{needs}
 use native.Mathlib.Omega.{arith}
-use Rattle.writer.proofs.Writing.{write-start, open-room, open-written, close-room, close-written, plain-room, plain-written, hinted-room, hinted-written, write-other, write-end, write-long, Writing}
-use Rattle.writer.proofs.Places.{plain-order, plain-within, plain-less, hinted-strings, hinted-less}
 use Prim.Native.Nat.{_-_}
 use lib.ListN.{length}
+use Rattle.writer.proofs.Writing.{Writing, write-start, string-order, string-within, string-room, string-less, string-written, open-room, open-written, close-room, close-written, no-data, both-strings, both-room, both-less, both-written, write-long, write-end}
 use Rattle.writer.proofs.advanced.put_advanced.Statement.{statement}
 use Rattle.writer.proofs.advanced.put_advanced.Tie as tie
 
@@ -16,74 +15,44 @@ abbrev μ-loop : tie.MeasureT-loop
 loop-holds : tie.Need-loop-holds Inv-loop μ-loop
 loop-holds c = search (write-start, arith)
 
-lexeme-at-requires : tie.Need-lexeme-at-requires Inv-loop μ-loop
-lexeme-at-requires c κs = search needs
+put-plain-requires : tie.Need-put-plain-requires Inv-loop μ-loop
+put-plain-requires c κs = (search needs, ((search (string-order, arith), search (string-within, arith)), search (string-room, arith)))
 
-enum-told : tie.Need-enum-told Inv-loop μ-loop
-enum-told c = search needs
+loop-less : tie.Need-loop-less Inv-loop μ-loop
+loop-less c = search (string-less, arith)
+
+loop-again : tie.Need-loop-again Inv-loop μ-loop
+loop-again c = search (string-written, arith)
 
 put-open-requires : tie.Need-put-open-requires Inv-loop μ-loop
 put-open-requires c κs = search (open-room, arith)
 
-add-at : tie.Need-add-at Inv-loop μ-loop
-add-at c = search needs
-
-loop-less : tie.Need-loop-less Inv-loop μ-loop
-loop-less c = search needs
-
-loop-again : tie.Need-loop-again Inv-loop μ-loop
-loop-again c = search (open-written, c .before .before .put-open .ensures, c .before .before .before .before .before .before .lexeme-at .ensures, c .before .before .before .before .before .before .before .before .loop .inv, arith)
-
-enum-told-2 : tie.Need-enum-told-2 Inv-loop μ-loop
-enum-told-2 c = search needs
+loop-again-2 : tie.Need-loop-again-2 Inv-loop μ-loop
+loop-again-2 c = search (open-written, arith)
 
 slice-write-out : tie.Need-slice-write-out Inv-loop μ-loop
 slice-write-out c = search (close-room, arith)
 
-add-o : tie.Need-add-o Inv-loop μ-loop
-add-o c = search needs
-
-add-at-2 : tie.Need-add-at-2 Inv-loop μ-loop
-add-at-2 c = search needs
-
-loop-less-2 : tie.Need-loop-less-2 Inv-loop μ-loop
-loop-less-2 c = search needs
-
-loop-again-2 : tie.Need-loop-again-2 Inv-loop μ-loop
-loop-again-2 c = search (close-written, arith)
-
-enum-known-start : tie.Need-enum-known-start Inv-loop μ-loop
-enum-known-start c = search needs
-
-put-plain-requires : tie.Need-put-plain-requires Inv-loop μ-loop
-put-plain-requires c κs = search (plain-order, plain-within, plain-room, arith)
-
-loop-less-3 : tie.Need-loop-less-3 Inv-loop μ-loop
-loop-less-3 c = search (plain-less, arith)
-
 loop-again-3 : tie.Need-loop-again-3 Inv-loop μ-loop
-loop-again-3 c = search (plain-written, arith)
+loop-again-3 c = search (close-written, arith)
 
-enum-known-hint-start : tie.Need-enum-known-hint-start Inv-loop μ-loop
-enum-known-hint-start c = search needs
-
-put-hinted-requires : tie.Need-put-hinted-requires Inv-loop μ-loop
-put-hinted-requires c κs = search (hinted-strings, hinted-room, arith)
-
-loop-less-4 : tie.Need-loop-less-4 Inv-loop μ-loop
-loop-less-4 c = search (hinted-less, arith)
-
-loop-again-4 : tie.Need-loop-again-4 Inv-loop μ-loop
-loop-again-4 c = search (hinted-written, arith)
-
-enum-told-3 : tie.Need-enum-told-3 Inv-loop μ-loop
-enum-told-3 c = search needs
+hint-at-requires : tie.Need-hint-at-requires Inv-loop μ-loop
+hint-at-requires c κs = record { inside = (c .before .before .before .before .before .loop-test .taken); short = omega arith; unopened = (c .before .if2 .left); unclosed = (c .if3 .left); span = (c .before .before .before .before .string-at .result); told = (c .before .before .before .before .string-at .ensures); none = (c .before .before .before .if1 .left) }
 
 same-length : tie.Need-same-length Inv-loop μ-loop
 same-length c = search (write-long, arith)
 
 returns : tie.Need-returns Inv-loop μ-loop
-returns c = search (write-other, arith)
+returns c = search (no-data, arith)
+
+put-hinted-requires : tie.Need-put-hinted-requires Inv-loop μ-loop
+put-hinted-requires c κs = (search needs, (search (both-strings, arith), search (both-room, arith)))
+
+loop-less-4 : tie.Need-loop-less-4 Inv-loop μ-loop
+loop-less-4 c = search (both-less, arith)
+
+loop-again-4 : tie.Need-loop-again-4 Inv-loop μ-loop
+loop-again-4 c = search (both-written, arith)
 
 same-length-2 : tie.Need-same-length-2 Inv-loop μ-loop
 same-length-2 c = search (write-long, arith)
@@ -98,28 +67,33 @@ put-advanced-spec =
     Inv-loop
     μ-loop
     loop-holds
-    lexeme-at-requires
-    enum-told
-    put-open-requires
-    add-at
+    (λ c κs. search needs)
+    (λ c κs. search needs)
+    (λ c κs. search needs)
+    put-plain-requires
     loop-less
     loop-again
-    enum-told-2
-    slice-write-out
-    add-o
-    add-at-2
-    loop-less-2
+    (λ c. search needs)
+    put-open-requires
+    (λ c. search needs)
+    (λ c. search needs)
     loop-again-2
-    enum-known-start
-    put-plain-requires
-    loop-less-3
+    slice-write-out
+    (λ c. search needs)
+    (λ c. search needs)
+    (λ c. search needs)
     loop-again-3
-    enum-known-hint-start
+    hint-at-requires
+    (λ c. search needs)
+    (λ c. search needs)
+    same-length
+    returns
+    (λ c κs. search needs)
+    (λ c κs. search needs)
+    (λ c κs. search needs)
+    (λ c κs. search needs)
     put-hinted-requires
     loop-less-4
     loop-again-4
-    enum-told-3
-    same-length
-    returns
     same-length-2
     returns-2)

@@ -1,38 +1,29 @@
 use native.Mathlib.Omega.{arith}
-use Rattle.writer.proofs.Pieces.{hint-body, hint-room, hint-ended, hint-wrote}
+use Rattle.spelling.proofs.Filling.{mark-body, mark-last, mark-long, mark-both}
 use borrow.Author.Needs.{needs}
 use Rattle.writer.proofs.advanced.put_hint.Statement.{statement}
 use Rattle.writer.proofs.advanced.put_hint.Tie as tie
 
-slice-write-out : tie.Need-slice-write-out
-slice-write-out c = search needs
-
-add-put-spelled : tie.Need-add-put-spelled
-add-put-spelled c = search needs
-
 put-spelled-requires : tie.Need-put-spelled-requires
-put-spelled-requires c κs = search (hint-body, arith)
+put-spelled-requires c κs = (search needs, (search needs, search (mark-body, arith)))
 
 slice-write-out-2 : tie.Need-slice-write-out-2
-slice-write-out-2 c = search (hint-room, arith)
-
-add-result : tie.Need-add-result
-add-result c = search needs
+slice-write-out-2 c = search (mark-last, arith)
 
 same-length : tie.Need-same-length
-same-length c = search (hint-ended, arith)
+same-length c = search (mark-long, arith)
 
 returns : tie.Need-returns
-returns c = search (hint-wrote, arith)
+returns c = search (mark-both, arith)
 
 pub put-hint-spec : {M : Type 1} → statement M
 put-hint-spec =
     tie.close
     (tie.spec
-    slice-write-out
-    add-put-spelled
+    (λ c. search needs)
+    (λ c. search needs)
     put-spelled-requires
     slice-write-out-2
-    add-result
+    (λ c. search needs)
     same-length
     returns)

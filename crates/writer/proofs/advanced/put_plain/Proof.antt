@@ -1,20 +1,20 @@
 use native.Mathlib.Omega.{arith}
-use Rattle.writer.proofs.Pieces.{plain-wrote}
+use Rattle.writer.proofs.Pieces.{plain-rest, plain-front}
 use borrow.Author.Needs.{needs}
 use Rattle.writer.proofs.advanced.put_plain.Statement.{statement}
 use Rattle.writer.proofs.advanced.put_plain.Tie as tie
 
-put-gap-requires : tie.Need-put-gap-requires
-put-gap-requires c κs = search needs
-
 put-spelled-requires : tie.Need-put-spelled-requires
-put-spelled-requires c κs = search needs
-
-same-length : tie.Need-same-length
-same-length c = search needs
+put-spelled-requires c κs = (search needs, (search needs, search (plain-rest, arith)))
 
 returns : tie.Need-returns
-returns c = search (plain-wrote, arith)
+returns c = search (plain-front, arith)
 
 pub put-plain-spec : {M : Type 1} → statement M
-put-plain-spec = tie.close (tie.spec put-gap-requires put-spelled-requires same-length returns)
+put-plain-spec =
+    tie.close
+    (tie.spec
+    (λ c κs. search needs)
+    put-spelled-requires
+    (λ c. search needs)
+    returns)

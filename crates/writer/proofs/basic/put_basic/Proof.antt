@@ -1,4 +1,5 @@
 use native.Mathlib.Omega.{arith}
+use borrow.Author.Needs.{needs}
 use Rattle.writer.proofs.Groups.{brace-first, brace-body, brace-last, brace-fits, brace-long, brace-wrote}
 use Rattle.writer.proofs.basic.put_basic.Statement.{statement}
 use Rattle.writer.proofs.basic.put_basic.Tie as tie
@@ -7,7 +8,7 @@ slice-write-out : tie.Need-slice-write-out
 slice-write-out c = search (brace-first, arith)
 
 put-letters-requires : tie.Need-put-letters-requires
-put-letters-requires c κs = search (brace-body, arith)
+put-letters-requires c κs = (search needs, search (brace-body, arith))
 
 slice-write-out-2 : tie.Need-slice-write-out-2
 slice-write-out-2 c = search (brace-last, arith)

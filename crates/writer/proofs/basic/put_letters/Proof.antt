@@ -7,31 +7,22 @@ use Rattle.writer.proofs.basic.put_letters.Statement.{statement}
 use Rattle.writer.proofs.basic.put_letters.Tie as tie
 
 abbrev Inv-loop : tie.InvT-loop
-Inv-loop src out₀ pos i₀ o₀ out i o = Lettering src pos out₀ out i o
+Inv-loop alphabet src out₀ pos i₀ o₀ out i o = Lettering src pos out₀ out i o
 
 abbrev μ-loop : tie.MeasureT-loop
-μ-loop src out₀ pos i₀ o₀ out i o = length src - i
+μ-loop alphabet src out₀ pos i₀ o₀ out i o = length src - i
 
 loop-holds : tie.Need-loop-holds Inv-loop μ-loop
 loop-holds c = search (letters-start, arith)
 
-sub-loop : tie.Need-sub-loop Inv-loop μ-loop
-sub-loop c = search needs
-
 put-group-requires : tie.Need-put-group-requires Inv-loop μ-loop
-put-group-requires c κs = search (letters-room, arith)
-
-add-i : tie.Need-add-i Inv-loop μ-loop
-add-i c = search needs
-
-loop-less : tie.Need-loop-less Inv-loop μ-loop
-loop-less c = search needs
+put-group-requires c κs = (search needs, search (letters-room, arith))
 
 loop-again : tie.Need-loop-again Inv-loop μ-loop
 loop-again c = search (letters-on, arith)
 
 put-rest-requires : tie.Need-put-rest-requires Inv-loop μ-loop
-put-rest-requires c κs = search (letters-left, arith)
+put-rest-requires c κs = (search needs, (search needs, search (letters-left, arith)))
 
 same-length : tie.Need-same-length Inv-loop μ-loop
 same-length c = search (letters-long, arith)
@@ -46,10 +37,10 @@ put-letters-spec =
     Inv-loop
     μ-loop
     loop-holds
-    sub-loop
+    (λ c. search needs)
     put-group-requires
-    add-i
-    loop-less
+    (λ c. search needs)
+    (λ c. search needs)
     loop-again
     put-rest-requires
     same-length

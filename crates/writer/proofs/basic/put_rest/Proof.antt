@@ -4,59 +4,17 @@ use borrow.Author.Needs.{needs}
 use Rattle.writer.proofs.basic.put_rest.Statement.{statement}
 use Rattle.writer.proofs.basic.put_rest.Tie as tie
 
-sub-left : tie.Need-sub-left
-sub-left c = search needs
-
 returns : tie.Need-returns
 returns c = search (rest-none, arith)
-
-shared-slice-read-t12 : tie.Need-shared-slice-read-t12
-shared-slice-read-t12 c = search needs
-
-letters-of-requires : tie.Need-letters-of-requires
-letters-of-requires c κs = search needs
-
-array-read-t12 : tie.Need-array-read-t12
-array-read-t12 c = search needs
-
-array-read-t18 : tie.Need-array-read-t18
-array-read-t18 c = search needs
 
 put-four-requires : tie.Need-put-four-requires
 put-four-requires c κs = search (rest-room, arith)
 
-same-length : tie.Need-same-length
-same-length c = search needs
-
 returns-2 : tie.Need-returns-2
 returns-2 c = search (rest-one, arith)
 
-shared-slice-read-t23 : tie.Need-shared-slice-read-t23
-shared-slice-read-t23 c = search needs
-
-add-t8 : tie.Need-add-t8
-add-t8 c = search needs
-
-shared-slice-read-t25 : tie.Need-shared-slice-read-t25
-shared-slice-read-t25 c = search needs
-
-letters-of-requires-2 : tie.Need-letters-of-requires-2
-letters-of-requires-2 c κs = search needs
-
-array-read-t23 : tie.Need-array-read-t23
-array-read-t23 c = search needs
-
-array-read-t25 : tie.Need-array-read-t25
-array-read-t25 c = search needs
-
-array-read-t33 : tie.Need-array-read-t33
-array-read-t33 c = search needs
-
 put-four-requires-2 : tie.Need-put-four-requires-2
 put-four-requires-2 c κs = search (rest-room, arith)
-
-same-length-2 : tie.Need-same-length-2
-same-length-2 c = search needs
 
 returns-3 : tie.Need-returns-3
 returns-3 c = search (rest-two, arith)
@@ -65,22 +23,22 @@ pub put-rest-spec : {M : Type 1} → statement M
 put-rest-spec =
     tie.close
     (tie.spec
-    sub-left
+    (λ c. search needs)
     returns
-    shared-slice-read-t12
-    letters-of-requires
-    array-read-t12
-    array-read-t18
+    (λ c. search needs)
+    (λ c κs. search needs)
+    (λ c. search needs)
+    (λ c. search needs)
     put-four-requires
-    same-length
+    (λ c. search needs)
     returns-2
-    shared-slice-read-t23
-    add-t8
-    shared-slice-read-t25
-    letters-of-requires-2
-    array-read-t23
-    array-read-t25
-    array-read-t33
+    (λ c. search needs)
+    (λ c. search needs)
+    (λ c. search needs)
+    (λ c κs. search needs)
+    (λ c. search needs)
+    (λ c. search needs)
+    (λ c. search needs)
     put-four-requires-2
-    same-length-2
+    (λ c. search needs)
     returns-3)

@@ -1,0 +1,166 @@
+//! The plain reader and the library give the same answers, octets and records,
+//! and leave the same behind in all that is lent: on the texts that are timed,
+//! and on document 01's sheets to try, whose answers stand here as 01 gives them
+//! or as they follow from it by hand.
+
+use bench::plain::Reader;
+use bench::texts::texts;
+use etglavino::{Extent, Refusal, MAX_CANONICAL, MAX_NODES, RECORD};
+use reference::entries::{self, Reading};
+
+type Answer = Result<Extent, Refusal>;
+
+/// What is lent, whole.
+#[derive(Clone, Debug, PartialEq)]
+struct Lent {
+    canonical: Vec<u8>,
+    table: Vec<u32>,
+}
+
+impl Lent {
+    /// Room for any tree that fits and somewhat more, with something in it.
+    fn new() -> Lent {
+        Lent {
+            canonical: vec![0xa5; MAX_CANONICAL + 9],
+            table: vec![0xdead_beef; (MAX_NODES + 2) * RECORD + 3],
+        }
+    }
+
+    /// The same with a sheet and its table at the front.
+    fn with(octets: &[u8], records: &[[u32; RECORD]]) -> Lent {
+        let mut lent = Lent::new();
+        lent.canonical[..octets.len()].copy_from_slice(octets);
+        lent.table[..records.len() * RECORD].copy_from_slice(records.as_flattened());
+        lent
+    }
+}
+
+/// Reads a text with both; each has to give this answer and leave this behind.
+fn both(reader: &mut Reader, form: u32, source: &[u8], answer: Answer, left: &Lent) {
+    let start = String::from_utf8_lossy(&source[..source.len().min(40)]);
+    let (mut one, mut two) = (Lent::new(), Lent::new());
+    let plain = reader.read(form, source, &mut one.canonical, &mut one.table);
+    let proved = etglavino::read_form(form, source, &mut two.canonical, &mut two.table);
+    assert_eq!(plain, answer, "plain, form {form}: {start}");
+    assert_eq!(proved, answer, "library, form {form}: {start}");
+    assert!(one == *left, "plain, form {form}: {start}");
+    assert!(two == *left, "library, form {form}: {start}");
+}
+
+fn accepted(form: u32, source: &[u8], octets: &[u8], records: &[[u32; RECORD]]) {
+    let extent = Extent {
+        length: octets.len(),
+        nodes: records.len(),
+    };
+    let left = Lent::with(octets, records);
+    both(&mut Reader::new(), form, source, Ok(extent), &left);
+}
+
+fn refused(form: u32, source: &[u8], refusal: Refusal) {
+    both(&mut Reader::new(), form, source, Err(refusal), &Lent::new());
+}
+
+/// The texts that are timed, beside the reference program; one reader reads
+/// them all, as it does when it is timed.
+#[test]
+fn texts_that_are_timed() {
+    let mut reader = Reader::new();
+    for text in texts() {
+        let mut left = Lent::new();
+        let Reading::Accepted { length, nodes } = entries::read(
+            text.form,
+            &text.source,
+            &mut left.canonical,
+            &mut left.table,
+        ) else {
+            panic!("the reference program refuses {}", text.name);
+        };
+        assert!(length <= text.octets && nodes <= text.records);
+        let answer = Ok(Extent { length, nodes });
+        both(&mut reader, text.form, &text.source, answer, &left);
+    }
+}
+
+const LIST: &[u8] = b"(3:abc[1:x]0:)";
+const LIST_TABLE: [[u32; RECORD]; 3] = [
+    [2, 0, 14, 3, 0, 0, 1, 13],
+    [0, 1, 6, 1, 0, 0, 3, 6],
+    [1, 6, 13, 1, 9, 10, 13, 13],
+];
+
+#[test]
+fn starred_and_accepted() {
+    for form in [1, 2, 3] {
+        accepted(form, b"()", b"()", &[[2, 0, 2, 1, 0, 0, 1, 1]]);
+        accepted(form, b"0:", b"0:", &[[0, 0, 2, 1, 0, 0, 2, 2]]);
+        accepted(form, LIST, LIST, &LIST_TABLE);
+    }
+    accepted(3, b" ( abc [ x ] \"\" ) ", LIST, &LIST_TABLE);
+    accepted(2, b"{KDM6YWJjWzE6eF0wOik=}", LIST, &LIST_TABLE);
+    accepted(3, b"\"hi\"", b"2:hi", &[[0, 0, 4, 1, 0, 0, 2, 4]]);
+    let corrected = b"(2:hi[1:x]0:)";
+    let records = [
+        [2, 0, 13, 3, 0, 0, 1, 12],
+        [0, 1, 5, 1, 0, 0, 3, 5],
+        [1, 5, 12, 1, 8, 9, 12, 12],
+    ];
+    accepted(3, b"(\"hi\" [x]\"\")", corrected, &records);
+    accepted(3, b"a3:xyz", b"6:a3:xyz", &[[0, 0, 8, 1, 0, 0, 2, 8]]);
+    accepted(3, b"|YWJjZA|", b"4:abcd", &[[0, 0, 6, 1, 0, 0, 2, 6]]);
+}
+
+#[test]
+fn starred_and_refused() {
+    let texts: [&[u8]; 6] = [
+        b"03:abc",
+        b"3\"ab\"",
+        b"#616#",
+        b"(1997)",
+        b"[1:x](1:a)",
+        b"",
+    ];
+    for text in texts {
+        refused(3, text, Refusal::Syntax);
+    }
+}
+
+#[test]
+fn not_starred() {
+    refused(1, b"3:abc\n", Refusal::Syntax);
+    accepted(3, b"3:abc\n", b"3:abc", &[[0, 0, 5, 1, 0, 0, 2, 5]]);
+    accepted(3, b"\"\\377\"", b"1:\xff", &[[0, 0, 3, 1, 0, 0, 2, 3]]);
+    refused(3, b"\"\\400\"", Refusal::Syntax);
+}
+
+#[test]
+fn lists_in_lists() {
+    let nested = |depth| [vec![b'('; depth], vec![b')'; depth]].concat();
+    let mut records = Vec::new();
+    for level in 0..32 {
+        let end = 64 - level;
+        records.push([2, level, end, 32 - level, 0, 0, level + 1, end - 1]);
+    }
+    accepted(3, &nested(32), &nested(32), &records);
+    refused(3, &nested(33), Refusal::Depth);
+    refused(3, &[b'('; 33], Refusal::Syntax);
+}
+
+#[test]
+fn empty_strings() {
+    let empties = |count| format!("({})", "0:".repeat(count)).into_bytes();
+    let mut records = vec![[2, 0, 8_192, 4_096, 0, 0, 1, 8_191]];
+    for string in 0..4_095 {
+        let start = 1 + 2 * string;
+        records.push([0, start, start + 2, 1, 0, 0, start + 2, start + 2]);
+    }
+    accepted(3, &empties(4_095), &empties(4_095), &records);
+    refused(3, &empties(4_096), Refusal::Nodes);
+}
+
+#[test]
+fn one_long_string() {
+    let verbatim = |count| format!("{count}:{}", "v".repeat(count)).into_bytes();
+    let record = [0, 0, 16_384, 1, 0, 0, 6, 16_384];
+    accepted(3, &verbatim(16_378), &verbatim(16_378), &[record]);
+    refused(3, &verbatim(16_379), Refusal::Size);
+}

@@ -1,0 +1,146 @@
+-- A sheet noted, and what a node of it shows by its note.
+use Prim.Native.Nat.{ℕ, _+_, _*_, _/_, _≤_, _<_}
+use native.Mathlib.Omega.{arith}
+use mathlib.Core.Path.{_≡_, refl, sym, ap, _∙_, subst}
+use mathlib.Core.Bool.{Bool, true, false}
+use mathlib.Core.Option.{Option, none, some}
+use mathlib.Core.List.{List}
+use lib.ListN.{length, take, getD}
+use lib.Seq.{length-take-le}
+use lib.Dec.{leb}
+use Rattle.base.specs.Choice.{pick, not, chain, isNone}
+use Rattle.base.proofs.Cases.{by-bool, differ, picked, unpicked, some-same}
+use Rattle.model.specs.Limits.{maxCanonical, maxDepth, maxNodes, maxSource}
+use Rattle.model.specs.Answers.{fits, fitting, sheetTree, ownTree, hintPart, dataPart}
+use Rattle.model.specs.Decode.{decode₁}
+use Rattle.model.specs.Table.{width, numbers, records, rowOf}
+use Rattle.model.specs.Tree.{Tree, canon, nodes, depth}
+use Rattle.model.proofs.Exact.{canon-sound}
+use Rattle.walk.specs.Extent.{Wholly, Measures}
+use Rattle.walk.specs.declared.Extent.{Extent}
+use Rattle.walk.specs.declared.Extent.the-variants.{Whole, Refused}
+use Rattle.sheets.specs.Notes.{Notable, Noted}
+use Rattle.sheets.specs.Rows.{rowList, RowIs}
+use Rattle.sheets.specs.Told.{rowAt, Readable, Holds}
+use Rattle.sheets.specs.declared.rows.Row as coded
+use Rattle.sheets.proofs.Owning.{note-holds}
+use Rattle.sheets.proofs.Telling.{holds-row}
+use Rattle.answers.specs.Cases.{placed}
+use Rattle.answers.specs.declared.Place.{Place}
+use Rattle.answers.specs.declared.Place.the-variants.{Part, NoPart}
+use Rattle.lookup.specs.Noted.{Sheeted, Owning, Readables, Shows}
+use Rattle.lookup.proofs.Sheets.{no-tree, tree-of, none-of, fitted, within, sheet-none, sheet-deep, Own, own-of, own-beyond, own-long, own-many, own-unlent}
+use Rattle.lookup.proofs.Shown.{table-at, hint-unowned, hint-beyond, hint-other, hint-found, data-unowned, data-beyond, data-found}
+
+-- ---- a sheet noted
+
+module _ (c : List ℕ) (n m k : ℕ) (notes : List ℕ) where
+  unsheeted : ((table : List ℕ) → records table ≡ k → false ≡ not (isNone (ownTree c n table m))) → Sheeted c n m k notes false
+  unfolding Sheeted
+  unsheeted f = λ table e. none-of (ownTree c n table m) (f table e)
+
+  pub unnoted-beyond : length c < n → Sheeted c n m k notes false
+  unnoted-beyond h = unsheeted (λ table e. own-beyond c n table m h)
+
+  pub unnoted-long : maxCanonical < n → Sheeted c n m k notes false
+  unnoted-long h = unsheeted (λ table e. own-long c n table m h)
+
+  pub unnoted-many : maxNodes < m → Sheeted c n m k notes false
+  unnoted-many h = unsheeted (λ table e. own-many c n table m h)
+
+  pub unnoted-unlent : k < m → Sheeted c n m k notes false
+  unnoted-unlent h = unsheeted (λ table e. own-unlent c n table m (omega (arith, e)))
+
+module _ (c : List ℕ) (n m k : ℕ) (before after : List ℕ) (r : Extent) (v : Noted (take n c) before after r) (lent : n ≤ length c) where
+  none-owned : sheetTree c n ≡ none → Sheeted c n m k after false
+  unfolding Sheeted ownTree chain
+  none-owned e = λ table z. rw e
+
+  pub unnoted-none : r ≡ Refused → Sheeted c n m k after false
+  unnoted-none e = none-owned (none-of (sheetTree c n) (sheet-none c n lent r (v .measures) e))
+
+  module _ (len count deep : ℕ) (e : r ≡ Whole len count deep) where
+    wholly : Wholly (decode₁ (take n c)) len count deep
+    unfolding Measures
+    wholly = subst (Measures (decode₁ (take n c))) e (v .measures)
+
+    pub unnoted-other : (count ≡ m → ⊥) → Sheeted c n m k after false
+    unfolding Sheeted
+    unnoted-other d = λ table z. none-of (ownTree c n table m) (no-own table)
+      where
+        no-own : (table : List ℕ) → false ≡ not (isNone (ownTree c n table m))
+        no-own table =
+            no-tree (ownTree c n table m)
+            (λ t f.
+            let o : Own c n table m t = own-of c n table m t f in
+            let s : wholly .tree ≡ t = some-same (λ (u : Tree). wholly .tree ≡ u) (sym (wholly .is) ∙ o .sheet .decoded) refl in
+            d (omega (arith, wholly .counted, ap nodes s, o .counted)))
+
+    pub unnoted-deep : maxDepth < deep → Sheeted c n m k after false
+    unnoted-deep h = none-owned (none-of (sheetTree c n) (sheet-deep c n lent r (v .measures) len count deep e h))
+
+    pub noted-whole : n ≤ maxCanonical → m ≤ maxNodes → m ≤ k → count ≡ m → deep ≤ maxDepth → maxNodes ≤ length before → Sheeted c n m k after true
+    unfolding Sheeted chain fitting
+    noted-whole short few held z shallow room =
+        let t : Tree = wholly .tree in
+        let l : length (canon t) ≡ n = sym (ap length (canon-sound (take n c) t (wholly .is))) ∙ length-take-le n c lent in
+        let f : fits t ≡ true = fitted t (omega (arith, wholly .deepest)) (omega (arith, wholly .counted)) (omega (arith, l)) in
+        let g : Notable (take n c) (length before) = record { tree = t; is = wholly .is; deep = omega (arith, wholly .deepest); fits = omega (arith, wholly .counted) } in
+        record {
+          tree = t;
+          is = within c n lent ∙ ap (λ (o : Option Tree). chain o fitting) (wholly .is) ∙ picked _ _ f;
+          held = subst (λ (i : ℕ). Holds after i t) (sym (wholly .counted) ∙ z) (note-holds (take n c) before after r v (omega (arith, length-take-le n c lent)) g);
+          lent = held;
+        }
+
+-- ---- a node shown
+
+module _ (notes : List ℕ) (m node : ℕ) (own hinted : Bool) where
+  pub show-readable : Readables notes m own → own ≡ true → node < m → Readable notes node
+  show-readable g y h = g .read y node h
+
+  show-by : (r : Place) → ((c : List ℕ) (n : ℕ) (table : List ℕ) → Owning c n table m notes own → hinted ≡ true → placed r ≡ hintPart c n table m node)
+      → ((c : List ℕ) (n : ℕ) (table : List ℕ) → Owning c n table m notes own → hinted ≡ false → placed r ≡ dataPart c n table m node) → Shows notes m node own hinted r
+  show-by r f g =
+      record {
+        is = λ c n table o.
+            by-bool hinted (λ y. f c n table o y ∙ sym (picked _ _ y)) (λ y. g c n table o y ∙ sym (unpicked _ _ y));
+      }
+
+  pub show-unowned : own ≡ false → Shows notes m node own hinted NoPart
+  show-unowned y = show-by NoPart (λ c n table o z. hint-unowned c n table m node own (o .tells) y) (λ c n table o z. data-unowned c n table m node own (o .tells) y)
+
+  module _ (y : own ≡ true) where
+    pub show-beyond : m ≤ node → Shows notes m node own hinted NoPart
+    show-beyond h = show-by NoPart (λ c n table o z. hint-beyond c n table m node own (o .tells) y h) (λ c n table o z. data-beyond c n table m node own (o .tells) y h)
+
+    module _ (h : node < m) (row : coded.Row) (is : RowIs row (rowAt notes node)) where
+      -- the numbers that the note tells are the table's
+      number-at : (c : List ℕ) (n : ℕ) (table : List ℕ) → Owning c n table m notes own → (k : ℕ) → k < 8 → getD (rowList row) k 0 ≡ getD table (node * width + k) 0
+      number-at c n table o k l =
+          tree-of (ownTree c n table m) (sym y ∙ o .tells)
+          (λ t e.
+          ap (λ (x : List ℕ). getD x k 0) (is ∙ ap numbers (holds-row notes m t (o .held t e) node h))
+          ∙ sym (table-at c n table m t (own-of c n table m t e) node k h l))
+
+      pub show-other : hinted ≡ true → (row .kind ≡ 1 → ⊥) → Shows notes m node own hinted NoPart
+      show-other z d =
+          show-by NoPart
+          (λ c n table o x. hint-other c n table m node own (o .tells) y h (row .kind) (number-at c n table o 0 (omega arith)) d)
+          (λ c n table o x. differ z x)
+
+      pub show-hint : hinted ≡ true → row .kind ≡ 1 → Shows notes m node own hinted (Part (row .«hint_start») (row .«hint_end»))
+      show-hint z d =
+          show-by _
+          (λ c n table o x.
+          hint-found c n table m node own (o .tells) y h (row .kind) (number-at c n table o 0 (omega arith)) d
+          (row .«hint_start») (row .«hint_end») (number-at c n table o 4 (omega arith)) (number-at c n table o 5 (omega arith)))
+          (λ c n table o x. differ z x)
+
+      pub show-data : hinted ≡ false → Shows notes m node own hinted (Part (row .«data_start») (row .«data_end»))
+      show-data z =
+          show-by _
+          (λ c n table o x. differ x z)
+          (λ c n table o x.
+          data-found c n table m node own (o .tells) y h
+          (row .«data_start») (row .«data_end») (number-at c n table o 6 (omega arith)) (number-at c n table o 7 (omega arith)))

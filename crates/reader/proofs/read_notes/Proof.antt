@@ -1,0 +1,46 @@
+use Rattle.reader.proofs.Entry.{notes-refused, notes-taken}
+use Rattle.texts.proofs.Sizes.{formed, formed-long}
+use native.Mathlib.Omega.{arith}
+use borrow.Author.Needs.{needs}
+use Rattle.reader.proofs.read_notes.Statement.{statement}
+use Rattle.reader.proofs.read_notes.Tie as tie
+
+returns : tie.Need-returns
+returns c = search (notes-refused, arith)
+
+put-short-requires : tie.Need-put-short-requires
+put-short-requires c κs = (search needs, (search needs, search (formed, arith)))
+
+returns-2 : tie.Need-returns-2
+returns-2 c = search (notes-taken, arith)
+
+put-middle-requires : tie.Need-put-middle-requires
+put-middle-requires c κs = (search needs, (search needs, search (formed, arith)))
+
+returns-3 : tie.Need-returns-3
+returns-3 c = search (notes-taken, arith)
+
+put-long-requires : tie.Need-put-long-requires
+put-long-requires c κs = (search needs, (search needs, search (formed-long, arith)))
+
+returns-4 : tie.Need-returns-4
+returns-4 c = search (notes-taken, arith)
+
+pub read-notes-spec : {M : Type 1} → statement M
+read-notes-spec =
+    tie.close
+    (tie.spec
+    (λ c κs. search needs)
+    (λ c κs. search needs)
+    returns
+    (λ c κs. search needs)
+    (λ c κs. search needs)
+    put-short-requires
+    (λ c. search needs)
+    returns-2
+    put-middle-requires
+    (λ c. search needs)
+    returns-3
+    put-long-requires
+    (λ c. search needs)
+    returns-4)

@@ -1,0 +1,155 @@
+-- The records compared with notes, one by one, are a table compared with a tree's.
+use mathlib.Core.Path.{_≡_, refl, sym, _∙_, ap, subst}
+use mathlib.Core.Bool.{Bool, true, false}
+use mathlib.Core.Option.{Option, none, some}
+use mathlib.Core.List.{List, [], _∷_}
+use Prim.Native.Nat.{ℕ, zero, suc, _+_, _*_, _≤_, _<_}
+use native.Mathlib.Omega.{arith}
+use native.Mathlib.Numerals.{add-one}
+use lib.Dec.{eqb}
+use lib.ListN.{length, take, getD}
+use borrow.Author.Tests.{eq-eqb, ne-eqb}
+use Rattle.base.specs.Choice.{pick, both, not, equal, chain, isNone}
+use Rattle.base.proofs.Cases.{by-bool, by-eq, differ, picked, unpicked, some-same, none-some}
+use Rattle.base.proofs.Lists.{equal-true, same-equal}
+use Rattle.model.specs.Tree.{Tree, nodes}
+use Rattle.model.specs.Table.{Row, width, tableOf}
+use Rattle.model.specs.Table as table
+use Rattle.model.specs.Answers.{sheetTree, owns, ownTree}
+use Rattle.walk.specs.Events.{recordAt}
+use Rattle.sheets.specs.Rows.{rowList, RowIs}
+use Rattle.sheets.specs.Told.{rowAt, Readable, Holds, Fillable, Compared}
+use Rattle.sheets.specs.declared.rows.Row as coded
+use Rattle.sheets.proofs.Filling.{Comparing, compare-start, compare-on, compare-off, compare-end}
+use Rattle.sheets.proofs.Telling.{holds-readable}
+use Rattle.lookup.specs.Noted.{Sheet, Sheeted, Owning, Readables}
+use Rattle.records.specs.declared.Record.{Record}
+use Rattle.records.specs.Numbers.{eight, numbers}
+use Rattle.records.specs.Flat.{nil}
+use Rattle.records.specs.Told.{agrees, agreed, looked, Comparable}
+use Rattle.records.proofs.Tables.{length-numbers, eight-numbers}
+
+-- ---- eight numbers
+
+unequal : (x y : List ℕ) (k : ℕ) → (getD x k 0 ≡ getD y k 0 → ⊥) → false ≡ equal x y
+unequal x y k n = by-bool (equal x y) (λ t. absurd (n (ap (λ (l : List ℕ). getD l k 0) (equal-true x y t)))) (λ t. sym t)
+
+-- the k-th differs
+pub apart : (k : ℕ) (r : Record) (row : coded.Row) → (getD (eight r) k 0 ≡ getD (rowList row) k 0 → ⊥) → false ≡ equal (eight r) (rowList row)
+apart k r row d = unequal (eight r) (rowList row) k d
+
+pub all-but-last : (r : Record) (row : coded.Row) → r .kind ≡ row .kind → r .start ≡ row .start → r .end ≡ row .end → r .nodes ≡ row .nodes
+    → r .«hint_start» ≡ row .«hint_start» → r .«hint_end» ≡ row .«hint_end» → r .«data_start» ≡ row .«data_start» → eqb (r .«data_end») (row .«data_end») ≡ equal (eight r) (rowList row)
+all-but-last r row a b c d e f g =
+    by-eq (r .«data_end») (row .«data_end»)
+    (λ h. eq-eqb _ _ h ∙ sym (same-equal (eight r) (rowList row) (λ t. a t ∷ b t ∷ c t ∷ d t ∷ e t ∷ f t ∷ g t ∷ h t ∷ [])))
+    (λ h. ne-eqb _ _ h ∙ unequal (eight r) (rowList row) 7 h)
+
+-- ---- a record
+
+module _ (notes : List ℕ) (i : ℕ) (r : Record) (before : Bool) where
+  pub is-agreed : before ≡ true → (row : coded.Row) → RowIs row (rowAt notes i) → (b : Bool) → b ≡ equal (eight r) (rowList row) → b ≡ agrees notes i r before
+  unfolding agrees
+  is-agreed y row is b e = e ∙ ap (equal (eight r)) is ∙ sym (picked _ _ y)
+
+  pub is-not : before ≡ false → false ≡ agrees notes i r before
+  unfolding agrees
+  is-not y = sym (unpicked _ _ y)
+
+module _ (noted : Bool) (count : ℕ) where
+  pub looked-all : noted ≡ true → count ≡ looked noted count
+  unfolding looked
+  looked-all y = sym (picked _ _ y)
+
+  pub looked-none : noted ≡ false → 0 ≡ looked noted count
+  unfolding looked
+  looked-none y = sym (unpicked _ _ y)
+
+-- ---- the records in use
+
+-- the code's row with a row's numbers
+abbrev coded-row : Row → coded.Row
+coded-row r =
+    record {
+      kind = r .kind;
+      start = r .start;
+      end = r .end;
+      nodes = r .count;
+      «hint_start» = r .hintStart;
+      «hint_end» = r .hintEnd;
+      «data_start» = r .dataStart;
+      «data_end» = r .dataEnd;
+    }
+
+data Walked (notes : List ℕ) (n : ℕ) (t : List ℕ) (k : ℕ) (b : Bool) : Type 0 where
+  on : b ≡ true → Comparing notes n t k → Walked notes n t k b
+  off : b ≡ false → Compared notes n t false → Walked notes n t k b
+
+module _ (ys : List Record) (notes : List ℕ) (n : ℕ) (g : Fillable notes n (length (numbers ys))) (lent : n ≤ length ys) where
+  walked-on : (k : ℕ) → k < n → Walked notes n (numbers ys) k (agreed ys notes true k) → Walked notes n (numbers ys) (suc k) (agreed ys notes true (suc k))
+  unfolding agreed agrees
+  walked-on k h (off y w) = off (unpicked _ _ y) w
+  walked-on k h (on y w) =
+      let e : equal (eight (getD ys k nil)) (table.numbers (rowAt notes k)) ≡ equal (recordAt (numbers ys) k) (rowList (coded-row (rowAt notes k))) =
+      ap (λ (l : List ℕ). equal l (table.numbers (rowAt notes k))) (sym (eight-numbers ys k (omega arith))) in
+      by-bool (equal (eight (getD ys k nil)) (table.numbers (rowAt notes k)))
+      (λ q. on (picked _ _ y ∙ q) (subst (Comparing notes n (numbers ys)) (add-one k) (compare-on notes n (numbers ys) k w h (coded-row (rowAt notes k)) refl _ e q)))
+      (λ q. off (picked _ _ y ∙ q) (compare-off notes n (numbers ys) k w h (coded-row (rowAt notes k)) refl _ e q))
+
+  walked-to : (k : ℕ) → k ≤ n → Walked notes n (numbers ys) k (agreed ys notes true k)
+  unfolding agreed
+  walked-to zero h = on refl (compare-start notes n (numbers ys) g)
+  walked-to (suc k) h = walked-on k (omega arith) (walked-to k (omega arith))
+
+  compared : Compared notes n (numbers ys) (agreed ys notes true n)
+  compared = by (walked-to n (omega arith))
+    where
+      by : Walked notes n (numbers ys) n (agreed ys notes true n) → Compared notes n (numbers ys) (agreed ys notes true n)
+      by (on y w) = subst (Compared notes n (numbers ys)) (sym y) (compare-end notes n (numbers ys) n w (omega arith))
+      by (off y w) = subst (Compared notes n (numbers ys)) (sym y) w
+
+-- ---- a sheet's own records
+
+module _ (c : List ℕ) (len count : ℕ) (ys : List Record) (notes : List ℕ) where
+  pub sheet-comparable : (noted : Bool) → Sheeted c len count (length ys) notes noted → Comparable notes noted count (length ys)
+  unfolding Sheeted looked
+  sheet-comparable true s = record { lent = s .lent; read = λ i h. holds-readable notes count (s .tree) (s .held) i h }
+  sheet-comparable false s = record { lent = omega arith; read = λ i h. absurd (omega arith) }
+
+  module _ (s : Sheet c len count (length ys) notes) where
+    abbrev same : Bool
+    same = agreed ys notes true count
+
+    same-is : same ≡ equal (take (width * count) (numbers ys)) (tableOf (s .tree))
+    same-is = compared ys notes count (record { tree = s .tree; held = s .held; fits = omega (arith, s .lent, length-numbers ys) }) (s .lent) .tells (s .tree) (s .held)
+
+    own-is : ownTree c len (numbers ys) count ≡ pick same (some (s .tree)) none
+    unfolding ownTree owns chain
+    own-is =
+        ap (λ (o : Option Tree). chain o (owns (numbers ys) count)) (s .is)
+        ∙ ap (λ (b : Bool). pick b (some (s .tree)) none) (picked _ _ (eq-eqb count (nodes (s .tree)) (s .held .counted)) ∙ sym same-is)
+
+  told-some : (b : Bool) (t : Tree) → b ≡ not (isNone (pick b (some t) none))
+  unfolding isNone
+  told-some true t = refl
+  told-some false t = refl
+
+  some-tree : (b : Bool) (t u : Tree) → pick b (some t) none ≡ some u → t ≡ u
+  some-tree true t u e = some-same (λ (v : Tree). t ≡ v) e refl
+  some-tree false t u e = none-some e
+
+  pub sheet-owning : (noted : Bool) → Sheeted c len count (length ys) notes noted → (own : Bool) → own ≡ agreed ys notes noted (looked noted count) → Owning c len (numbers ys) count notes own
+  unfolding Sheeted looked agreed isNone
+  sheet-owning true s own e =
+      record {
+        tells = e ∙ told-some (same s) (s .tree) ∙ ap (λ (o : Option Tree). not (isNone o)) (sym (own-is s));
+        held = λ t f. subst (Holds notes count) (some-tree (same s) (s .tree) t (sym (own-is s) ∙ f)) (s .held);
+      }
+  sheet-owning false s own e =
+      let z : ownTree c len (numbers ys) count ≡ none = s (numbers ys) (omega (arith, length-numbers ys)) in
+      record { tells = e ∙ ap (λ (o : Option Tree). not (isNone o)) (sym z); held = λ t f. none-some (sym z ∙ f) }
+
+  pub sheet-readables : (noted : Bool) → Sheeted c len count (length ys) notes noted → (own : Bool) → own ≡ agreed ys notes noted (looked noted count) → Readables notes count own
+  unfolding Sheeted looked agreed
+  sheet-readables true s own e = record { read = λ y i h. holds-readable notes count (s .tree) (s .held) i h }
+  sheet-readables false s own e = record { read = λ y i h. differ y e }

@@ -1,0 +1,173 @@
+-- The records that notes tell are those of the table whose notes they are, and zeros past it.
+use mathlib.Core.Path.{_≡_, refl, sym, _∙_, ap, subst}
+use mathlib.Core.List.{List, [], _∷_, _++_, append-assoc, head-eq-of-cons-eq, tail-eq-of-cons-eq}
+use Prim.Native.Nat.{ℕ, zero, suc, _+_, _*_, _-_, _<_, _≤_, max}
+use native.Mathlib.Omega.{arith}
+use lib.Dec.{ltb}
+use borrow.Author.Tests.{lt-ltb, le-ltb}
+use lib.ListN.{length, take, drop, getD, set, replicate, length-set, length-append, length-replicate}
+use lib.Seq.{sets, drop-drop, drop-at, take-all}
+use Rattle.base.proofs.Cases.{by-le, picked, unpicked}
+use Rattle.model.specs.Tree.{Tree, nodes}
+use Rattle.model.specs.Table.{Row, rows, rowOf, plainRow, flat, tableOf}
+use Rattle.model.specs.Table as table
+use Rattle.model.specs.Answers.{Outcome, settled}
+use Rattle.walk.proofs.Tabled.{table-length, rows-length}
+use Rattle.sheets.specs.Rows.{rowList, RowIs}
+use Rattle.sheets.specs.Told.{rowAt, Readable, Holds}
+use Rattle.sheets.specs.declared.rows.Row as coded
+use Rattle.sheets.proofs.Telling.{holds-row, holds-readable}
+use Rattle.reader.specs.Stored.{Accepting, Puts}
+use Rattle.reader.proofs.Rooms.{settled-front}
+use Rattle.answers.specs.Cases.{outcome}
+use Rattle.answers.specs.declared.Reading.{Reading}
+use Rattle.answers.specs.declared.Reading.the-variants.{Accepted, Refused}
+use Rattle.answers.specs.declared.Refusal.{Refusal}
+use Rattle.records.specs.declared.Record.{Record}
+use Rattle.records.specs.Numbers.{eight, numbers}
+use Rattle.records.specs.Flat.{nil, touched}
+use Rattle.records.specs.Told.{recordOf, countOf, toldAt, told, Tellable, Tells}
+use Rattle.records.proofs.Tables.{length-numbers, numbers-set, eight-more, next-eight}
+
+-- ---- one record
+
+-- the numbers settle it
+eight-one : (x y : Record) → eight x ≡ eight y → x ≡ y
+eight-one x y e =
+    let e₁ = tail-eq-of-cons-eq e in
+    let e₂ = tail-eq-of-cons-eq e₁ in
+    let e₃ = tail-eq-of-cons-eq e₂ in
+    let e₄ = tail-eq-of-cons-eq e₃ in
+    let e₅ = tail-eq-of-cons-eq e₄ in
+    let e₆ = tail-eq-of-cons-eq e₅ in
+    let e₇ = tail-eq-of-cons-eq e₆ in
+    λ t. record {
+      kind = head-eq-of-cons-eq e t;
+      start = head-eq-of-cons-eq e₁ t;
+      end = head-eq-of-cons-eq e₂ t;
+      nodes = head-eq-of-cons-eq e₃ t;
+      «hint_start» = head-eq-of-cons-eq e₄ t;
+      «hint_end» = head-eq-of-cons-eq e₅ t;
+      «data_start» = head-eq-of-cons-eq e₆ t;
+      «data_end» = head-eq-of-cons-eq e₇ t;
+    }
+
+module _ (notes : List ℕ) (count i : ℕ) where
+  told-inside : i < count → toldAt notes count i ≡ recordOf (rowAt notes i)
+  unfolding toldAt
+  told-inside h = picked _ _ (lt-ltb i count h)
+
+  told-past : count ≤ i → toldAt notes count i ≡ nil
+  unfolding toldAt
+  told-past h = unpicked _ _ (le-ltb i count h)
+
+module _ (notes : List ℕ) (r : Reading) (i : ℕ) where
+  module _ (len count : ℕ) (e : r ≡ Accepted len count) where
+    count-is : countOf r ≡ count
+    unfolding countOf
+    count-is = ap countOf e
+
+    pub told-readable : Tellable notes r i → i < count → Readable notes i
+    told-readable g h = g .read (omega (arith, count-is))
+
+    pub told-row : i < count → (row : coded.Row) → RowIs row (rowAt notes i) → (z : Record) → eight z ≡ rowList row → z ≡ toldAt notes (countOf r) i
+    told-row h row is z f = eight-one z (recordOf (rowAt notes i)) (f ∙ is) ∙ sym (told-inside notes (countOf r) i (omega (arith, count-is)))
+
+    pub told-zero : count ≤ i → (z : Record) → z ≡ nil → z ≡ toldAt notes (countOf r) i
+    told-zero h z f = f ∙ sym (told-past notes (countOf r) i (omega (arith, count-is)))
+
+  pub told-refused : (f : Refusal) → r ≡ Refused f → (z : Record) → z ≡ nil → z ≡ toldAt notes (countOf r) i
+  unfolding countOf
+  told-refused f e z k = let c : countOf r ≡ 0 = ap countOf e in k ∙ sym (told-past notes (countOf r) i (omega (arith, c)))
+
+-- ---- n of them
+
+module _ (notes : List ℕ) (count : ℕ) where
+  pub length-told : (n : ℕ) (xs : List Record) → length (told notes count n xs) ≡ length xs
+  unfolding told
+  length-told zero xs = refl
+  length-told (suc n) xs = length-set (told notes count n xs) n (toldAt notes count n) ∙ length-told n xs
+
+  module _ (F : List ℕ) where
+    numbers-told : (n : ℕ) (xs : List Record) → n ≤ length xs → 8 * n ≤ length F → ((i : ℕ) → i < n → take 8 (drop (8 * i) F) ≡ eight (toldAt notes count i))
+        → numbers (told notes count n xs) ≡ take (8 * n) F ++ drop (8 * n) (numbers xs)
+    unfolding told
+    numbers-told zero xs h l g = refl
+    numbers-told (suc n) xs h l g =
+        numbers-set (told notes count n xs) n (toldAt notes count n) (omega (arith, length-told n xs))
+        ∙ ap (λ (v : List ℕ). sets (numbers (told notes count n xs)) (8 * n) v) (sym (g n (omega arith)))
+        ∙ ap (λ (k : List ℕ). sets k (8 * n) (take 8 (drop (8 * n) F))) (numbers-told n xs (omega arith) (omega arith) (λ i m. g i (omega arith)))
+        ∙ next-eight F (numbers xs) n (omega arith) (omega (arith, length-numbers xs))
+
+-- ---- a table with zeros behind it
+
+row-at : (rs : List Row) (z : List ℕ) (i : ℕ) (d : Row) → i < length rs → take 8 (drop (8 * i) (flat rs ++ z)) ≡ table.numbers (getD rs i d)
+unfolding flat
+row-at [] z i d h = absurd (omega arith)
+row-at (r ∷ rs) z zero d h = refl
+row-at (r ∷ rs) z (suc i) d h = rw (eight-more i) (row-at rs z i d (omega arith))
+
+zero-at : (m j : ℕ) → j < m → take 8 (drop (8 * j) (replicate (8 * m) 0)) ≡ eight nil
+zero-at zero j h = absurd (omega arith)
+zero-at (suc m) zero h = rw (eight-more m) refl
+zero-at (suc m) (suc j) h = rw (eight-more m, eight-more j) (zero-at m j (omega arith))
+
+module _ (notes : List ℕ) (count : ℕ) (t : Tree) (g : Holds notes count t) (m : ℕ) where
+  abbrev whole : List ℕ
+  whole = tableOf t ++ replicate (8 * m) 0
+
+  whole-length : length whole ≡ 8 * (count + m)
+  whole-length = length-append (tableOf t) (replicate (8 * m) 0) ∙ omega (arith, table-length t, length-replicate {A = ℕ} (8 * m) 0, g .counted)
+
+  told-whole : (i : ℕ) → i < count + m → take 8 (drop (8 * i) whole) ≡ eight (toldAt notes count i)
+  unfolding tableOf
+  told-whole i h =
+      by-le count i
+      (λ (past : count ≤ i).
+      let e : 8 * i ≡ 8 * count + 8 * (i - count) = omega arith in
+      ap (λ (k : ℕ). take 8 (drop k whole)) e
+      ∙ ap (take 8) (sym (drop-drop (8 * (i - count)) (8 * count) whole))
+      ∙ ap (λ (k : List ℕ). take 8 (drop (8 * (i - count)) k)) (drop-at (tableOf t) (replicate (8 * m) 0) (8 * count) (omega (arith, table-length t, g .counted)))
+      ∙ zero-at m (i - count) (omega arith)
+      ∙ ap eight (sym (told-past notes count i past)))
+      (λ (inside : i < count).
+      row-at (rows t 0) (replicate (8 * m) 0) i (plainRow 0 0 0) (omega (arith, rows-length t 0, g .counted))
+      ∙ ap table.numbers (sym (holds-row notes count t g i inside))
+      ∙ ap eight (sym (told-inside notes count i inside)))
+
+  pub told-is : (n : ℕ) (xs : List Record) → n ≡ count + m → n ≤ length xs → numbers (told notes count n xs) ≡ tableOf t ++ (replicate (8 * m) 0 ++ drop (8 * n) (numbers xs))
+  told-is n xs e h =
+      numbers-told notes count whole n xs h (omega (arith, whole-length)) (λ i k. told-whole i (omega arith))
+      ∙ ap (λ (l : List ℕ). l ++ drop (8 * n) (numbers xs)) (take-all (8 * n) whole (omega (arith, whole-length)))
+      ∙ append-assoc (tableOf t) (replicate (8 * m) 0) (drop (8 * n) (numbers xs))
+
+-- what lies between the new records and larger old ones is zeroed
+pub told-settled : (notes : List ℕ) (count : ℕ) (t : Tree) → Holds notes count t → (old : ℕ) (xs : List Record) → max old count ≤ length xs
+    → numbers (told notes count (max old count) xs) ≡ settled (numbers xs) (8 * old) (tableOf t)
+unfolding settled
+told-settled notes count t g old xs h =
+    let a : 8 * (max old count - count) ≡ 8 * old - length (tableOf t) = omega (arith, table-length t, g .counted) in
+    let b : 8 * max old count ≡ max (8 * old) (length (tableOf t)) = omega (arith, table-length t, g .counted) in
+    told-is notes count t g (max old count - count) (max old count) xs (omega arith) h
+    ∙ ap (λ (k : ℕ). tableOf t ++ (replicate k 0 ++ drop (8 * max old count) (numbers xs))) a
+    ∙ ap (λ (k : ℕ). tableOf t ++ (replicate (8 * old - length (tableOf t)) 0 ++ drop k (numbers xs))) b
+
+-- ---- an answer whose table is told by notes
+
+module _ (answer : List ℕ → Outcome) (c : List ℕ) (ys : List Record) (notes : List ℕ) where
+  records-are : table.records (numbers ys) ≡ length ys
+  records-are = omega (arith, length-numbers ys)
+
+  pub put-tells : (r : Reading) → Puts answer c (length ys) notes r → Tells notes r 0 (length ys)
+  unfolding Puts countOf touched
+  put-tells (Accepted len count) p = record { lent = omega (arith, p .recorded); read = λ i h. holds-readable notes count (p .tree) (p .held) i h }
+  put-tells (Refused f) p = record { lent = omega arith; read = λ i h. absurd (omega arith) }
+
+  pub put-told : (r : Reading) → Puts answer c (length ys) notes r → outcome r c (numbers (told notes (countOf r) (touched r 0) ys)) ≡ answer (numbers ys)
+  unfolding Puts countOf touched told
+  put-told (Accepted len count) p =
+      ap (outcome (Accepted len count) c) (
+      told-settled notes count (p .tree) (p .held) 0 ys (omega (arith, p .recorded))
+      ∙ settled-front (numbers ys) (tableOf (p .tree)) (omega (arith, table-length (p .tree), p .held .counted, p .recorded, length-numbers ys)))
+      ∙ p .is (numbers ys) records-are
+  put-told (Refused f) p = p (numbers ys) records-are

@@ -1,0 +1,72 @@
+-- The records that notes tell.
+use Prim.Native.Nat.{ℕ, zero, suc, _≤_, _<_}
+use mathlib.Core.Bool.{Bool}
+use mathlib.Core.List.{List}
+use lib.ListN.{getD, set}
+use lib.Dec.{ltb}
+use Rattle.base.specs.Choice.{pick, both, equal}
+use Rattle.model.specs.Table.{Row}
+use Rattle.model.specs.Table as table
+use Rattle.sheets.specs.Told.{rowAt, Readable}
+use Rattle.answers.specs.declared.Reading.{Reading}
+use Rattle.answers.specs.declared.Reading.the-variants as reading
+use Rattle.records.specs.declared.Record.{Record}
+use Rattle.records.specs.Numbers.{eight}
+use Rattle.records.specs.Flat.{nil, touched}
+
+-- the record with the numbers of a row
+abbrev pub recordOf : Row → Record
+recordOf r =
+    record {
+      kind = r .kind;
+      start = r .start;
+      end = r .end;
+      nodes = r .count;
+      «hint_start» = r .hintStart;
+      «hint_end» = r .hintEnd;
+      «data_start» = r .dataStart;
+      «data_end» = r .dataEnd;
+    }
+
+-- how many nodes an answer gives. 01, "Counts are 0 in a refusal"
+unfoldable pub countOf : Reading → ℕ
+countOf (reading.Accepted len count) = count
+countOf (reading.Refused f) = 0
+
+-- record i of count nodes: the one that its note tells, and zeros past the count
+unfoldable pub toldAt : List ℕ → ℕ → ℕ → Record
+toldAt notes count i = pick (ltb i count) (recordOf (rowAt notes i)) nil
+
+-- the first n records become these
+unfoldable pub told : List ℕ → ℕ → ℕ → List Record → List Record
+told notes count zero xs = xs
+told notes count (suc n) xs = set (told notes count n xs) n (toldAt notes count n)
+
+-- the note of a node can be read
+pub record Tellable (notes : List ℕ) (r : Reading) (i : ℕ) : Type 0 where
+  pub read : i < countOf r → Readable notes i
+
+-- the records that an answer touches are lent, and the notes of its nodes can be read
+pub record Tells (notes : List ℕ) (r : Reading) (old room : ℕ) : Type 0 where
+  pub lent : touched r old ≤ room
+  pub read : (i : ℕ) → i < countOf r → Readable notes i
+
+-- ---- compared
+
+-- a record is the one that a note tells, and what came before is so too
+unfoldable pub agrees : List ℕ → ℕ → Record → Bool → Bool
+agrees notes i r before = both before (equal (eight r) (table.numbers (rowAt notes i)))
+
+-- the first n records are those that notes tell, if they were noted
+unfoldable pub agreed : List Record → List ℕ → Bool → ℕ → Bool
+agreed xs notes noted zero = noted
+agreed xs notes noted (suc n) = agrees notes n (getD xs n nil) (agreed xs notes noted n)
+
+-- how many records are looked at
+unfoldable pub looked : Bool → ℕ → ℕ
+looked noted count = pick noted count 0
+
+-- those are lent, and their notes can be read
+pub record Comparable (notes : List ℕ) (noted : Bool) (count room : ℕ) : Type 0 where
+  pub lent : looked noted count ≤ room
+  pub read : (i : ℕ) → i < looked noted count → Readable notes i

@@ -1,0 +1,549 @@
+//! The stack that each entry takes: all run on threads with just `STACK` octets
+//! of it, while what is lent is on the heap. There is a test for each function
+//! of the archive, in a process of its own, as a thread that needs more ends the
+//! process; the thread's name then tells which call it was.
+
+mod common;
+
+use std::env;
+use std::process::Command;
+use std::thread;
+
+use common::{empties, nested, padded, verbatim, NUMBER, OCTET};
+use etglavino::{Extent, Record, Refusal, MAX_CANONICAL, MAX_NODES, MAX_SOURCE, RECORD};
+
+/// What a thread has: enough for any entry but one, and for the thread itself.
+const STACK: usize = 192 * 1024;
+
+/// Replacing over records works in a flat copy of the table besides.
+const FLAT: usize = 64 * 1024;
+
+/// Tells a test that it is the child.
+const CHILD: &str = "ETGLAVINO_STACK_CHILD";
+
+/// Runs a test in a process of its own.
+fn alone(name: &str, test: fn()) {
+    if env::var_os(CHILD).is_some() {
+        return test();
+    }
+    let child = Command::new(env::current_exe().expect("a path"))
+        .args([name, "--exact", "--nocapture"])
+        .env(CHILD, "")
+        .output()
+        .expect("a child");
+    let (out, err) = (
+        String::from_utf8_lossy(&child.stdout),
+        String::from_utf8_lossy(&child.stderr),
+    );
+    let passed = child.status.success() && out.contains(" 1 passed");
+    assert!(passed, "{name}, {}: {err}", child.status);
+}
+
+/// Runs a call on a thread with little stack.
+fn tight<R: Send>(case: &str, call: impl FnOnce() -> R + Send) -> R {
+    within(STACK, case, call)
+}
+
+/// The same with so much stack.
+fn within<R: Send>(stack: usize, case: &str, call: impl FnOnce() -> R + Send) -> R {
+    thread::scope(|scope| {
+        let thread = thread::Builder::new()
+            .name(case.to_string())
+            .stack_size(stack)
+            .spawn_scoped(scope, call);
+        thread.expect("a thread").join().expect("an answer")
+    })
+}
+
+/// A tree: lists, each the first element of the one around it, and in the
+/// innermost strings `ab`, then strings `abcd`.
+#[derive(Clone, Copy)]
+struct Tree {
+    lists: usize,
+    twos: usize,
+    fours: usize,
+}
+
+/// As long as texts are that are taken in the least space, in more, in more yet
+/// and in the most. The last is as large as a tree can be in all respects.
+const TREES: [Tree; 4] = [
+    Tree::new(2, 5, 1),
+    Tree::new(32, 100, 10),
+    Tree::new(32, 1_000, 32),
+    FULL,
+];
+const FULL: Tree = Tree::new(32, 4_032, 32);
+
+impl Tree {
+    const fn new(lists: usize, twos: usize, fours: usize) -> Tree {
+        Tree { lists, twos, fours }
+    }
+
+    /// The tree with its strings spelled so.
+    fn spelled(self, two: &str, four: &str) -> Vec<u8> {
+        let (open, close) = ("(".repeat(self.lists), ")".repeat(self.lists));
+        let strings = two.repeat(self.twos) + &four.repeat(self.fours);
+        format!("{open}{strings}{close}").into_bytes()
+    }
+
+    fn canonical(self) -> Vec<u8> {
+        self.spelled("2:ab", "4:abcd")
+    }
+
+    fn basic(self) -> Vec<u8> {
+        braced(&self.canonical())
+    }
+
+    /// The tree in advanced form, with strings of each kind.
+    fn advanced(self) -> Vec<Vec<u8>> {
+        let spellings = [
+            ("2:ab", "4:abcd"),
+            (" ab", " abcd"),
+            ("\"ab\"", "\"abcd\""),
+            ("2\"ab\"", "4\"abcd\""),
+            ("\"a\\x62\"", "\"ab\\143d\""),
+            ("#6162#", "4#61626364#"),
+            ("|YWI=|", "|YWJjZA==|"),
+            ("2|YWI|", "4| YWJjZA |"),
+        ];
+        spellings.map(|(two, four)| self.spelled(two, four)).into()
+    }
+
+    /// What goes out in advanced form.
+    fn written(self) -> Vec<u8> {
+        let (open, close) = ("(".repeat(self.lists), ")".repeat(self.lists));
+        let strings = [vec!["ab"; self.twos], vec!["abcd"; self.fours]].concat();
+        format!("{open}{}{close}", strings.join(" ")).into_bytes()
+    }
+
+    fn extent(self) -> Extent {
+        Extent {
+            length: 2 * self.lists + 4 * self.twos + 6 * self.fours,
+            nodes: self.lists + self.twos + self.fours,
+        }
+    }
+
+    /// Texts of the tree in each form, and the same with space up to the
+    /// longest that a source can be.
+    fn texts(self) -> Vec<(u32, Vec<u8>)> {
+        let mut texts = vec![(1, self.canonical()), (2, self.canonical())];
+        let mut longest = self.basic();
+        longest.pop();
+        longest = padded(&longest, MAX_SOURCE - 1);
+        longest.push(b'}');
+        texts.extend([(2, self.basic()), (2, longest)]);
+        for text in self.advanced() {
+            texts.push((3, padded(&text, MAX_SOURCE)));
+            texts.push((3, text));
+        }
+        texts
+    }
+}
+
+/// Base-64 with padding, in braces.
+fn braced(octets: &[u8]) -> Vec<u8> {
+    let letters = b"ABCDEFGHIJKLMNOPQRSTUVWXYZabcdefghijklmnopqrstuvwxyz0123456789+/";
+    let mut text = vec![b'{'];
+    for group in octets.chunks(3) {
+        let octet = |place: usize| usize::from(*group.get(place).unwrap_or(&0));
+        let bits = octet(0) << 16 | octet(1) << 8 | octet(2);
+        for place in 0..4 {
+            let letter = letters[bits >> (18 - 6 * place) & 63];
+            text.push(if place > group.len() { b'=' } else { letter });
+        }
+    }
+    text.push(b'}');
+    text
+}
+
+/// Texts, most of them as long as a source can be, that reading refuses.
+fn bad_texts() -> Vec<(u32, Vec<u8>, Refusal)> {
+    // Of as many octets as a source can have, and of as many as braces can hold.
+    let canonical = |size: usize| {
+        let strings = (size - 2) / 2;
+        [
+            (vec![b'('; size], Refusal::Syntax),
+            (nested(size / 2), Refusal::Depth),
+            (empties(strings), Refusal::Nodes),
+            (verbatim(size - 6), Refusal::Size),
+        ]
+    };
+    let mut texts = vec![
+        (0, FULL.canonical(), Refusal::Form),
+        (3, vec![b' '; MAX_SOURCE + 1], Refusal::SourceSize),
+    ];
+    for (text, refusal) in canonical(MAX_SOURCE) {
+        for form in [1, 2, 3] {
+            texts.push((form, text.clone(), refusal));
+        }
+    }
+    for (text, refusal) in canonical(24_570) {
+        texts.push((2, braced(&text), refusal));
+    }
+    for (mark, inner) in [("\"", "a"), ("\"", "\\\\"), ("#", "61"), ("|", "YWFh")] {
+        let count = (MAX_SOURCE - 2) / inner.len();
+        let open = format!("{mark}{}", inner.repeat(count));
+        texts.push((3, open.clone().into_bytes(), Refusal::Syntax));
+        texts.push((3, (open + mark).into_bytes(), Refusal::Size));
+    }
+    texts.push((3, vec![b'a'; MAX_SOURCE], Refusal::Size));
+    texts
+}
+
+/// What goes for a node's record in a table that is lent so.
+trait Table: Clone + Send + Sync {
+    /// How many of them are one record.
+    const WIDTH: usize;
+    /// What replacing takes besides for the table.
+    const COPY: usize;
+    /// One that stands in no table.
+    fn other() -> Self;
+    /// Those of a flat table.
+    fn of(numbers: &[u32]) -> Vec<Self>;
+}
+
+impl Table for u32 {
+    const WIDTH: usize = RECORD;
+    const COPY: usize = 0;
+
+    fn other() -> u32 {
+        NUMBER
+    }
+
+    fn of(numbers: &[u32]) -> Vec<u32> {
+        numbers.to_vec()
+    }
+}
+
+impl Table for Record {
+    const WIDTH: usize = 1;
+    const COPY: usize = FLAT;
+
+    fn other() -> Record {
+        Record::from([NUMBER; RECORD])
+    }
+
+    fn of(numbers: &[u32]) -> Vec<Record> {
+        let records = numbers.chunks_exact(RECORD);
+        let record = |numbers: &[u32]| numbers.try_into().map(|record: [u32; 8]| record.into());
+        records
+            .map(|numbers| record(numbers).expect("eight"))
+            .collect()
+    }
+}
+
+/// A sheet and its table, with room for any tree.
+#[derive(Clone)]
+struct Sheet<T> {
+    canonical: Vec<u8>,
+    table: Vec<T>,
+    extent: Extent,
+}
+
+impl<T: Table> Sheet<T> {
+    fn empty() -> Sheet<T> {
+        Sheet {
+            canonical: vec![OCTET; MAX_CANONICAL],
+            table: vec![T::other(); MAX_NODES * T::WIDTH],
+            extent: Extent::default(),
+        }
+    }
+
+    /// Read over numbers, whatever the table is lent as.
+    fn of(octets: &[u8]) -> Sheet<T> {
+        let sheet = common::Sheet::of(octets);
+        Sheet {
+            canonical: sheet.canonical,
+            table: T::of(&sheet.table),
+            extent: sheet.extent,
+        }
+    }
+}
+
+fn case(what: &str, form: u32, text: &[u8]) -> String {
+    let start = text[..text.len().min(8)].escape_ascii();
+    format!("{what}, form {form}, {} octets, {start}", text.len())
+}
+
+type Read<T> = fn(u32, &[u8], &mut [u8], &mut [T]) -> Result<Extent, Refusal>;
+
+fn reading<T: Table>(read: Read<T>) {
+    for tree in TREES {
+        for (form, text) in tree.texts() {
+            let mut lent = Sheet::<T>::empty();
+            let (canonical, table) = (&mut lent.canonical, &mut lent.table);
+            let case = case("read", form, &text);
+            let answer = tight(&case, || read(form, &text, canonical, table));
+            assert_eq!(answer, Ok(tree.extent()), "{case}");
+            let octets = tree.canonical();
+            assert!(lent.canonical[..octets.len()] == octets, "{case}");
+            // In less room than it takes.
+            let (room, count) = (octets.len() - 1, tree.extent().nodes * T::WIDTH);
+            for (room, count, refusal) in [
+                (room, count, Refusal::Size),
+                (room, count - 1, Refusal::Nodes),
+            ] {
+                let (canonical, table) = (&mut lent.canonical[..room], &mut lent.table[..count]);
+                let answer = tight(&case, || read(form, &text, canonical, table));
+                assert_eq!(answer, Err(refusal), "{case}");
+            }
+        }
+    }
+    for form in [1, 2, 3] {
+        let (mut lent, text) = (Sheet::<T>::empty(), hinted());
+        let (canonical, table) = (&mut lent.canonical, &mut lent.table);
+        let case = case("read", form, &text);
+        let answer = tight(&case, || read(form, &text, canonical, table));
+        assert_eq!(answer, Ok(FULL.extent()), "{case}");
+        assert!(lent.canonical == text, "{case}");
+    }
+    for (form, text, refusal) in bad_texts() {
+        let mut lent = Sheet::<T>::empty();
+        let (canonical, table) = (&mut lent.canonical, &mut lent.table);
+        let case = case("read", form, &text);
+        let answer = tight(&case, || read(form, &text, canonical, table));
+        assert_eq!(answer, Err(refusal), "{case}");
+    }
+}
+
+type Replace<T> = fn(u32, &[u8], &mut [u8], &mut [T], Extent, usize) -> Result<Extent, Refusal>;
+
+/// Replaces a node of a sheet.
+fn replaced<T: Table>(
+    replace: Replace<T>,
+    sheet: &mut Sheet<T>,
+    (form, text): (u32, &[u8]),
+    node: usize,
+) -> Result<Extent, Refusal> {
+    let (canonical, table, extent) = (&mut sheet.canonical, &mut sheet.table, sheet.extent);
+    let case = case(&format!("replace {node}"), form, text);
+    within(STACK + T::COPY, &case, || {
+        replace(form, text, canonical, table, extent, node)
+    })
+}
+
+fn replacing<T: Table>(replace: Replace<T>) {
+    let last = FULL.extent().nodes - 1;
+    let full = Sheet::<T>::of(&FULL.canonical());
+    for tree in TREES {
+        for (form, text) in tree.texts() {
+            // The whole of the largest sheet and of the smallest.
+            for octets in [FULL.canonical(), b"()".to_vec()] {
+                let mut sheet = Sheet::<T>::of(&octets);
+                let answer = replaced(replace, &mut sheet, (form, &text), 0);
+                assert_eq!(answer, Ok(tree.extent()));
+                let octets = tree.canonical();
+                assert!(sheet.canonical[..octets.len()] == octets);
+            }
+            // The last string is in 32 lists.
+            let refused = replaced(replace, &mut full.clone(), (form, &text), last);
+            assert_eq!(refused, Err(Refusal::Depth));
+            let missing = replaced(replace, &mut full.clone(), (form, &text), last + 1);
+            assert_eq!(missing, Err(Refusal::NoNode));
+            let mut bad = full.clone();
+            *bad.table.last_mut().expect("a record") = T::other();
+            let refused = replaced(replace, &mut bad, (form, &text), 0);
+            assert_eq!(refused, Err(Refusal::NotOwn));
+        }
+    }
+    // The last `abcd` gives way to a string as long, then to ones that do not fit.
+    for text in [&b"|d3h5eg==|"[..], b"\"wx\\x79z\"", b"wxyz"] {
+        for text in [text.to_vec(), padded(text, 1_024), padded(text, MAX_SOURCE)] {
+            let mut sheet = full.clone();
+            let answer = replaced(replace, &mut sheet, (3, &text), last);
+            assert_eq!(answer, Ok(FULL.extent()));
+            let end = [&b"4:wxyz"[..], &[b')'; 32]].concat();
+            assert!(sheet.canonical.ends_with(&end));
+        }
+    }
+    let one_list = Sheet::<T>::of(&Tree::new(1, 4_094, 1).canonical());
+    for (text, refusal) in [
+        (&b"(ab)"[..], Refusal::Nodes),
+        (&verbatim(20_000), Refusal::Size),
+    ] {
+        let refused = replaced(replace, &mut one_list.clone(), (3, text), last);
+        assert_eq!(refused, Err(refusal));
+    }
+    for (form, text, refusal) in bad_texts() {
+        let refused = replaced(replace, &mut full.clone(), (form, &text), 0);
+        assert_eq!(refused, Err(refusal), "{}", case("replace 0", form, &text));
+    }
+}
+
+type Look<T> = fn(&[u8], &[T], Extent, usize) -> Option<(usize, usize)>;
+
+/// A list as large as can be in which half of the strings have hints, the last
+/// one too.
+fn hinted() -> Vec<u8> {
+    let (plain, hinted) = ("0:".repeat(2_047), "[0:]0:".repeat(2_048));
+    format!("({plain}{hinted})").into_bytes()
+}
+
+/// The places of the last node's hint or data in `hinted` and in the full tree;
+/// then the same over tables and sheets that are not good.
+fn looking<T: Table>(look: Look<T>, in_hinted: (usize, usize), in_full: Option<(usize, usize)>) {
+    let sheets = [
+        (Sheet::<T>::of(&hinted()), Some(in_hinted)),
+        (Sheet::of(&FULL.canonical()), in_full),
+    ];
+    for (sheet, expected) in sheets {
+        let Sheet {
+            canonical,
+            table,
+            extent,
+        } = sheet;
+        let last = extent.nodes - 1;
+        let found = |canonical: &[u8], table: &[T], node| {
+            let case = format!("look at {node}");
+            tight(&case, || look(canonical, table, extent, node))
+        };
+        assert_eq!(found(&canonical, &table, last), expected);
+        assert_eq!(found(&canonical, &table, last + 1), None);
+        let mut bad = table.clone();
+        bad[extent.nodes * T::WIDTH - 1] = T::other();
+        assert_eq!(found(&canonical, &bad, last), None);
+        let mut bad = canonical.clone();
+        *bad.last_mut().expect("an octet") = b'(';
+        assert_eq!(found(&bad, &table, last), None);
+    }
+}
+
+/// Of the last node of `hinted`.
+const HINT: (usize, usize) = (16_380, 16_380);
+const DATA: (usize, usize) = (16_383, 16_383);
+/// Of the last node of the full tree.
+const FULL_DATA: (usize, usize) = (16_348, 16_352);
+
+fn writing() {
+    let mut outputs = Vec::new();
+    for tree in TREES {
+        let octets = tree.canonical();
+        outputs.push((1, octets.clone(), octets.clone()));
+        outputs.push((2, octets.clone(), tree.basic()));
+        outputs.push((3, octets, tree.written()));
+    }
+    // What takes the most room, and strings of each kind.
+    for (octet, mark, spelled) in [("\"", "\"", "\\\""), ("\0", "#", "00"), ("a", "", "a")] {
+        let octets = format!("16378:{}", octet.repeat(16_378));
+        let text = format!("{mark}{}{mark}", spelled.repeat(16_378));
+        outputs.push((3, octets.into_bytes(), text.into_bytes()));
+    }
+    let (plain, strings) = ("\"\" ".repeat(2_047), ["[\"\"]\"\""; 2_048].join(" "));
+    let text = format!("({plain}{strings})");
+    outputs.push((3, hinted(), text.into_bytes()));
+    for (form, octets, text) in outputs {
+        let mut out = vec![OCTET; 2 * MAX_CANONICAL + 2];
+        let case = case("write", form, &octets);
+        let (length, lent) = (octets.len(), &mut out);
+        let answer = tight(&case, || etglavino::write_form(form, &octets, length, lent));
+        assert_eq!(answer, Ok(text.len()), "{case}");
+        assert!(out[..text.len()] == text, "{case}");
+        let tight_room = &mut out[..text.len() - 1];
+        let answer = tight(&case, || {
+            etglavino::write_form(form, &octets, length, tight_room)
+        });
+        assert_eq!(answer, Err(Refusal::Size), "{case}");
+    }
+    for octets in not_sheets() {
+        for form in [1, 2, 3] {
+            let mut out = vec![OCTET; 2 * MAX_CANONICAL + 2];
+            let case = case("write", form, &octets);
+            let (length, lent) = (octets.len(), &mut out);
+            let answer = tight(&case, || etglavino::write_form(form, &octets, length, lent));
+            assert_eq!(answer, Err(Refusal::NotOwn), "{case}");
+        }
+    }
+}
+
+/// What is no sheet, by its octets or by its size.
+fn not_sheets() -> Vec<Vec<u8>> {
+    let open = FULL.canonical()[..MAX_CANONICAL - 1].to_vec();
+    let deep = [b"(", &FULL.canonical()[..], b")"].concat();
+    vec![open, deep, nested(33), empties(4_096), verbatim(16_379)]
+}
+
+fn comparing() {
+    let compare = |a: &[u8], b: &[u8], default_hint: &[u8]| {
+        tight(&case("compare", 1, b), || {
+            etglavino::same(a, a.len(), b, b.len(), default_hint)
+        })
+    };
+    for tree in TREES {
+        let octets = tree.canonical();
+        assert_eq!(compare(&octets, &octets, b""), Ok(true));
+        // The last string is another.
+        let mut other = octets.clone();
+        other[octets.len() - tree.lists - 1] = b'e';
+        assert_eq!(compare(&octets, &other, b""), Ok(false));
+    }
+    let full = FULL.canonical();
+    assert_eq!(compare(&full, &hinted(), b""), Ok(false));
+    // The same strings with hints and without.
+    let (plain, hints) = (empties(2_730), "[0:]0:".repeat(2_730));
+    let hints = format!("({hints})").into_bytes();
+    assert_eq!(compare(&plain, &hints, b""), Ok(true));
+    assert_eq!(compare(&hints, &plain, b"x"), Ok(false));
+    for bad in not_sheets() {
+        assert_eq!(compare(&full, &bad, b""), Err(Refusal::NotOwn));
+        assert_eq!(compare(&bad, &full, b""), Err(Refusal::NotOwn));
+        assert_eq!(compare(&bad, &bad, b""), Err(Refusal::NotOwn));
+    }
+}
+
+#[test]
+fn etg_read() {
+    alone("etg_read", || reading(etglavino::read_form));
+}
+
+#[test]
+fn etg_read_records() {
+    alone("etg_read_records", || reading(etglavino::read_records_form));
+}
+
+#[test]
+fn etg_replace() {
+    alone("etg_replace", || replacing(etglavino::replace_form));
+}
+
+#[test]
+fn etg_replace_records() {
+    alone("etg_replace_records", || {
+        replacing(etglavino::replace_records_form)
+    });
+}
+
+#[test]
+fn etg_write() {
+    alone("etg_write", writing);
+}
+
+#[test]
+fn etg_same() {
+    alone("etg_same", comparing);
+}
+
+#[test]
+fn etg_hint() {
+    alone("etg_hint", || looking(etglavino::hint_part, HINT, None));
+}
+
+#[test]
+fn etg_hint_records() {
+    alone("etg_hint_records", || {
+        looking(etglavino::hint_records_part, HINT, None)
+    });
+}
+
+#[test]
+fn etg_data() {
+    alone("etg_data", || {
+        looking(etglavino::data_part, DATA, Some(FULL_DATA))
+    });
+}
+
+#[test]
+fn etg_data_records() {
+    alone("etg_data_records", || {
+        looking(etglavino::data_records_part, DATA, Some(FULL_DATA))
+    });
+}
