@@ -1,6 +1,7 @@
 -- How many digits a number has, and its digits written from the last to the first.
 use Prim.Native.Nat.{ℕ, suc, _+_, _-_, _/_, _%_, _≤_, _<_}
 use native.Mathlib.Omega.{arith}
+use native.Mathlib.Numerals.{add-one}
 use mathlib.Core.Path.{_≡_, refl, sym, ap, _∙_}
 use mathlib.Core.List.{List, [], _∷_}
 use lib.ListN.{length, length-append, set, length-set}
@@ -43,6 +44,21 @@ wide-4 n h k = record { is = sym (four-width n h k); few = omega arith }
 pub wide-5 : (n : ℕ) → 10000 ≤ n → n ≤ maxSource → Wide n 5
 wide-5 n h k = record { is = omega (arith, more-width n (omega arith), four-width (n / 10) (omega arith) (omega arith)); few = omega arith }
 
+-- ---- numbers of one and of two digits
+module _ (n pos : ℕ) (out : List ℕ) where
+  pub put-one : n < 10 → Wrote (digits n) pos out (set out pos (48 + n)) (pos + 1)
+  put-one h = rw (digits-small n h) (record { place = refl; same = refl })
+
+  pub put-two : 10 ≤ n → n < 100 → Wrote (digits n) pos out (set (set out pos (48 + n / 10)) (pos + 1) (48 + n % 10)) (pos + 2)
+  put-two h k = rw (digits-more n h, digits-small (n / 10) (omega arith), add-one pos) (record { place = refl; same = refl })
+
+  pub one-room : pos + length (digits n) ≤ length out → pos < length out
+  one-room h = omega (arith, digits-length n .0)
+
+  pub two-room : 10 ≤ n → n < 100 → pos + length (digits n) ≤ length out → (x : ℕ) → pos + 1 < length (set out pos x)
+  two-room a b h x = omega (arith, two-width n a b, length-set out pos x)
+
+-- ---- larger ones, from the last digit to the first
 -- a store after a run may come before it
 set-after : (l a : List ℕ) (i j x : ℕ) → i + length a ≤ j → sets (set l j x) i a ≡ set (sets l i a) j x
 set-after l [] i j x h = refl
