@@ -1,81 +1,58 @@
 use borrow.Author.Needs.{needs}
 use native.Mathlib.Omega.{arith}
-use Rattle.decimal.proofs.Writing.{Putting, put-none, put-inside, put-room, put-room-last, put-more, put-last, put-one, put-two, one-room, two-room}
+use Rattle.decimal.proofs.Writing.{room-1, room-2, room-3, room-4, room-5, wrote-1, wrote-2, wrote-3, wrote-4, wrote-5}
 use Rattle.decimal.proofs.digits.put_decimal.Statement.{statement}
 use Rattle.decimal.proofs.digits.put_decimal.Tie as tie
 
-abbrev Inv-loop : tie.InvT-loop
-Inv-loop n out₀ pos end left₀ i₀ out left i = Putting n pos out₀ out left i
+slice-write-out : tie.Need-slice-write-out
+slice-write-out c = search (room-1, arith)
 
-abbrev μ-loop : tie.MeasureT-loop
-μ-loop n out₀ pos end left₀ i₀ out left i = left
+returns : tie.Need-returns
+returns c = search (wrote-1, arith)
 
-slice-write-out : tie.Need-slice-write-out Inv-loop μ-loop
-slice-write-out c = search (one-room, arith)
+put-two-requires : tie.Need-put-two-requires
+put-two-requires c κs = (search needs, search (room-2, arith))
 
-returns : tie.Need-returns Inv-loop μ-loop
-returns c = search (put-one, arith)
+returns-2 : tie.Need-returns-2
+returns-2 c = search (wrote-2, arith)
 
-slice-write-out-2 : tie.Need-slice-write-out-2 Inv-loop μ-loop
-slice-write-out-2 c = search (one-room, arith)
+put-three-requires : tie.Need-put-three-requires
+put-three-requires c κs = (search needs, search (room-3, arith))
 
-slice-write-out-3 : tie.Need-slice-write-out-3 Inv-loop μ-loop
-slice-write-out-3 c = search (two-room, arith)
+returns-3 : tie.Need-returns-3
+returns-3 c = search (wrote-3, arith)
 
-returns-2 : tie.Need-returns-2 Inv-loop μ-loop
-returns-2 c = search (put-two, arith)
+put-four-requires : tie.Need-put-four-requires
+put-four-requires c κs = (search needs, search (room-4, arith))
 
-loop-holds : tie.Need-loop-holds Inv-loop μ-loop
-loop-holds c = search (put-none, arith)
+returns-4 : tie.Need-returns-4
+returns-4 c = search (wrote-4, arith)
 
-sub-i : tie.Need-sub-i Inv-loop μ-loop
-sub-i c = search (put-inside, arith)
+put-five-requires : tie.Need-put-five-requires
+put-five-requires c κs = (search needs, search (room-5, arith))
 
-slice-write-out-4 : tie.Need-slice-write-out-4 Inv-loop μ-loop
-slice-write-out-4 c = search (put-room, arith)
-
-loop-again : tie.Need-loop-again Inv-loop μ-loop
-loop-again c = search (put-more, arith)
-
-slice-write-out-5 : tie.Need-slice-write-out-5 Inv-loop μ-loop
-slice-write-out-5 c = search (put-room-last, arith)
-
-returns-3 : tie.Need-returns-3 Inv-loop μ-loop
-returns-3 c = search (put-last, arith)
+returns-5 : tie.Need-returns-5
+returns-5 c = search (wrote-5, arith)
 
 pub put-decimal-spec : {M : Type 1} → statement M
 put-decimal-spec =
     tie.close
     (tie.spec
-    Inv-loop
-    μ-loop
     (λ c. search needs)
     (λ c. search needs)
     slice-write-out
     (λ c. search needs)
     (λ c. search needs)
     returns
-    (λ c. search needs)
-    (λ c. search needs)
-    slice-write-out-2
-    (λ c. search needs)
-    (λ c. search needs)
-    (λ c. search needs)
-    slice-write-out-3
-    (λ c. search needs)
+    put-two-requires
     (λ c. search needs)
     returns-2
-    (λ c κs. search needs)
+    put-three-requires
     (λ c. search needs)
-    loop-holds
-    sub-i
+    returns-3
+    put-four-requires
     (λ c. search needs)
+    returns-4
+    put-five-requires
     (λ c. search needs)
-    slice-write-out-4
-    (λ c. search needs)
-    loop-again
-    (λ c. search needs)
-    (λ c. search needs)
-    slice-write-out-5
-    (λ c. search needs)
-    returns-3)
+    returns-5)
