@@ -1,14 +1,16 @@
 -- How many digits a number has, and its digits written from the first to the last.
-use Prim.Native.Nat.{ℕ, suc, _+_, _*_, _-_, _/_, _%_, _≤_, _<_}
+use Prim.Native.Nat.{ℕ, zero, suc, _+_, _*_, _-_, _/_, _%_, _≤_, _<_}
 use native.Mathlib.Omega.{arith}
 use native.Mathlib.Numerals.{add-one}
 use native.Mathlib.Nat.{add-mul, one-mul, mul-add-div-right, div-eq-of-lt, mul-add-mod-self-right, mod-eq-of-lt}
 use mathlib.Core.Path.{_≡_, refl, sym, ap, ap₂, _∙_}
 use mathlib.Core.List.{List, [], _∷_, _++_}
 use borrow.Author.Tests.{lt-ltb, le-ltb}
-use lib.ListN.{length, length-append, set, length-set}
+use lib.ListN.{length, length-append, set, length-set, getD}
 use lib.Seq.{sets}
-use Rattle.base.proofs.Cases.{by-le}
+use mir.Syntax.{w8}
+use mir.Val.{Fits}
+use Rattle.base.proofs.Cases.{by-le, by-eq}
 use Rattle.model.specs.Limits.{maxSource}
 use Rattle.model.specs.Tree.{digits}
 use Rattle.model.proofs.Digits.{digits-small, digits-more}
@@ -135,35 +137,111 @@ four-digits n h k = shown n (100 ∷ 10 ∷ []) (1000 ∷ 100 ∷ 10 ∷ []) (om
 five-digits : (n : ℕ) → 10000 ≤ n → n < 100000 → digits n ≡ ending (10000 ∷ 1000 ∷ 100 ∷ 10 ∷ []) n
 five-digits n h k = shown n (1000 ∷ 100 ∷ 10 ∷ []) (10000 ∷ 1000 ∷ 100 ∷ 10 ∷ []) (omega arith) (ten-thousand n) (four-digits (n / 10) (omega arith) (omega arith))
 
-module _ (n pos : ℕ) (out : List ℕ) (h : pos + length (digits n) ≤ length out) where
-  pub room-1 : pos < length out
-  room-1 = omega (arith, digits-length n .0)
-
-  pub room-2 : 10 ≤ n → n < 100 → pos + 2 ≤ length out
-  room-2 a b = omega (arith, two-width n a b)
-
-  pub room-3 : 100 ≤ n → n < 1000 → pos + 3 ≤ length out
-  room-3 a b = omega (arith, three-width n a b)
-
-  pub room-4 : 1000 ≤ n → n < 10000 → pos + 4 ≤ length out
-  room-4 a b = omega (arith, four-width n a b)
-
-  pub room-5 : 10000 ≤ n → n ≤ maxSource → pos + 5 ≤ length out
-  room-5 a b = omega (arith, wide-5 n a b .is)
-
 module _ (n pos : ℕ) (out : List ℕ) where
+  pub room-1 : pos + length (digits n) ≤ length out → pos < length out
+  room-1 h = omega (arith, digits-length n .0)
+
+  pub room-2 : pos + length (digits n) ≤ length out → 10 ≤ n → n < 100 → pos + 2 ≤ length out
+  room-2 h a b = omega (arith, two-width n a b)
+
   pub wrote-1 : n < 10 → Wrote (digits n) pos out (set out pos (48 + n)) (pos + 1)
   wrote-1 h = rw (digits-small n h) (record { place = refl; same = refl })
 
-  module _ (out' : List ℕ) (r : ℕ) where
-    pub wrote-2 : 10 ≤ n → n < 100 → Wrote (ending (10 ∷ []) n) pos out out' r → Wrote (digits n) pos out out' r
-    wrote-2 h k w = rw (two-digits n h k) w
+  pub wrote-2 : (out' : List ℕ) (r : ℕ) → 10 ≤ n → n < 100 → Wrote (ending (10 ∷ []) n) pos out out' r → Wrote (digits n) pos out out' r
+  wrote-2 out' r h k w = rw (two-digits n h k) w
 
-    pub wrote-3 : 100 ≤ n → n < 1000 → Wrote (ending (100 ∷ 10 ∷ []) n) pos out out' r → Wrote (digits n) pos out out' r
-    wrote-3 h k w = rw (three-digits n h k) w
+pub some-width : (n w : ℕ) → Wide n w → 1 ≤ w
+some-width n w v = omega (arith, v .is, digits-length n .0)
 
-    pub wrote-4 : 1000 ≤ n → n < 10000 → Wrote (ending (1000 ∷ 100 ∷ 10 ∷ []) n) pos out out' r → Wrote (digits n) pos out out' r
-    wrote-4 h k w = rw (four-digits n h k) w
+-- ---- three digits and more, in a loop
+abbrev pub powers₀ : List ℕ
+powers₀ = 10 ∷ 100 ∷ 1000 ∷ 10000 ∷ []
 
-    pub wrote-5 : 10000 ≤ n → n ≤ maxSource → Wrote (ending (10000 ∷ 1000 ∷ 100 ∷ 10 ∷ []) n) pos out out' r → Wrote (digits n) pos out out' r
-    wrote-5 h k w = rw (five-digits n h (omega arith)) w
+-- what is left with k digits to come besides the last one is below this
+unfoldable pub bound : ℕ → ℕ
+bound k = getD (10 ∷ 100 ∷ 1000 ∷ 10000 ∷ 100000 ∷ []) k 0
+
+-- the powers of these k digits, from the largest
+unfoldable pub largest : ℕ → List ℕ
+largest zero = []
+largest (suc k) = getD powers₀ k 0 ∷ largest k
+
+largest-more : (k : ℕ) → 0 < k → largest k ≡ getD powers₀ (k - 1) 0 ∷ largest (k - 1)
+unfolding largest
+largest-more zero h = absurd (omega arith)
+largest-more (suc k) h = let e : suc k - 1 ≡ k = omega arith in rw e refl
+
+tenfold : (k : ℕ) → 0 < k → k ≤ 4 → (10 * getD powers₀ (k - 1) 0 ≡ bound k) × (getD powers₀ (k - 1) 0 ≡ bound (k - 1)) × (getD powers₀ (k - 1) 0 ≤ 10000)
+unfolding bound
+tenfold k h l =
+    by-eq k 1 (λ e. rw e (refl, refl, omega arith))
+    (λ a. by-eq k 2 (λ e. rw e (refl, refl, omega arith))
+    (λ b. by-eq k 3 (λ e. rw e (refl, refl, omega arith))
+    (λ c. by-eq k 4 (λ e. rw e (refl, refl, omega arith))
+    (λ d. absurd (omega arith)))))
+
+pub record More (n pos : ℕ) (out₀ powers out : List ℕ) (k left i : ℕ) : Type 0 where
+  pub table : powers ≡ powers₀
+  pub few : k ≤ 4
+  pub low : left < bound k
+  pub place : i + k + 1 ≡ pos + length (digits n)
+  pub long : length out ≡ length out₀
+  pub fits : pos + length (digits n) ≤ length out₀
+  pub same : sets out i (ending (largest k) left) ≡ sets out₀ pos (digits n)
+
+first-more : (n pos : ℕ) (out : List ℕ) (k : ℕ) → k ≤ 4 → n < bound k → k + 1 ≡ length (digits n) → pos + length (digits n) ≤ length out → digits n ≡ ending (largest k) n → More n pos out powers₀ out k n pos
+first-more n pos out k f l w h e = record { table = refl; few = f; low = l; place = omega arith; long = refl; fits = h; same = ap (sets out pos) (sym e) }
+
+pub more-first : (n pos : ℕ) (out : List ℕ) (w : ℕ) → 100 ≤ n → n ≤ maxSource → pos + length (digits n) ≤ length out → Wide n w → More n pos out powers₀ out (w - 1) n pos
+unfolding bound largest
+more-first n pos out w a b h v =
+    by-le 1000 n
+    (λ c. by-le 10000 n
+    (λ d. rw (v .is ∙ sym (wide-5 n d b .is)) (first-more n pos out 4 (omega arith) (omega arith) (wide-5 n d b .is) h (five-digits n d (omega arith))))
+    (λ d. rw (v .is ∙ sym (wide-4 n c d .is)) (first-more n pos out 3 (omega arith) (omega arith) (wide-4 n c d .is) h (four-digits n c d))))
+    (λ c. rw (v .is ∙ sym (wide-3 n a c .is)) (first-more n pos out 2 (omega arith) (omega arith) (wide-3 n a c .is) h (three-digits n a c)))
+
+module _ (n pos : ℕ) (out₀ powers out : List ℕ) (k left i : ℕ) (m : More n pos out₀ powers out k left i) where
+  pub more-inside : i < length out
+  more-inside = omega (arith, m .place, m .long, m .fits)
+
+  pub more-below : 0 < k → k - 1 < 4
+  more-below h = omega (arith, m .few)
+
+  pub more-power : 0 < k → left < 10 * getD powers (k - 1) 0
+  more-power h = rw (m .table) (omega (arith, tenfold k h (m .few) .0, m .low))
+
+  pub more-large : 0 < k → getD powers (k - 1) 0 ≤ 10000
+  more-large h = rw (m .table) (tenfold k h (m .few) .2)
+
+  pub more-again : 0 < k → (out' : List ℕ) (left' : ℕ) → Led left (getD powers (k - 1) 0) i out out' left' → More n pos out₀ powers out' (k - 1) left' (i + 1)
+  more-again h out' left' l =
+      let p : Led left (getD powers₀ (k - 1) 0) i out out' left' = rw (m .table) at l in
+      let w : Wrote (ending (getD powers₀ (k - 1) 0 ∷ largest (k - 1)) left) i out (sets out' (i + 1) (ending (largest (k - 1)) left')) _ =
+      led-more left (getD powers₀ (k - 1) 0) i out out' left' p (largest (k - 1)) _ _ (record { place = refl; same = refl }) in
+      record {
+        table = m .table;
+        few = omega (arith, m .few);
+        low = omega (arith, p .low, tenfold k h (m .few) .1);
+        place = omega (arith, m .place);
+        long = ap length (p .same) ∙ length-set out i (48 + p .digit) ∙ m .long;
+        fits = m .fits;
+        same = w .same ∙ ap (λ (x : List ℕ). sets out i (ending x left)) (sym (largest-more k h)) ∙ m .same;
+      }
+
+  pub more-small : k ≤ 0 → left < 10
+  unfolding bound
+  more-small h = let e : k ≡ 0 = omega arith in let z : left < bound 0 = rw e at (m .low) in z
+
+  pub more-octet : k ≤ 0 → Fits w8 left
+  more-octet h = omega (arith, more-small h)
+
+  pub more-digit : k ≤ 0 → Fits w8 (48 + left)
+  more-digit h = omega (arith, more-small h)
+
+  pub more-last : k ≤ 0 → Wrote (digits n) pos out₀ (set out i (48 + left)) (i + 1)
+  unfolding largest ending
+  more-last h =
+      let e : k ≡ 0 = omega arith in
+      let z : sets out i (ending (largest 0) left) ≡ sets out₀ pos (digits n) = rw e at (m .same) in
+      record { place = omega (arith, m .place); same = z }

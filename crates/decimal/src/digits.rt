@@ -7,6 +7,7 @@ ghost use Rattle.model.specs.Limits.{maxSource};
 ghost use Rattle.model.specs.Tree.{digits};
 ghost use Rattle.scan.specs.Writes.{Wrote};
 ghost use Rattle.decimal.specs.Places.{Split, Took, Led, ending};
+use crate::width;
 
 // How often a power of ten was taken away from a number, and what is left of it.
 pub struct Part {
@@ -50,7 +51,7 @@ fn put_digit(n: usize, power: usize, out: &mut [u8], pos: usize) -> usize
     part.left
 }
 
-// Two digits, and three, four and five: the place after them.
+// Two digits; the place after them.
 fn put_two(n: usize, out: &mut [u8], pos: usize) -> usize
     requires { ⌜ (n < 100) × (pos + 2 ≤ length (now out)) ⌝ }
     ensures { λ r. ⌜ Wrote (ending (10 ∷ []) n) pos (now (out .entry)) (now (out .exit)) r ⌝ }
@@ -60,28 +61,23 @@ fn put_two(n: usize, out: &mut [u8], pos: usize) -> usize
     pos + 2
 }
 
-fn put_three(n: usize, out: &mut [u8], pos: usize) -> usize
-    requires { ⌜ (n < 1000) × (pos + 3 ≤ length (now out)) ⌝ }
-    ensures { λ r. ⌜ Wrote (ending (100 ∷ 10 ∷ []) n) pos (now (out .entry)) (now (out .exit)) r ⌝ }
+// Three to five digits, one for each power; the place after them. They are few, so that the code is short and the two cases
+// below stay in line.
+fn put_more(n: usize, out: &mut [u8], pos: usize) -> usize
+    requires { ⌜ (100 ≤ n) × (n ≤ maxSource) × (pos + length (digits n) ≤ length (now out)) ⌝ }
+    ensures { λ r. ⌜ Wrote (digits n) pos (now (out .entry)) (now (out .exit)) r ⌝ }
 {
-    let left = put_digit(n, 100, out, pos);
-    put_two(left, out, pos + 1)
-}
-
-fn put_four(n: usize, out: &mut [u8], pos: usize) -> usize
-    requires { ⌜ (n < 10000) × (pos + 4 ≤ length (now out)) ⌝ }
-    ensures { λ r. ⌜ Wrote (ending (1000 ∷ 100 ∷ 10 ∷ []) n) pos (now (out .entry)) (now (out .exit)) r ⌝ }
-{
-    let left = put_digit(n, 1000, out, pos);
-    put_three(left, out, pos + 1)
-}
-
-fn put_five(n: usize, out: &mut [u8], pos: usize) -> usize
-    requires { ⌜ (n < 100000) × (pos + 5 ≤ length (now out)) ⌝ }
-    ensures { λ r. ⌜ Wrote (ending (10000 ∷ 1000 ∷ 100 ∷ 10 ∷ []) n) pos (now (out .entry)) (now (out .exit)) r ⌝ }
-{
-    let left = put_digit(n, 10000, out, pos);
-    put_four(left, out, pos + 1)
+    let powers: [usize; 4] = [10, 100, 1000, 10000];
+    let mut k = width(n) - 1;
+    let mut left = n;
+    let mut i = pos;
+    while k > 0 {
+        k -= 1;
+        left = put_digit(left, powers[k], out, i);
+        i += 1;
+    }
+    out[i] = 48 + left as u8;
+    i + 1
 }
 
 // The digits of a number; the place after them.
@@ -96,11 +92,5 @@ pub fn put_decimal(n: usize, out: &mut [u8], pos: usize) -> usize
     if n < 100 {
         return put_two(n, out, pos);
     }
-    if n < 1000 {
-        return put_three(n, out, pos);
-    }
-    if n < 10000 {
-        return put_four(n, out, pos);
-    }
-    put_five(n, out, pos)
+    put_more(n, out, pos)
 }
