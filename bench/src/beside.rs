@@ -1,0 +1,81 @@
+//! This build's reading beside another build's, given as a shared object, in one
+//! run: what a change costs.
+
+use std::ffi::{c_void, CString};
+use std::hint::black_box;
+use std::mem::transmute;
+
+use bench::clock::race;
+use bench::loaded::Loaded;
+use bench::report::{head, row, Cell};
+use bench::texts::{texts, Text};
+use etglavino::RECORD;
+
+/// What `etg_read` is.
+type Read = unsafe extern "C" fn(
+    u32,
+    *const u8,
+    usize,
+    *mut u8,
+    usize,
+    *mut u32,
+    usize,
+    *mut usize,
+    *mut usize,
+) -> u32;
+
+/// Prints the table; `None` if that object can't be loaded, or can't read.
+pub fn table(object: &str) -> Option<()> {
+    let other = Loaded::find(&CString::new(object).ok()?)?;
+    // SAFETY: the header of the C interface declares this type.
+    let other = unsafe { transmute::<*mut c_void, Read>(other.symbol(c"etg_read")?) };
+    head(&[
+        "reading",
+        "octets",
+        "this build",
+        "the other",
+        "this / other",
+    ]);
+    for text in texts() {
+        measure(&text, other);
+    }
+    Some(())
+}
+
+fn measure(text: &Text, other: Read) {
+    let mut canonical = vec![0; text.octets];
+    let mut table = vec![0; text.records * RECORD];
+    let (mut octets, mut numbers) = (canonical.clone(), table.clone());
+    let figures = race(&mut [
+        &mut || {
+            let source = black_box(&text.source);
+            let answer = etglavino::read_form(text.form, source, &mut canonical, &mut table);
+            assert!(black_box(answer).is_ok());
+        },
+        &mut || {
+            let source = black_box(&text.source);
+            let (mut length, mut nodes) = (0, 0);
+            // SAFETY: each pointer comes with its length.
+            let number = unsafe {
+                other(
+                    text.form,
+                    source.as_ptr(),
+                    source.len(),
+                    octets.as_mut_ptr(),
+                    octets.len(),
+                    numbers.as_mut_ptr(),
+                    numbers.len(),
+                    &mut length,
+                    &mut nodes,
+                )
+            };
+            assert!(black_box(number) == 0);
+        },
+    ]);
+    let cells = [
+        Cell::Time(figures[0]),
+        Cell::Time(figures[1]),
+        Cell::Ratio(figures[0], figures[1]),
+    ];
+    row(text.name, text.source.len(), &cells);
+}
