@@ -24,6 +24,20 @@ type Read = unsafe extern "C" fn(
     *mut usize,
 ) -> u32;
 
+extern "C" {
+    fn etg_read(
+        form: u32,
+        source: *const u8,
+        source_len: usize,
+        canonical: *mut u8,
+        canonical_room: usize,
+        table: *mut u32,
+        table_room: usize,
+        length: *mut usize,
+        nodes: *mut usize,
+    ) -> u32;
+}
+
 /// Prints the table; `None` if that object can't be loaded, or can't read.
 pub fn table(object: &str) -> Option<()> {
     let other = Loaded::find(&CString::new(object).ok()?)?;
@@ -47,30 +61,8 @@ fn measure(text: &Text, other: Read) {
     let mut table = vec![0; text.records * RECORD];
     let (mut octets, mut numbers) = (canonical.clone(), table.clone());
     let figures = race(&mut [
-        &mut || {
-            let source = black_box(&text.source);
-            let answer = etglavino::read_form(text.form, source, &mut canonical, &mut table);
-            assert!(black_box(answer).is_ok());
-        },
-        &mut || {
-            let source = black_box(&text.source);
-            let (mut length, mut nodes) = (0, 0);
-            // SAFETY: each pointer comes with its length.
-            let number = unsafe {
-                other(
-                    text.form,
-                    source.as_ptr(),
-                    source.len(),
-                    octets.as_mut_ptr(),
-                    octets.len(),
-                    numbers.as_mut_ptr(),
-                    numbers.len(),
-                    &mut length,
-                    &mut nodes,
-                )
-            };
-            assert!(black_box(number) == 0);
-        },
+        &mut || call(etg_read, text, &mut canonical, &mut table),
+        &mut || call(other, text, &mut octets, &mut numbers),
     ]);
     let cells = [
         Cell::Time(figures[0]),
@@ -78,4 +70,24 @@ fn measure(text: &Text, other: Read) {
         Cell::Ratio(figures[0], figures[1]),
     ];
     row(text.name, text.source.len(), &cells);
+}
+
+fn call(read: Read, text: &Text, canonical: &mut [u8], table: &mut [u32]) {
+    let source = black_box(&text.source);
+    let (mut length, mut nodes) = (0, 0);
+    // SAFETY: each pointer comes with its length.
+    let number = unsafe {
+        read(
+            text.form,
+            source.as_ptr(),
+            source.len(),
+            canonical.as_mut_ptr(),
+            canonical.len(),
+            table.as_mut_ptr(),
+            table.len(),
+            &mut length,
+            &mut nodes,
+        )
+    };
+    assert!(black_box(number) == 0);
 }

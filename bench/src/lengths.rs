@@ -1,6 +1,6 @@
-//! A length written in decimal: by comparing and subtracting, as the library
-//! does, and by dividing, as it did before request 4. Both are the Rattle code
-//! line by line.
+//! A length written in decimal: by comparing and subtracting, as crate decimal
+//! does, and by dividing, as was done before request 4. Both are transcribed from
+//! Rattle and kept out of line; inside the library the short cases are in line.
 
 use std::hint::black_box;
 
@@ -97,12 +97,12 @@ fn put_two(n: usize, out: &mut [u8], pos: usize) -> usize {
 }
 
 fn put_digit(n: usize, power: usize, out: &mut [u8], pos: usize) -> usize {
-    let mut part = (0, n);
-    for times in [8, 4, 2, 1] {
-        part = take(part, times, times * power);
-    }
-    out[pos] = 48 + part.0 as u8;
-    part.1
+    let eight = take((0, n), 8, 8 * power);
+    let four = take(eight, 4, 4 * power);
+    let two = take(four, 2, 2 * power);
+    let (digit, left) = take(two, 1, power);
+    out[pos] = 48 + digit as u8;
+    left
 }
 
 fn take((digit, left): (usize, usize), times: usize, much: usize) -> (usize, usize) {

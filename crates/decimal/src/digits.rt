@@ -61,8 +61,7 @@ fn put_two(n: usize, out: &mut [u8], pos: usize) -> usize
     pos + 2
 }
 
-// Three to five digits, one for each power; the place after them. They are few, so that the code is short and the two cases
-// below stay in line.
+// Three to five digits; the place after them. Such lengths are rare: a loop keeps the code short.
 fn put_more(n: usize, out: &mut [u8], pos: usize) -> usize
     requires { ⌜ (100 ≤ n) × (n ≤ maxSource) × (pos + length (digits n) ≤ length (now out)) ⌝ }
     ensures { λ r. ⌜ Wrote (digits n) pos (now (out .entry)) (now (out .exit)) r ⌝ }
