@@ -3,14 +3,10 @@
 
 use std::ffi::{c_char, c_int, c_uint, c_void, CStr};
 use std::mem::transmute;
-use std::ptr::null_mut;
+use std::ptr::{null, null_mut};
 
-extern "C" {
-    fn dlopen(name: *const c_char, flags: c_int) -> *mut c_void;
-    fn dlsym(library: *mut c_void, name: *const c_char) -> *mut c_void;
-}
+use crate::loaded::Loaded;
 
-const RTLD_NOW: c_int = 2;
 /// libgcrypt's number for output in canonical form.
 const CANONICAL: c_int = 1;
 
@@ -31,20 +27,16 @@ pub struct Gcrypt {
 impl Gcrypt {
     /// Looks for the library.
     pub fn find() -> Option<Gcrypt> {
-        // SAFETY: the names end with a zero octet, and the types are those that
-        // the library's header declares. Asking for the version sets it up.
+        let library = Loaded::find(c"libgcrypt.so.20")?;
+        // SAFETY: the types are those that the library's header declares. Asking
+        // for the version sets it up.
         unsafe {
-            let library = dlopen(c"libgcrypt.so.20".as_ptr(), RTLD_NOW);
-            let symbol = |name: &CStr| {
-                let found = (!library.is_null()).then(|| dlsym(library, name.as_ptr()));
-                found.filter(|found| !found.is_null())
-            };
-            let version: Version = transmute(symbol(c"gcry_check_version")?);
-            let version = CStr::from_ptr(version(std::ptr::null()));
+            let version: Version = transmute(library.symbol(c"gcry_check_version")?);
+            let version = CStr::from_ptr(version(null()));
             Some(Gcrypt {
-                scan: transmute::<*mut c_void, Scan>(symbol(c"gcry_sexp_sscan")?),
-                print: transmute::<*mut c_void, Print>(symbol(c"gcry_sexp_sprint")?),
-                release: transmute::<*mut c_void, Release>(symbol(c"gcry_sexp_release")?),
+                scan: transmute::<*mut c_void, Scan>(library.symbol(c"gcry_sexp_sscan")?),
+                print: transmute::<*mut c_void, Print>(library.symbol(c"gcry_sexp_sprint")?),
+                release: transmute::<*mut c_void, Release>(library.symbol(c"gcry_sexp_release")?),
                 version: version.to_string_lossy().into_owned(),
             })
         }

@@ -2,6 +2,7 @@
 
 pub mod clock;
 pub mod gcrypt;
+pub mod loaded;
 pub mod plain;
 pub mod report;
 pub mod texts;

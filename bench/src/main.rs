@@ -2,9 +2,13 @@
 //! and the median of many rounds.
 //!
 //! `bench READER TEXT TIMES` only reads, for a profiler: READER is `library` or
-//! `plain`, TEXT a name of the first table.
+//! `plain`, TEXT a name of the first table. `bench beside OBJECT` times reading
+//! beside another build's shared object, `bench lengths` two ways to write a
+//! length.
 
+mod beside;
 mod entries;
+mod lengths;
 mod readers;
 mod records;
 
@@ -21,11 +25,16 @@ fn main() -> ExitCode {
             tables();
             true
         }
+        [word] if word == "lengths" => {
+            lengths::table();
+            true
+        }
+        [word, object] if word == "beside" => beside::table(object).is_some(),
         [reader, text, times] => readers::repeat(reader, text, times).is_some(),
         _ => false,
     };
     if !done {
-        eprintln!("usage: bench [library|plain TEXT TIMES]");
+        eprintln!("usage: bench [library|plain TEXT TIMES | beside OBJECT | lengths]");
     }
     ExitCode::from(if done { 0 } else { 2 })
 }

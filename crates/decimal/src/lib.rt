@@ -1,4 +1,6 @@
 // Lengths in decimal, read and written.
+mod digits; // digits.rt: a length written
+
 ghost use mathlib.Core.Path.{_≡_};
 ghost use mathlib.Core.Bool.{true};
 ghost use Prim.Native.Nat.{_+_, _≤_, _<_};
@@ -6,9 +8,8 @@ ghost use lib.ListN.{length, drop, getD};
 ghost use Rattle.model.specs.Limits.{maxSource};
 ghost use Rattle.model.specs.Octets.{isDigit};
 ghost use Rattle.model.specs.Strings.{number, decimal};
-ghost use Rattle.model.specs.Tree.{digits};
-ghost use Rattle.scan.specs.Writes.{Wrote};
 ghost use Rattle.decimal.specs.Numbers.{Numbered, Wide};
+pub use digits::put_decimal;
 
 // A number and the place after it. A number beyond the source's length is none: nothing in the source is as long.
 pub enum Number {
@@ -72,21 +73,4 @@ pub fn width(n: usize) -> usize
         return 4;
     }
     5
-}
-
-// The digits of a number; the place after them. The last digit is written first.
-pub fn put_decimal(n: usize, out: &mut [u8], pos: usize) -> usize
-    requires { ⌜ (n ≤ maxSource) × (pos + length (digits n) ≤ length (now out)) ⌝ }
-    ensures { λ r. ⌜ Wrote (digits n) pos (now (out .entry)) (now (out .exit)) r ⌝ }
-{
-    let end = pos + width(n);
-    let mut left = n;
-    let mut i = end;
-    while left >= 10 {
-        i -= 1;
-        out[i] = 48 + (left % 10) as u8;
-        left = left / 10;
-    }
-    out[pos] = 48 + left as u8;
-    end
 }
