@@ -5,16 +5,21 @@ use mathlib.Core.Bool.{Bool, true}
 use mathlib.Core.List.{List, [], _∷_, _++_}
 use Rattle.base.specs.Choice.{pick}
 use Rattle.model.specs.Grammar.{Rules}
-use Rattle.model.specs.Octets.{isWhitespace, escape}
+use Rattle.model.specs.Octets.{isWhitespace, leftover}
 
--- what ρ lets stand, σ lets stand, and what ρ gives a meaning has that meaning in σ
+-- 02, "This amends 01's …", "texts accepted before keep their octets": what ρ lets stand, σ lets stand, and what ρ gives a meaning has
+-- that meaning in σ
 pub record Wider (ρ σ : Rules) : Type 0 where
   pub leftovers : (n : ℕ) → ρ .leftover n ≡ true → σ .leftover n ≡ true
   pub escapes : (e : ℕ) → ρ .escape e < 256 → σ .escape e ≡ ρ .escape e
 
--- 01, "Leftover low bits are ignored": the rules before 02's Ask 2
-abbrev pub ignoring : Rules
-ignoring = record { leftover = λ n. true; escape = escape }
+-- 01, "Leftover low bits are ignored": whatever the escapes are, the rules with 01's sentence
+abbrev pub ignoring : (ℕ → ℕ) → Rules
+ignoring escape = record { leftover = λ n. true; escape = escape }
+
+-- and those with 02's Ask 2
+abbrev pub minding : (ℕ → ℕ) → Rules
+minding escape = record { leftover = leftover; escape = escape }
 
 -- a text with its whitespace left out
 unfoldable pub unspaced : List ℕ → List ℕ
