@@ -13,7 +13,8 @@
  *   counts, node numbers, forms and what stands in the buffers may be anything.
  *
  * Forms (both of what comes in and of what goes out)
- *   1 canonical, 2 basic, 3 advanced.
+ *   1 canonical, 2 basic, 3 advanced (RFC 9804). Low bits that base-64 leaves
+ *   over must be zero.
  *
  * A sheet is a tree's canonical form in the first `length` octets of a lent
  * buffer. Its table has eight numbers to a node, in the order in which nodes

@@ -9,7 +9,7 @@ pub const LETTERS: &[u8; 64] = b"ABCDEFGHIJKLMNOPQRSTUVWXYZabcdefghijklmnopqrstu
 ///
 /// Whitespace may stand anywhere. Padding may be short or missing, but is
 /// never too long, and nothing but whitespace and padding follows it. Low bits
-/// left over are dropped.
+/// left over must be zero (request 2).
 pub fn decode(inside: &[u8]) -> Option<Vec<u8>> {
     let solid: Vec<u8> = inside
         .iter()
@@ -34,6 +34,14 @@ pub fn decode(inside: &[u8]) -> Option<Vec<u8>> {
         .iter()
         .map(|letter| value(*letter))
         .collect::<Option<_>>()?;
+    let stray = match (letters.len() % 4, values.last()) {
+        (2, Some(last)) => last & 0b1111,
+        (3, Some(last)) => last & 0b11,
+        _ => 0,
+    };
+    if stray != 0 {
+        return None;
+    }
     Some(values.chunks(4).flat_map(octets_of_group).collect())
 }
 

@@ -191,8 +191,8 @@ pub fn base64(source: &[u8], mut at: usize, mark: u8, out: &mut Vec<u8>) -> Opti
     }
     match (count, pads) {
         (0, 0) => {}
-        (2, 0..=2) => out.extend_from_slice(&three(group)[..1]),
-        (3, 0..=1) => out.extend_from_slice(&three(group)[..2]),
+        (2, 0..=2) if group[1] & 15 == 0 => out.extend_from_slice(&three(group)[..1]),
+        (3, 0..=1) if group[2] & 3 == 0 => out.extend_from_slice(&three(group)[..2]),
         _ => return None,
     }
     Some(at)

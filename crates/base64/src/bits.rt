@@ -18,11 +18,11 @@ pub fn octets(g: [u8; 4]) -> [u8; 3]
     ]
 }
 
-// Whether the low bits may stand that the last letter has too many: they are ignored, whatever they are.
+// Whether the low bits may stand that the last letter has too many: zeros may.
 pub fn leftover(bits: u8) -> bool
     ensures { λ r. ⌜ r ≡ model.leftover bits ⌝ }
 {
-    true
+    bits == 0
 }
 
 // The octets of a group, written; the place after them.

@@ -8,7 +8,7 @@ use lib.ListN.{length, take, drop}
 use Rattle.model.specs.Answers.{Check, when, noForm, ownTree, Outcome}
 use Rattle.model.specs.Decode.{decode}
 use Rattle.model.specs.Edit.{replace}
-use Rattle.model.specs.Grammar.{Language}
+use Rattle.model.specs.Grammar.{Language, rules}
 use Rattle.model.specs.Limits.{maxSource, maxDepth, maxNodes, maxCanonical}
 use Rattle.model.specs.Table.{width, records}
 use Rattle.model.specs.Tree.{Tree, canon, nodes, depth}
@@ -25,7 +25,7 @@ pub record Room (t : Tree) (canonical table : List ℕ) : Type 0 where
 -- the limits and the room lent"
 pub record Allowed (form : ℕ) (source canonical table : List ℕ) : Type 0 where
   pub tree : Tree
-  pub language : Language form source tree
+  pub language : Language rules form source tree
   pub short : length source ≤ maxSource
   pub room : Room tree canonical table
 

@@ -11,7 +11,7 @@ use borrow.Author.Tests.{ne-eqb, eqb-true}
 use Rattle.base.specs.Choice.{member, chain}
 use Rattle.base.proofs.Cases.{pick-cases, unpicked, none-some, chain-cases}
 use Rattle.model.specs.Decode.{nest, decode₁, unbrace, decode₂, decode₃, decode}
-use Rattle.model.specs.Grammar.{Whitespaces, no-whitespace, Base64Chars, Display, Value, display-string, list-value, Values, closing-parenthesis, a-whitespace, CSexp, Canonical, Basic, b-c-sexp, b-base-64, Advanced, sexp, Language, form-1, form-2, form-3}
+use Rattle.model.specs.Grammar.{Whitespaces, no-whitespace, Base64Chars, Display, Value, display-string, list-value, Values, closing-parenthesis, a-whitespace, CSexp, Canonical, Basic, b-c-sexp, b-base-64, Advanced, sexp, Language, form-1, form-2, form-3, rules}
 use Rattle.model.specs.Lexemes.{Lexeme, opening, closing, atom, hinting, strictLexeme, lexemesBy, lexemes, strictLexemes}
 use Rattle.model.specs.Octets.{isWhitespace, letter}
 use Rattle.model.specs.Strings.{Read, got, refused, bind, upto, lastly, unbase, verbatimOf}
@@ -37,12 +37,12 @@ whites-lexes (Whitespaces.whitespace t w) y = white-lexes t (whites-lexes w y)
 mutual
   unfolding unnest
 
-  value-lexes : {s k : List ℕ} {t : Tree} {ls : List Lexeme} → Value s t k → Lexes k ls → Lexes s (unnest t ls)
+  value-lexes : {s k : List ℕ} {t : Tree} {ls : List Lexeme} → Value rules s t k → Lexes k ls → Lexes s (unnest t ls)
   value-lexes (Value.string x) y = lexes-more no-whitespace (l-atom (simple-strip x)) y
   value-lexes (display-string (Display.display w₁ x w₂ w₃) z) y = lexes-more no-whitespace (l-hint w₁ (simple-strip x) w₂ w₃ (simple-strip z)) y
   value-lexes (list-value v) y = lexes-more no-whitespace l-open (values-lexes v y)
 
-  values-lexes : {s k : List ℕ} {f : Forest} {ls : List Lexeme} → Values s f k → Lexes k ls → Lexes s (unnests f (closing ∷ ls))
+  values-lexes : {s k : List ℕ} {f : Forest} {ls : List Lexeme} → Values rules s f k → Lexes k ls → Lexes s (unnests f (closing ∷ ls))
   values-lexes closing-parenthesis y = lexes-more no-whitespace l-close y
   values-lexes (a-whitespace t v) y = whites-lexes (Whitespaces.whitespace t no-whitespace) (values-lexes v y)
   values-lexes (Values.value v w) y = value-lexes v (values-lexes w y)
@@ -52,15 +52,15 @@ record Front (s : List ℕ) (t : Tree) (ls : List Lexeme) : Type 0 where
   begin : List ℕ
   rest : List ℕ
   whites : Whitespaces s begin
-  value : Value begin t rest
+  value : Value rules begin t rest
   others : Lexes rest ls
 
 record Inside (s : List ℕ) (f : Forest) (ls : List Lexeme) : Type 0 where
   rest : List ℕ
-  values : Values s f rest
+  values : Values rules s f rest
   others : Lexes rest ls
 
-whites-values : {s r k : List ℕ} {f : Forest} → Whitespaces s r → Values r f k → Values s f k
+whites-values : {s r k : List ℕ} {f : Forest} → Whitespaces s r → Values rules r f k → Values rules s f k
 whites-values no-whitespace v = v
 whites-values (Whitespaces.whitespace t w) v = a-whitespace t (whites-values w v)
 
@@ -103,7 +103,7 @@ mutual
 ends : {s : List ℕ} → Lexes s [] → Whitespaces s []
 ends (lexes-end w) = w
 
-pub sound₃ : (s : List ℕ) (t : Tree) → decode₃ s ≡ some t → Advanced s t
+pub sound₃ : (s : List ℕ) (t : Tree) → decode₃ s ≡ some t → Advanced rules s t
 unfolding decode₃
 sound₃ s t e =
     chain-cases (lexemes s) nest e
@@ -111,7 +111,7 @@ sound₃ s t e =
     let p : Front s t [] = lexes-value t s [] (subst (Lexes s) (nest-sound ls t h₂) (lexemes-sound s h₁)) in
     sexp (p .whites) (p .value) (ends (p .others)))
 
-pub complete₃ : {s : List ℕ} {t : Tree} → Advanced s t → decode₃ s ≡ some t
+pub complete₃ : {s : List ℕ} {t : Tree} → Advanced rules s t → decode₃ s ≡ some t
 unfolding decode₃ chain
 complete₃ (sexp {t = t} w v x) = rw (lexemes-complete (whites-lexes w (value-lexes v (lexes-end x)))) (nest-complete t)
 
@@ -163,7 +163,7 @@ unfolding unbrace
 unbrace-cases refused e g = none-some e
 unbrace-cases (got l k) e g = lastly-cases (unbase l) k e (λ z h. g l (ap (got l) z) h)
 
-pub sound₂ : (s : List ℕ) (t : Tree) → decode₂ s ≡ some t → Basic s t
+pub sound₂ : (s : List ℕ) (t : Tree) → decode₂ s ≡ some t → Basic rules s t
 unfolding decode₂
 sound₂ [] t e = none-some e
 sound₂ (b ∷ s) t e =
@@ -174,9 +174,17 @@ sound₂ (b ∷ s) t e =
     (λ d h₁ h₂. unbrace-cases (upto 125 s) h₁
     (λ l i j.
     let c : d ≡ canon t = canon-sound d t h₂ in
-    let x : After s (λ r. Base64Chars 125 r d []) = strip-base-64 (base-sound l j) (upto-sound 125 s i) in
+    let x : After s (λ r. Base64Chars rules 125 r d []) = strip-base-64 (base-sound l j) (upto-sound 125 s i) in
     rw w (b-base-64 (x .whites) (x .means) (omega (arith, canon-two t, ap length c)) (c-sexp-sound d t h₂)))))
     (λ z h. b-c-sexp (c-sexp-sound (b ∷ s) t h))
+
+-- what stands in braces is base-64 of the tree's canonical form
+pub braced : (s : List ℕ) (t : Tree) → decode₂ (123 ∷ s) ≡ some t → Split 125 s [] (λ l. Base64 l (canon t))
+unfolding decode₂
+braced s t e =
+    chain-cases (unbrace (upto 125 s)) decode₁ e
+    (λ d h₁ h₂. unbrace-cases (upto 125 s) h₁
+    (λ l i j. record { letters = l; upto = upto-sound 125 s i; means = subst (Base64 l) (canon-sound d t h₂) (base-sound l j) }))
 
 -- no canonical form begins with a brace
 unbraced : (b : ℕ) (s : List ℕ) (t : Tree) → decode₁ (b ∷ s) ≡ some t → b ≡ 123 → ⊥
@@ -188,7 +196,7 @@ unfolding decode₂
 bare-complete [] t e = absurd (omega (arith, canon-two t, ap length (canon-sound [] t e)))
 bare-complete (b ∷ s) t e = unpicked _ _ (ne-eqb b 123 (unbraced b s t e)) ∙ e
 
-pub complete₂ : {s : List ℕ} {t : Tree} → Basic s t → decode₂ s ≡ some t
+pub complete₂ : {s : List ℕ} {t : Tree} → Basic rules s t → decode₂ s ≡ some t
 unfolding decode₂ unbrace chain lastly letter isWhitespace member
 complete₂ (b-c-sexp {s = s} {t = t} x) = bare-complete s t (c-sexp-complete x)
 complete₂ (b-base-64 {s = s} {s₁ = s₁} {d = d} w b n x) =
@@ -197,7 +205,7 @@ complete₂ (b-base-64 {s = s} {s₁ = s₁} {d = d} w b n x) =
 
 -- ---- each form
 
-pub sound : (form : ℕ) (s : List ℕ) (t : Tree) → decode form s ≡ some t → Language form s t
+pub sound : (form : ℕ) (s : List ℕ) (t : Tree) → decode form s ≡ some t → Language rules form s t
 unfolding decode
 sound form s t e =
     pick-cases (eqb form 1) _ _ e
@@ -206,28 +214,28 @@ sound form s t e =
     (λ y i. let w : form ≡ 2 = eqb-true form 2 y in rw w (form-2 (sound₂ s t i)))
     (λ y i. pick-cases (eqb form 3) _ _ i (λ x j. let w : form ≡ 3 = eqb-true form 3 x in rw w (form-3 (sound₃ s t j))) (λ x j. none-some j)))
 
-pub complete : {form : ℕ} {s : List ℕ} {t : Tree} → Language form s t → decode form s ≡ some t
+pub complete : {form : ℕ} {s : List ℕ} {t : Tree} → Language rules form s t → decode form s ≡ some t
 unfolding decode
 complete (form-1 x) = complete₁ x
 complete (form-2 x) = complete₂ x
 complete (form-3 x) = complete₃ x
 
 -- a text means one tree at most
-pub unique : {form : ℕ} {s : List ℕ} {t u : Tree} → Language form s t → Language form s u → t ≡ u
+pub unique : {form : ℕ} {s : List ℕ} {t u : Tree} → Language rules form s t → Language rules form s u → t ≡ u
 unique {form} {s} {t} {u} x y = let p : decode form s ≡ some t = complete x in let q : decode form s ≡ some u = complete y in cc
 
 -- a source of n octets has a canonical form of at most 3 n, in each form
 c-sexp-size : {s : List ℕ} {t : Tree} → CSexp s t [] → length (canon t) ≡ length s
 c-sexp-size x = ap length (sym (c-sexp-canon x))
 
-basic-tripled : {s : List ℕ} {t : Tree} → Basic s t → length (canon t) ≤ 3 * length s
+basic-tripled : {s : List ℕ} {t : Tree} → Basic rules s t → length (canon t) ≤ 3 * length s
 unfolding letter
 basic-tripled (b-c-sexp x) = omega (arith, c-sexp-size x)
 basic-tripled (b-base-64 {s₁ = s₁} {d = d} w b n x) =
     let y : Split 125 s₁ [] (λ l. Base64 l d) = base-64-strip 125 refl (λ e. omega arith) b in
     omega (arith, whites-size w, upto-size (y .upto), base-size (y .means), c-sexp-size x)
 
-pub language-tripled : {form : ℕ} {s : List ℕ} {t : Tree} → Language form s t → length (canon t) ≤ 3 * length s
+pub language-tripled : {form : ℕ} {s : List ℕ} {t : Tree} → Language rules form s t → length (canon t) ≤ 3 * length s
 language-tripled (form-1 (Canonical.canonical x)) = omega (arith, c-sexp-size x)
 language-tripled (form-2 x) = basic-tripled x
 language-tripled (form-3 x) = advanced-size x

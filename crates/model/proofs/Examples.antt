@@ -61,7 +61,13 @@ cases =
     -- form 3: |YQ===|
     ∷ (decode 3 (124 ∷ 89 ∷ 81 ∷ 61 ∷ 61 ∷ 61 ∷ 124 ∷ []), none)
     -- form 3: |YR==|
-    ∷ (decode 3 (124 ∷ 89 ∷ 82 ∷ 61 ∷ 61 ∷ 124 ∷ []), some (plain (97 ∷ [])))
+    ∷ (decode 3 (124 ∷ 89 ∷ 82 ∷ 61 ∷ 61 ∷ 124 ∷ []), none)
+    -- form 3: |YWJ|
+    ∷ (decode 3 (124 ∷ 89 ∷ 87 ∷ 74 ∷ 124 ∷ []), none)
+    -- form 2: {MDo=}
+    ∷ (decode 2 (123 ∷ 77 ∷ 68 ∷ 111 ∷ 61 ∷ 125 ∷ []), some (plain []))
+    -- form 2: {MDp=}
+    ∷ (decode 2 (123 ∷ 77 ∷ 68 ∷ 112 ∷ 61 ∷ 125 ∷ []), none)
     -- form 3: |YWI|
     ∷ (decode 3 (124 ∷ 89 ∷ 87 ∷ 73 ∷ 124 ∷ []), some (plain (97 ∷ 98 ∷ [])))
     -- form 3: |YWI=|

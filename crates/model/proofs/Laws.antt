@@ -13,7 +13,7 @@ use Rattle.base.specs.Choice.{both}
 use Rattle.base.proofs.Cases.{by-eq, both-true, not-false, among-true}
 use Rattle.model.specs.Answers.{noForm, fits}
 use Rattle.model.specs.Decode.{decode}
-use Rattle.model.specs.Grammar.{CSexp, Language}
+use Rattle.model.specs.Grammar.{CSexp, Language, rules}
 use Rattle.model.specs.Limits.{maxSource, maxDepth, maxNodes, maxCanonical}
 use Rattle.model.specs.Tree.{Tree, canon, nodes, depth, Bytes, TreeBytes}
 use Rattle.model.specs.Write.{advanced, encode}
@@ -38,11 +38,11 @@ pub canonical-rule : (s : List ℕ) (t : Tree) (k : List ℕ) → CSexp s t k �
 canonical-rule s t k = (λ x. c-sexp-strip x, λ e. subst (λ (x : List ℕ). CSexp x t k) (sym e) (strip-c-sexp t k))
 
 -- 01, "The three forms that come in": the decoder reads each form's language and nothing else.
-pub decode-exact : (form : ℕ) (s : List ℕ) (t : Tree) → (decode form s ≡ some t) ↔ Language form s t
+pub decode-exact : (form : ℕ) (s : List ℕ) (t : Tree) → (decode form s ≡ some t) ↔ Language rules form s t
 decode-exact form s t = (sound form s t, λ x. complete x)
 
 -- a text has at most one tree in a form
-pub one-tree : (form : ℕ) (s : List ℕ) (t u : Tree) → Language form s t → Language form s u → t ≡ u
+pub one-tree : (form : ℕ) (s : List ℕ) (t u : Tree) → Language rules form s t → Language rules form s u → t ≡ u
 one-tree form s t u x y = unique x y
 
 -- Demand 2: what goes out in any form is read back, for a tree of octets.
@@ -58,13 +58,13 @@ round-trip form t f x =
     (λ l. let r : (1 ≤ form) × (form ≤ 3) = among-true 1 3 form (not-false f) in absurd (omega arith))))
 
 -- octets in, octets out
-pub octets-in-octets-out : (form : ℕ) (s : List ℕ) (t : Tree) → Language form s t → Bytes s → TreeBytes t × Bytes (canon t)
+pub octets-in-octets-out : (form : ℕ) (s : List ℕ) (t : Tree) → Language rules form s t → Bytes s → TreeBytes t × Bytes (canon t)
 octets-in-octets-out form s t x b = (language-tree b x, language-bytes b x)
 
 -- ---- 01, "Three sizes are to be proved"
 
 -- a source of n octets has a canonical form of at most 3n
-pub canonical-within-3n : (form : ℕ) (s : List ℕ) (t : Tree) → Language form s t → length (canon t) ≤ 3 * length s
+pub canonical-within-3n : (form : ℕ) (s : List ℕ) (t : Tree) → Language rules form s t → length (canon t) ≤ 3 * length s
 canonical-within-3n form s t x = language-tripled x
 
 -- a canonical form of n octets has at most n/2 nodes

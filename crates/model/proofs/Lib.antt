@@ -18,6 +18,8 @@ pub mod Bytes
 pub mod Written
 pub mod WrittenBasic
 pub mod OutputSizes
+pub mod Wider
+pub mod Spellings
 pub mod Laws
 mod Starred
 mod Examples

@@ -10,7 +10,7 @@ use borrow.Author.Tests.{lt-ltb, le-ltb, le-leb, eq-eqb, ne-eqb, eqb-true, ltb-t
 use Rattle.base.specs.Choice.{pick, among}
 use Rattle.base.proofs.Below.{below, below-at}
 use Rattle.base.proofs.Cases.{by-bool, pick-cases, picked, unpicked, among-true}
-use Rattle.model.specs.Grammar.{Quotable, escaped-octet, escaped-octal, escaped-hex, escaped-cr, escaped-lf, escaped-cr-lf, escaped-lf-cr, Quotables, dquote, quotable}
+use Rattle.model.specs.Grammar.{Quotable, escaped-octet, escaped-octal, escaped-hex, escaped-cr, escaped-lf, escaped-cr-lf, escaped-lf-cr, Quotables, dquote, quotable, rules}
 use Rattle.model.specs.Octets.{isPrintable, hexval, octval, find, escape}
 use Rattle.model.specs.Strings.{Read, got, refused, bind, past, hexOf, octalBy, octalOf, escaped, pieceOf, quotedBy}
 use Rattle.model.proofs.ReadCases.{bind-cases, never, got-same}
@@ -37,16 +37,16 @@ octal-escape e h =
     let w : octal-or e ≡ true = below-at 56 octal-or octal-tested e (omega arith) in
     eqb-true (escape e) 256 (sym (picked _ _ (lt-ltb (octval e) 8 h)) ∙ w)
 
-hexOf-sound : (s : List ℕ) {p k : List ℕ} → hexOf s ≡ got p k → Quotable (92 ∷ 120 ∷ s) p k
+hexOf-sound : (s : List ℕ) {p k : List ℕ} → hexOf s ≡ got p k → Quotable rules (92 ∷ 120 ∷ s) p k
 unfolding hexOf
 hexOf-sound [] e = never e
 hexOf-sound (a ∷ []) e = never e
 hexOf-sound (a ∷ b ∷ s) e =
     pick-cases (ltb (hexval a) 16) _ _ e
-    (λ t h. pick-cases (ltb (hexval b) 16) _ _ h (λ u i. got-same (Quotable (92 ∷ 120 ∷ a ∷ b ∷ s)) i (escaped-hex (ltb-true _ _ t) (ltb-true _ _ u))) (λ u i. never i))
+    (λ t h. pick-cases (ltb (hexval b) 16) _ _ h (λ u i. got-same (Quotable rules (92 ∷ 120 ∷ a ∷ b ∷ s)) i (escaped-hex (ltb-true _ _ t) (ltb-true _ _ u))) (λ u i. never i))
     (λ t h. never h)
 
-octalOf-sound : (a : ℕ) (s : List ℕ) {p k : List ℕ} → octalOf a s ≡ got p k → Quotable (92 ∷ a ∷ s) p k
+octalOf-sound : (a : ℕ) (s : List ℕ) {p k : List ℕ} → octalOf a s ≡ got p k → Quotable rules (92 ∷ a ∷ s) p k
 unfolding octalOf octalBy
 octalOf-sound a [] e = never e
 octalOf-sound a (b ∷ []) e = never e
@@ -55,57 +55,57 @@ octalOf-sound a (b ∷ c ∷ s) e =
     (λ t h. pick-cases (ltb (octval b) 8) _ _ h
     (λ u i. pick-cases (ltb (octval c) 8) _ _ i
     (λ v j. pick-cases (leb (octval a * 64 + octval b * 8 + octval c) 255) _ _ j
-    (λ w k. got-same (Quotable (92 ∷ a ∷ b ∷ c ∷ s)) k (escaped-octal (ltb-true _ _ t) (ltb-true _ _ u) (ltb-true _ _ v) (leb-true _ _ w)))
+    (λ w k. got-same (Quotable rules (92 ∷ a ∷ b ∷ c ∷ s)) k (escaped-octal (ltb-true _ _ t) (ltb-true _ _ u) (ltb-true _ _ v) (leb-true _ _ w)))
     (λ w k. never k))
     (λ v j. never j))
     (λ u i. never i))
     (λ t h. never h)
 
-cr-sound : (s : List ℕ) → Quotable (92 ∷ 13 ∷ s) [] (past 10 s)
+cr-sound : (s : List ℕ) → Quotable rules (92 ∷ 13 ∷ s) [] (past 10 s)
 unfolding past
 cr-sound [] = escaped-cr
 cr-sound (b ∷ s) = by-bool (eqb b 10) (λ t. let z : b ≡ 10 = eqb-true b 10 t in rw z escaped-cr-lf) (λ t. rw (t, past) escaped-cr)
 
-lf-sound : (s : List ℕ) → Quotable (92 ∷ 10 ∷ s) [] (past 13 s)
+lf-sound : (s : List ℕ) → Quotable rules (92 ∷ 10 ∷ s) [] (past 13 s)
 unfolding past
 lf-sound [] = escaped-lf
 lf-sound (b ∷ s) = by-bool (eqb b 13) (λ t. let z : b ≡ 13 = eqb-true b 13 t in rw z escaped-lf-cr) (λ t. rw (t, past) escaped-lf)
 
-escaped-sound : (s : List ℕ) {p k : List ℕ} → escaped s ≡ got p k → Quotable (92 ∷ s) p k
+escaped-sound : (s : List ℕ) {p k : List ℕ} → escaped s ≡ got p k → Quotable rules (92 ∷ s) p k
 unfolding escaped
 escaped-sound [] e = never e
 escaped-sound (c ∷ s) {p} {k} e =
     pick-cases (ltb (escape c) 256) _ _ e
-    (λ t h. got-same (Quotable (92 ∷ c ∷ s)) h (escaped-octet (ltb-true _ _ t)))
+    (λ t h. got-same (Quotable rules (92 ∷ c ∷ s)) h (escaped-octet (ltb-true _ _ t)))
     (λ t h. pick-cases (eqb c 120) _ _ h
     (λ u i. let z : c ≡ 120 = eqb-true c 120 u in rw z (hexOf-sound s i))
     (λ u i. pick-cases (eqb c 13) _ _ i
-    (λ v j. let z : c ≡ 13 = eqb-true c 13 v in rw z (got-same (Quotable (92 ∷ 13 ∷ s)) j (cr-sound s)))
+    (λ v j. let z : c ≡ 13 = eqb-true c 13 v in rw z (got-same (Quotable rules (92 ∷ 13 ∷ s)) j (cr-sound s)))
     (λ v j. pick-cases (eqb c 10) _ _ j
-    (λ w l. let z : c ≡ 10 = eqb-true c 10 w in rw z (got-same (Quotable (92 ∷ 10 ∷ s)) l (lf-sound s)))
+    (λ w l. let z : c ≡ 10 = eqb-true c 10 w in rw z (got-same (Quotable rules (92 ∷ 10 ∷ s)) l (lf-sound s)))
     (λ w l. octalOf-sound c s l))))
 
-piece-sound : (s : List ℕ) {p k : List ℕ} → pieceOf s ≡ got p k → Quotable s p k
+piece-sound : (s : List ℕ) {p k : List ℕ} → pieceOf s ≡ got p k → Quotable rules s p k
 unfolding pieceOf
 piece-sound [] e = never e
 piece-sound (b ∷ s) e =
     pick-cases (eqb b 92) _ _ e
     (λ t h. let z : b ≡ 92 = eqb-true b 92 t in rw z (escaped-sound s h))
-    (λ t h. pick-cases (isPrintable b) _ _ h (λ u i. got-same (Quotable (b ∷ s)) i (Quotable.printable u)) (λ u i. never i))
+    (λ t h. pick-cases (isPrintable b) _ _ h (λ u i. got-same (Quotable rules (b ∷ s)) i (Quotable.printable u)) (λ u i. never i))
 
-pub quoted-sound : (f : ℕ) (s : List ℕ) {d k : List ℕ} → quotedBy f s ≡ got d k → Quotables s d k
+pub quoted-sound : (f : ℕ) (s : List ℕ) {d k : List ℕ} → quotedBy f s ≡ got d k → Quotables rules s d k
 unfolding quotedBy
 quoted-sound zero s e = never e
 quoted-sound (suc f) [] e = never e
 quoted-sound (suc f) (b ∷ s) e =
     pick-cases (eqb b 34) _ _ e
-    (λ t h. let z : b ≡ 34 = eqb-true b 34 t in got-same (Quotables (b ∷ s)) h (rw z dquote))
+    (λ t h. let z : b ≡ 34 = eqb-true b 34 t in got-same (Quotables rules (b ∷ s)) h (rw z dquote))
     (λ t h. bind-cases (pieceOf (b ∷ s)) _ h
     (λ p r h₁ h₂. bind-cases (quotedBy f r) _ h₂
-    (λ d' k' h₃ h₄. got-same (Quotables (b ∷ s)) h₄ (quotable (piece-sound (b ∷ s) h₁) (quoted-sound f r h₃)))))
+    (λ d' k' h₃ h₄. got-same (Quotables rules (b ∷ s)) h₄ (quotable (piece-sound (b ∷ s) h₁) (quoted-sound f r h₃)))))
 
 -- what follows a piece begins with no CR or LF
-piece-complete : {s p k : List ℕ} → Quotable s p k → past 10 k ≡ k → past 13 k ≡ k → pieceOf s ≡ got p k
+piece-complete : {s p k : List ℕ} → Quotable rules s p k → past 10 k ≡ k → past 13 k ≡ k → pieceOf s ≡ got p k
 unfolding pieceOf escaped hexOf octalOf octalBy isPrintable escape find past
 piece-complete (Quotable.printable {b = b} t) x y = unpicked _ _ (ne-eqb b 92 (λ z. let w : isPrintable 92 ≡ true = rw z at t in let v : _≡_ {A = ℕ} 0 1 = cc in omega arith)) ∙ picked _ _ t
 piece-complete (escaped-octet {e = e} t) x y = picked _ _ (lt-ltb (escape e) 256 t)
@@ -129,7 +129,7 @@ piece-complete escaped-lf-cr x y = refl
 unprinted : (b c : ℕ) → isPrintable c ≡ false → isPrintable b ≡ true → b ≡ c → ⊥
 unprinted b c f t e = let v : isPrintable c ≡ true = rw e at t in let z : _≡_ {A = ℕ} 0 1 = cc in omega arith
 
-piece-lead : {s p k : List ℕ} → Quotable s p k → (past 10 s ≡ s) × (past 13 s ≡ s)
+piece-lead : {s p k : List ℕ} → Quotable rules s p k → (past 10 s ≡ s) × (past 13 s ≡ s)
 unfolding past isPrintable
 piece-lead (Quotable.printable {b = b} t) = (unpicked _ _ (ne-eqb b 10 (unprinted b 10 refl t)), unpicked _ _ (ne-eqb b 13 (unprinted b 13 refl t)))
 piece-lead (escaped-octet t) = (refl, refl)
@@ -140,13 +140,13 @@ piece-lead escaped-lf = (refl, refl)
 piece-lead escaped-cr-lf = (refl, refl)
 piece-lead escaped-lf-cr = (refl, refl)
 
-quoted-lead : {s d k : List ℕ} → Quotables s d k → (past 10 s ≡ s) × (past 13 s ≡ s)
+quoted-lead : {s d k : List ℕ} → Quotables rules s d k → (past 10 s ≡ s) × (past 13 s ≡ s)
 unfolding past
 quoted-lead dquote = (refl, refl)
 quoted-lead (quotable p q) = piece-lead p
 
 -- no piece begins with a quotation mark
-piece-unquoted : {b : ℕ} {s p k : List ℕ} → Quotable (b ∷ s) p k → b ≡ 34 → ⊥
+piece-unquoted : {b : ℕ} {s p k : List ℕ} → Quotable rules (b ∷ s) p k → b ≡ 34 → ⊥
 unfolding isPrintable
 piece-unquoted (Quotable.printable {b = b} t) e = unprinted b 34 refl t e
 piece-unquoted (escaped-octet t) e = omega arith
@@ -158,7 +158,7 @@ piece-unquoted escaped-cr-lf e = omega arith
 piece-unquoted escaped-lf-cr e = omega arith
 
 -- a piece is at least an octet long, and makes at most one
-pub piece-size : {s p k : List ℕ} → Quotable s p k → length p + length k ≤ length s
+pub piece-size : {s p k : List ℕ} → Quotable rules s p k → length p + length k ≤ length s
 piece-size (Quotable.printable t) = omega arith
 piece-size (escaped-octet t) = omega arith
 piece-size (escaped-octal t u v w) = omega arith
@@ -168,7 +168,7 @@ piece-size escaped-lf = omega arith
 piece-size escaped-cr-lf = omega arith
 piece-size escaped-lf-cr = omega arith
 
-piece-short : {s p k : List ℕ} → Quotable s p k → length k < length s
+piece-short : {s p k : List ℕ} → Quotable rules s p k → length k < length s
 piece-short (Quotable.printable t) = omega arith
 piece-short (escaped-octet t) = omega arith
 piece-short (escaped-octal t u v w) = omega arith
@@ -178,14 +178,14 @@ piece-short escaped-lf = omega arith
 piece-short escaped-cr-lf = omega arith
 piece-short escaped-lf-cr = omega arith
 
-quoted-step : (f : ℕ) (s p r : List ℕ) {d k : List ℕ} → Quotable s p r → Quotables r d k → quotedBy f r ≡ got d k → quotedBy (suc f) s ≡ got (p ++ d) k
+quoted-step : (f : ℕ) (s p r : List ℕ) {d k : List ℕ} → Quotable rules s p r → Quotables rules r d k → quotedBy f r ≡ got d k → quotedBy (suc f) s ≡ got (p ++ d) k
 unfolding quotedBy bind
 quoted-step f [] p r x y e = absurd (omega (arith, piece-short x))
 quoted-step f (b ∷ s) p r x y e =
     unpicked _ _ (ne-eqb b 34 (piece-unquoted x))
     ∙ rw (piece-complete x (quoted-lead y .0) (quoted-lead y .1), e)
 
-pub quoted-complete : (f : ℕ) {s d k : List ℕ} → Quotables s d k → length s ≤ f → quotedBy f s ≡ got d k
+pub quoted-complete : (f : ℕ) {s d k : List ℕ} → Quotables rules s d k → length s ≤ f → quotedBy f s ≡ got d k
 unfolding quotedBy
 quoted-complete zero dquote h = absurd (omega arith)
 quoted-complete (suc f) dquote h = refl

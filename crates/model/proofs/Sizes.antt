@@ -4,7 +4,7 @@ use native.Mathlib.Omega.{arith}
 use mathlib.Core.Path.{_≡_, refl, ap, _∙_}
 use mathlib.Core.List.{List, [], _∷_}
 use lib.ListN.{length, length-append}
-use Rattle.model.specs.Grammar.{Whitespaces, no-whitespace, Quotables, dquote, quotable, Run, run-more, run-end, run-stop, Display, Value, display-string, list-value, Values, closing-parenthesis, a-whitespace, Advanced, sexp}
+use Rattle.model.specs.Grammar.{Whitespaces, no-whitespace, Quotables, dquote, quotable, Run, run-more, run-end, run-stop, Display, Value, display-string, list-value, Values, closing-parenthesis, a-whitespace, Advanced, sexp, rules}
 use Rattle.model.specs.Tree.{Tree, Forest, digits, verbatim, canon, canons}
 use Rattle.model.proofs.Digits.{digits-small, digits-more, digits-ind}
 use Rattle.model.proofs.Quoted.{piece-size}
@@ -27,7 +27,7 @@ run-size (run-more t r) = omega (arith, run-size r)
 run-size run-end = refl
 run-size (run-stop t) = omega arith
 
-quoted-size : {s d k : List ℕ} → Quotables s d k → length d + 1 + length k ≤ length s
+quoted-size : {s d k : List ℕ} → Quotables rules s d k → length d + 1 + length k ≤ length s
 quoted-size dquote = omega arith
 quoted-size (quotable {p = p} {d = d} x q) = omega (arith, piece-size x, quoted-size q, length-append p d)
 
@@ -68,16 +68,16 @@ whites-size (Whitespaces.whitespace t w) = omega (arith, whites-size w)
 mutual
   unfolding canon
 
-  pub value-size : {s k : List ℕ} {t : Tree} → Value s t k → length (canon t) + 3 * length k ≤ 3 * length s
+  pub value-size : {s k : List ℕ} {t : Tree} → Value rules s t k → length (canon t) + 3 * length k ≤ 3 * length s
   value-size (Value.string x) = simple-size (simple-strip x)
   value-size (display-string {h = h} {d = d} (Display.display w₁ x w₂ w₃) y) =
       omega (arith, whites-size w₁, simple-size (simple-strip x), whites-size w₂, whites-size w₃, simple-size (simple-strip y), length-append (verbatim h) (93 ∷ verbatim d))
   value-size (list-value {f = f} v) = omega (arith, values-size v, length-append (canons f) (41 ∷ []))
 
-  pub values-size : {s k : List ℕ} {f : Forest} → Values s f k → length (canons f) + 3 + 3 * length k ≤ 3 * length s
+  pub values-size : {s k : List ℕ} {f : Forest} → Values rules s f k → length (canons f) + 3 + 3 * length k ≤ 3 * length s
   values-size closing-parenthesis = omega arith
   values-size (a-whitespace t v) = omega (arith, values-size v)
   values-size (Values.value {t = t} {f = f} v w) = omega (arith, value-size v, values-size w, length-append (canon t) (canons f))
 
-pub advanced-size : {s : List ℕ} {t : Tree} → Advanced s t → length (canon t) ≤ 3 * length s
+pub advanced-size : {s : List ℕ} {t : Tree} → Advanced rules s t → length (canon t) ≤ 3 * length s
 advanced-size (sexp w v x) = omega (arith, whites-size w, value-size v)

@@ -5,7 +5,7 @@ use mathlib.Core.Path.{_≡_}
 use mathlib.Core.Bool.{true, false}
 use mathlib.Core.List.{List, [], _∷_, _++_}
 use lib.ListN.{length}
-use Rattle.model.specs.Grammar.{Quotables, Run, octet₁, octet₂, octet₃, leftover₂, leftover₃}
+use Rattle.model.specs.Grammar.{Quotables, Run, octet₁, octet₂, octet₃, leftover₂, leftover₃, rules}
 use Rattle.model.specs.Octets.{isWhitespace, isTokenStart, hexval, letter}
 use Rattle.model.specs.Tree.{digits, verbatim}
 
@@ -33,7 +33,7 @@ pub data Base64 : List ℕ → List ℕ → Type 0 where
 
 -- quoted, hexadecimal or base-64, with no length
 pub data Marked : List ℕ → List ℕ → List ℕ → Type 0 where
-  in-quotes : {s d k : List ℕ} → Quotables s d k → Marked (34 ∷ s) d k
+  in-quotes : {s d k : List ℕ} → Quotables rules s d k → Marked (34 ∷ s) d k
   in-hashes : {s l d k : List ℕ} → Upto 35 s l k → Hex l d → Marked (35 ∷ s) d k
   in-bars : {s l d k : List ℕ} → Upto 124 s l k → Base64 l d → Marked (124 ∷ s) d k
 

@@ -12,7 +12,7 @@ use Rattle.base.proofs.Below.{below, below-at}
 use Rattle.base.proofs.Cases.{by-bool, by-eq, untrue, pick-cases, picked, unpicked, among-true}
 use Rattle.base.proofs.Lists.{every-cases}
 use Rattle.model.specs.Decode.{decode₃}
-use Rattle.model.specs.Grammar.{no-whitespace, Quotable, escaped-octet, Quotables, dquote, quotable, Run, run-more, run-end, run-stop, Display, Value, display-string, list-value, Values, closing-parenthesis, a-whitespace, Advanced, sexp}
+use Rattle.model.specs.Grammar.{no-whitespace, Quotable, escaped-octet, Quotables, dquote, quotable, Run, run-more, run-end, run-stop, Display, Value, display-string, list-value, Values, closing-parenthesis, a-whitespace, Advanced, sexp, rules}
 use Rattle.model.specs.Octets.{isWhitespace, isAlpha, isSimplePunc, isTokenStart, isTokenOctet, isPrintable, hexval, find, escape}
 use Rattle.model.specs.Tree.{Tree, plain, hinted, list, Forest, nil, cons, Bytes, no-byte, a-byte, TreeBytes, plain-bytes, hinted-bytes, list-bytes, ForestBytes, nil-bytes, cons-bytes}
 use Rattle.model.specs.Write.{isToken, quoteOne, quoteAll, hexDigit, hexAll, shown, advanced, elements, following}
@@ -57,7 +57,7 @@ printable-else b t y z =
     let r : (32 ≤ b) × (b ≤ 126) = among-true 32 126 b t in
     sym (unpicked _ _ (ne-eqb b 34 y) ∙ unpicked _ _ (ne-eqb b 92 z)) ∙ sym (picked _ _ t) ∙ below-at 127 printable-or printable-tested b (omega arith)
 
-piece-shown : (b : ℕ) (k : List ℕ) → among 32 126 b ≡ true → Quotable (quoteOne b ++ k) (b ∷ []) k
+piece-shown : (b : ℕ) (k : List ℕ) → among 32 126 b ≡ true → Quotable rules (quoteOne b ++ k) (b ∷ []) k
 unfolding quoteOne escape find
 piece-shown b k t =
     by-eq b 34
@@ -66,7 +66,7 @@ piece-shown b k t =
     (λ y. rw y (escaped-octet {e = 92} (omega arith)))
     (λ y. rw (ne-eqb b 34 z, quoteOne, ne-eqb b 92 y) (Quotable.printable (printable-else b t z y))))
 
-quoted-shown : (d k : List ℕ) → every (among 32 126) d ≡ true → Quotables (quoteAll d ++ 34 ∷ k) d k
+quoted-shown : (d k : List ℕ) → every (among 32 126) d ≡ true → Quotables rules (quoteAll d ++ 34 ∷ k) d k
 unfolding quoteAll
 quoted-shown [] k e = dquote
 quoted-shown (b ∷ d) k e = every-cases (among 32 126) b d e (λ t h. rw (append-assoc (quoteOne b)) (quotable (piece-shown b _ t) (quoted-shown d k h)))
@@ -130,28 +130,28 @@ unfolding following
 following-ends nil k = paren-ends k
 following-ends (cons t f) k = space-ends _
 
-hinted-shown : (h d : List ℕ) {k : List ℕ} → Bytes h → Bytes d → Ends k → Value (91 ∷ (shown h ++ 93 ∷ (shown d ++ k))) (hinted h d) k
+hinted-shown : (h d : List ℕ) {k : List ℕ} → Bytes h → Bytes d → Ends k → Value rules (91 ∷ (shown h ++ 93 ∷ (shown d ++ k))) (hinted h d) k
 hinted-shown h d x y z = display-string (Display.display no-whitespace (strip-simple (simple-shown h x (bracket-ends _))) no-whitespace no-whitespace) (strip-simple (simple-shown d y z))
 
 mutual
   unfolding advanced
 
-  value-shown : (t : Tree) (k : List ℕ) → TreeBytes t → Ends k → Value (advanced t ++ k) t k
+  value-shown : (t : Tree) (k : List ℕ) → TreeBytes t → Ends k → Value rules (advanced t ++ k) t k
   value-shown (plain d) k (plain-bytes x) z = Value.string (strip-simple (simple-shown d x z))
   value-shown (hinted h d) k (hinted-bytes x y) z = rw (append-assoc (shown h)) (hinted-shown h d x y z)
   value-shown (list f) k (list-bytes x) z = rw (append-assoc (elements f)) (list-value (elements-shown f k x))
 
-  elements-shown : (f : Forest) (k : List ℕ) → ForestBytes f → Values (elements f ++ 41 ∷ k) f k
+  elements-shown : (f : Forest) (k : List ℕ) → ForestBytes f → Values rules (elements f ++ 41 ∷ k) f k
   elements-shown nil k nil-bytes = closing-parenthesis
   elements-shown (cons t f) k (cons-bytes x y) = rw (append-assoc (advanced t)) (Values.value (value-shown t _ x (following-ends f k)) (following-shown f k y))
 
-  following-shown : (f : Forest) (k : List ℕ) → ForestBytes f → Values (following f ++ 41 ∷ k) f k
+  following-shown : (f : Forest) (k : List ℕ) → ForestBytes f → Values rules (following f ++ 41 ∷ k) f k
   following-shown nil k nil-bytes = closing-parenthesis
   following-shown (cons t f) k (cons-bytes x y) =
       rw (append-assoc (advanced t)) (a-whitespace space-white (Values.value (value-shown t _ x (following-ends f k)) (following-shown f k y)))
 
-pub advanced-is : (t : Tree) → TreeBytes t → Advanced (advanced t) t
-advanced-is t x = sexp no-whitespace (subst (λ (s : List ℕ). Value s t []) (append-nil (advanced t)) (value-shown t [] x at-end)) no-whitespace
+pub advanced-is : (t : Tree) → TreeBytes t → Advanced rules (advanced t) t
+advanced-is t x = sexp no-whitespace (subst (λ (s : List ℕ). Value rules s t []) (append-nil (advanced t)) (value-shown t [] x at-end)) no-whitespace
 
 pub round-trip₃ : (t : Tree) → TreeBytes t → decode₃ (advanced t) ≡ some t
 round-trip₃ t x = complete₃ (advanced-is t x)

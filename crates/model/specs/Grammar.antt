@@ -10,6 +10,17 @@ use Rattle.base.specs.Choice.{among}
 use Rattle.model.specs.Tree.{Tree, plain, hinted, list, Forest, nil, cons}
 use Rattle.model.specs.Octets.{isWhitespace, isDigit, isTokenStart, isTokenOctet, isPrintable, hexval, octval, letter, leftover, escape}
 
+-- What requests change about strings, so that the languages before and after one are two uses of one definition.
+pub record Rules : Type 0 where
+  -- whether these low bits, which the last letter of base-64 has too many, may stand
+  pub leftover : ℕ → Bool
+  -- the octet that this one means after a backslash; 256 is none
+  pub escape : ℕ → ℕ
+
+-- those in force
+abbrev pub rules : Rules
+rules = record { leftover = leftover; escape = escape }
+
 -- *whitespace
 pub data Whitespaces : List ℕ → List ℕ → Type 0 where
   no-whitespace : {k : List ℕ} → Whitespaces k k
@@ -39,25 +50,25 @@ pub data Length (d : List ℕ) : List ℕ → List ℕ → Type 0 where
 -- ---- quoted strings
 
 -- printable / escaped, and the octet for which it stands, if any
-pub data Quotable : List ℕ → List ℕ → List ℕ → Type 0 where
-  printable : {b : ℕ} {k : List ℕ} → isPrintable b ≡ true → Quotable (b ∷ k) (b ∷ []) k
-  -- backslash and one of 01's nine octets
-  escaped-octet : {e : ℕ} {k : List ℕ} → escape e < 256 → Quotable (92 ∷ e ∷ k) (escape e ∷ []) k
+pub data Quotable (ρ : Rules) : List ℕ → List ℕ → List ℕ → Type 0 where
+  printable : {b : ℕ} {k : List ℕ} → isPrintable b ≡ true → Quotable ρ (b ∷ k) (b ∷ []) k
+  -- backslash and one of the octets that are listed
+  escaped-octet : {e : ℕ} {k : List ℕ} → ρ .escape e < 256 → Quotable ρ (92 ∷ e ∷ k) (ρ .escape e ∷ []) k
   -- backslash 3(%x30-37); 01, "An octal value over 255 is refused"
   escaped-octal : {a b c : ℕ} {k : List ℕ} → octval a < 8 → octval b < 8 → octval c < 8 → octval a * 64 + octval b * 8 + octval c ≤ 255
-      → Quotable (92 ∷ a ∷ b ∷ c ∷ k) ((octval a * 64 + octval b * 8 + octval c) ∷ []) k
+      → Quotable ρ (92 ∷ a ∷ b ∷ c ∷ k) ((octval a * 64 + octval b * 8 + octval c) ∷ []) k
   -- backslash (%x78 2HEXDIG)
-  escaped-hex : {a b : ℕ} {k : List ℕ} → hexval a < 16 → hexval b < 16 → Quotable (92 ∷ 120 ∷ a ∷ b ∷ k) ((hexval a * 16 + hexval b) ∷ []) k
+  escaped-hex : {a b : ℕ} {k : List ℕ} → hexval a < 16 → hexval b < 16 → Quotable ρ (92 ∷ 120 ∷ a ∷ b ∷ k) ((hexval a * 16 + hexval b) ∷ []) k
   -- backslash (CR / LF / (CR LF) / (LF CR)); 01, "which stand for nothing"
-  escaped-cr : {k : List ℕ} → Quotable (92 ∷ 13 ∷ k) [] k
-  escaped-lf : {k : List ℕ} → Quotable (92 ∷ 10 ∷ k) [] k
-  escaped-cr-lf : {k : List ℕ} → Quotable (92 ∷ 13 ∷ 10 ∷ k) [] k
-  escaped-lf-cr : {k : List ℕ} → Quotable (92 ∷ 10 ∷ 13 ∷ k) [] k
+  escaped-cr : {k : List ℕ} → Quotable ρ (92 ∷ 13 ∷ k) [] k
+  escaped-lf : {k : List ℕ} → Quotable ρ (92 ∷ 10 ∷ k) [] k
+  escaped-cr-lf : {k : List ℕ} → Quotable ρ (92 ∷ 13 ∷ 10 ∷ k) [] k
+  escaped-lf-cr : {k : List ℕ} → Quotable ρ (92 ∷ 10 ∷ 13 ∷ k) [] k
 
 -- *(printable / escaped) DQUOTE
-pub data Quotables : List ℕ → List ℕ → List ℕ → Type 0 where
-  dquote : {k : List ℕ} → Quotables (34 ∷ k) [] k
-  quotable : {s p r d k : List ℕ} → Quotable s p r → Quotables r d k → Quotables s (p ++ d) k
+pub data Quotables (ρ : Rules) : List ℕ → List ℕ → List ℕ → Type 0 where
+  dquote : {k : List ℕ} → Quotables ρ (34 ∷ k) [] k
+  quotable : {s p r d k : List ℕ} → Quotable ρ s p r → Quotables ρ r d k → Quotables ρ s (p ++ d) k
 
 -- ---- tokens
 
@@ -104,45 +115,45 @@ pub data Equals : ℕ → List ℕ → List ℕ → Type 0 where
   equals : {n : ℕ} {s s₁ k : List ℕ} → Whitespaces s s₁ → Equals n s₁ k → Equals (suc n) (61 ∷ s) k
 
 -- *base-64-chars [base-64-end] and the closing mark; 01, "three letters (two octets) may be followed by at most one `=`, two letters (one octet) by at most two"
-pub data Base64Chars (mark : ℕ) : List ℕ → List ℕ → List ℕ → Type 0 where
-  closing-mark : {k : List ℕ} → Base64Chars mark (mark ∷ k) [] k
-  base-64-chars : {a b c e : ℕ} {s s₁ s₂ s₃ s₄ d k : List ℕ} → Base64Char s a s₁ → Base64Char s₁ b s₂ → Base64Char s₂ c s₃ → Base64Char s₃ e s₄ → Base64Chars mark s₄ d k
-      → Base64Chars mark s (octet₁ a b ∷ octet₂ b c ∷ octet₃ c e ∷ d) k
-  base-64-end-3 : {a b c : ℕ} {s s₁ s₂ s₃ k : List ℕ} → Base64Char s a s₁ → Base64Char s₁ b s₂ → Base64Char s₂ c s₃ → leftover₃ c ≡ true → Equals 1 s₃ (mark ∷ k)
-      → Base64Chars mark s (octet₁ a b ∷ octet₂ b c ∷ []) k
-  base-64-end-2 : {a b : ℕ} {s s₁ s₂ k : List ℕ} → Base64Char s a s₁ → Base64Char s₁ b s₂ → leftover₂ b ≡ true → Equals 2 s₂ (mark ∷ k)
-      → Base64Chars mark s (octet₁ a b ∷ []) k
+pub data Base64Chars (ρ : Rules) (mark : ℕ) : List ℕ → List ℕ → List ℕ → Type 0 where
+  closing-mark : {k : List ℕ} → Base64Chars ρ mark (mark ∷ k) [] k
+  base-64-chars : {a b c e : ℕ} {s s₁ s₂ s₃ s₄ d k : List ℕ} → Base64Char s a s₁ → Base64Char s₁ b s₂ → Base64Char s₂ c s₃ → Base64Char s₃ e s₄ → Base64Chars ρ mark s₄ d k
+      → Base64Chars ρ mark s (octet₁ a b ∷ octet₂ b c ∷ octet₃ c e ∷ d) k
+  base-64-end-3 : {a b c : ℕ} {s s₁ s₂ s₃ k : List ℕ} → Base64Char s a s₁ → Base64Char s₁ b s₂ → Base64Char s₂ c s₃ → ρ .leftover (letter c % 4) ≡ true → Equals 1 s₃ (mark ∷ k)
+      → Base64Chars ρ mark s (octet₁ a b ∷ octet₂ b c ∷ []) k
+  base-64-end-2 : {a b : ℕ} {s s₁ s₂ k : List ℕ} → Base64Char s a s₁ → Base64Char s₁ b s₂ → ρ .leftover (letter b % 16) ≡ true → Equals 2 s₂ (mark ∷ k)
+      → Base64Chars ρ mark s (octet₁ a b ∷ []) k
 
 -- ---- strings and values
 
 -- simple-string = verbatim / quoted-string / token / hexadecimal / base-64
-pub data SimpleString : List ℕ → List ℕ → List ℕ → Type 0 where
-  verbatim-string : {s d k : List ℕ} → Verbatim s d k → SimpleString s d k
+pub data SimpleString (ρ : Rules) : List ℕ → List ℕ → List ℕ → Type 0 where
+  verbatim-string : {s d k : List ℕ} → Verbatim s d k → SimpleString ρ s d k
   -- quoted-string = [decimal] DQUOTE *(printable / escaped) DQUOTE
-  quoted-string : {s s₁ d k : List ℕ} → Length d s (34 ∷ s₁) → Quotables s₁ d k → SimpleString s d k
+  quoted-string : {s s₁ d k : List ℕ} → Length d s (34 ∷ s₁) → Quotables ρ s₁ d k → SimpleString ρ s d k
   -- token = (ALPHA / simple-punc) *(ALPHA / DIGIT / simple-punc)
-  token : {b : ℕ} {s d k : List ℕ} → isTokenStart b ≡ true → Run s d k → SimpleString (b ∷ s) (b ∷ d) k
+  token : {b : ℕ} {s d k : List ℕ} → isTokenStart b ≡ true → Run s d k → SimpleString ρ (b ∷ s) (b ∷ d) k
   -- hexadecimal = [decimal] "#" *whitespace *hexadecimals "#"
-  hexadecimal : {s s₁ s₂ d k : List ℕ} → Length d s (35 ∷ s₁) → Whitespaces s₁ s₂ → Hexadecimals s₂ d k → SimpleString s d k
+  hexadecimal : {s s₁ s₂ d k : List ℕ} → Length d s (35 ∷ s₁) → Whitespaces s₁ s₂ → Hexadecimals s₂ d k → SimpleString ρ s d k
   -- base-64 = [decimal] "|" *whitespace *base-64-chars [base-64-end] "|"
-  base-64 : {s s₁ s₂ d k : List ℕ} → Length d s (124 ∷ s₁) → Whitespaces s₁ s₂ → Base64Chars 124 s₂ d k → SimpleString s d k
+  base-64 : {s s₁ s₂ d k : List ℕ} → Length d s (124 ∷ s₁) → Whitespaces s₁ s₂ → Base64Chars ρ 124 s₂ d k → SimpleString ρ s d k
 
 -- display = "[" *whitespace simple-string *whitespace "]" *whitespace (01's hint)
-pub data Display : List ℕ → List ℕ → List ℕ → Type 0 where
-  display : {s s₁ s₂ s₃ h k : List ℕ} → Whitespaces s s₁ → SimpleString s₁ h s₂ → Whitespaces s₂ (93 ∷ s₃) → Whitespaces s₃ k → Display (91 ∷ s) h k
+pub data Display (ρ : Rules) : List ℕ → List ℕ → List ℕ → Type 0 where
+  display : {s s₁ s₂ s₃ h k : List ℕ} → Whitespaces s s₁ → SimpleString ρ s₁ h s₂ → Whitespaces s₂ (93 ∷ s₃) → Whitespaces s₃ k → Display ρ (91 ∷ s) h k
 
 mutual
   -- value = string / ("(" *(value / whitespace) ")"), where string = [display] simple-string
-  pub data Value : List ℕ → Tree → List ℕ → Type 0 where
-    string : {s d k : List ℕ} → SimpleString s d k → Value s (plain d) k
-    display-string : {s s₁ h d k : List ℕ} → Display s h s₁ → SimpleString s₁ d k → Value s (hinted h d) k
-    list-value : {s k : List ℕ} {f : Forest} → Values s f k → Value (40 ∷ s) (list f) k
+  pub data Value (ρ : Rules) : List ℕ → Tree → List ℕ → Type 0 where
+    string : {s d k : List ℕ} → SimpleString ρ s d k → Value ρ s (plain d) k
+    display-string : {s s₁ h d k : List ℕ} → Display ρ s h s₁ → SimpleString ρ s₁ d k → Value ρ s (hinted h d) k
+    list-value : {s k : List ℕ} {f : Forest} → Values ρ s f k → Value ρ (40 ∷ s) (list f) k
 
   -- *(value / whitespace) ")"
-  pub data Values : List ℕ → Forest → List ℕ → Type 0 where
-    closing-parenthesis : {k : List ℕ} → Values (41 ∷ k) nil k
-    a-whitespace : {b : ℕ} {s k : List ℕ} {f : Forest} → isWhitespace b ≡ true → Values s f k → Values (b ∷ s) f k
-    value : {s r k : List ℕ} {t : Tree} {f : Forest} → Value s t r → Values r f k → Values s (cons t f) k
+  pub data Values (ρ : Rules) : List ℕ → Forest → List ℕ → Type 0 where
+    closing-parenthesis : {k : List ℕ} → Values ρ (41 ∷ k) nil k
+    a-whitespace : {b : ℕ} {s k : List ℕ} {f : Forest} → isWhitespace b ≡ true → Values ρ s f k → Values ρ (b ∷ s) f k
+    value : {s r k : List ℕ} {t : Tree} {f : Forest} → Value ρ s t r → Values ρ r f k → Values ρ s (cons t f) k
 
 mutual
   -- c-sexp = c-string / ("(" *c-sexp ")"), where c-string = [ "[" verbatim "]" ] verbatim
@@ -164,15 +175,15 @@ pub data Canonical : List ℕ → Tree → Type 0 where
 
 -- b-sexp = c-sexp / b-base-64; b-base-64 = "{" *whitespace *base-64-chars base-64-end "}", "encodes a c-sexp".
 -- 01, "at least two letters stand inside": they give at least one octet. 01, "Braces follow the same rule" as bars.
-pub data Basic : List ℕ → Tree → Type 0 where
-  b-c-sexp : {s : List ℕ} {t : Tree} → CSexp s t [] → Basic s t
-  b-base-64 : {s s₁ d : List ℕ} {t : Tree} → Whitespaces s s₁ → Base64Chars 125 s₁ d [] → 0 < length d → CSexp d t [] → Basic (123 ∷ s) t
+pub data Basic (ρ : Rules) : List ℕ → Tree → Type 0 where
+  b-c-sexp : {s : List ℕ} {t : Tree} → CSexp s t [] → Basic ρ s t
+  b-base-64 : {s s₁ d : List ℕ} {t : Tree} → Whitespaces s s₁ → Base64Chars ρ 125 s₁ d [] → 0 < length d → CSexp d t [] → Basic ρ (123 ∷ s) t
 
 -- sexp = *whitespace value *whitespace
-pub data Advanced : List ℕ → Tree → Type 0 where
-  sexp : {s s₁ s₂ : List ℕ} {t : Tree} → Whitespaces s s₁ → Value s₁ t s₂ → Whitespaces s₂ [] → Advanced s t
+pub data Advanced (ρ : Rules) : List ℕ → Tree → Type 0 where
+  sexp : {s s₁ s₂ : List ℕ} {t : Tree} → Whitespaces s s₁ → Value ρ s₁ t s₂ → Whitespaces s₂ [] → Advanced ρ s t
 
-pub data Language : ℕ → List ℕ → Tree → Type 0 where
-  form-1 : {s : List ℕ} {t : Tree} → Canonical s t → Language 1 s t
-  form-2 : {s : List ℕ} {t : Tree} → Basic s t → Language 2 s t
-  form-3 : {s : List ℕ} {t : Tree} → Advanced s t → Language 3 s t
+pub data Language (ρ : Rules) : ℕ → List ℕ → Tree → Type 0 where
+  form-1 : {s : List ℕ} {t : Tree} → Canonical s t → Language ρ 1 s t
+  form-2 : {s : List ℕ} {t : Tree} → Basic ρ s t → Language ρ 2 s t
+  form-3 : {s : List ℕ} {t : Tree} → Advanced ρ s t → Language ρ 3 s t

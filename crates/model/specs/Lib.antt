@@ -2,6 +2,7 @@ pub mod Tree
 pub mod Table
 pub mod Octets
 pub mod Grammar
+pub mod Amended
 pub mod Strings
 pub mod Lexemes
 pub mod Decode

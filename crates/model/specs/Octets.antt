@@ -48,9 +48,10 @@ letter b =
     (pick (among 48 57 b) (b + 4)
     (pick (eqb b 43) 62 (pick (eqb b 47) 63 64))))
 
--- 01, "Leftover low bits are ignored": whatever the bits are that the last letter has too many, they are allowed
+-- 02, Ask 2, "RFC 4648 lets a reader refuse leftover low bits that aren't zero. Do so with 3": of the bits that the last letter has too
+-- many, only zeros may stand. 01's "Leftover low bits are ignored" gives way.
 unfoldable pub leftover : ℕ → Bool
-leftover bits = true
+leftover bits = eqb bits 0
 
 -- what stands after a backslash, and the octet that it means
 unfoldable pub find : List (ℕ × ℕ) → ℕ → ℕ → ℕ

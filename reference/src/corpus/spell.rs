@@ -158,20 +158,11 @@ fn hex_digit(rng: &mut Rng, value: u8) -> u8 {
     digits[usize::from(value)]
 }
 
-/// Base-64 letters with whitespace between, padded or not, and sometimes with
-/// low bits that stand for nothing.
+/// Base-64 letters with whitespace between, padded or not.
 fn letters(rng: &mut Rng, octets: &[u8], out: &mut Vec<u8>) {
     let mut letters = base64::encode(octets);
     let padding = letters.iter().filter(|letter| **letter == b'=').count();
     letters.truncate(letters.len() - padding);
-    if padding > 0 && rng.once_in(3) {
-        let last = letters.len() - 1;
-        let value = base64::LETTERS
-            .iter()
-            .position(|letter| *letter == letters[last]);
-        let stray = rng.below(1 << (2 * padding));
-        letters[last] = base64::LETTERS[value.unwrap_or(0) | stray];
-    }
     let kept = if rng.once_in(2) {
         padding
     } else {

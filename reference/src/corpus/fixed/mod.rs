@@ -5,6 +5,7 @@ pub mod order;
 pub mod replacements;
 pub mod rooms;
 pub mod sizes;
+pub mod stray;
 
 use super::case::Case;
 use super::{known, make};
@@ -20,6 +21,7 @@ pub fn cases() -> Vec<Case> {
         looks::cases(),
         order::cases(),
         sizes::cases(),
+        stray::cases(),
     ]
     .concat()
 }

@@ -1,0 +1,40 @@
+-- Rules beside those in force: which languages hold at least the same texts, and what two spellings of base-64 have in common.
+use Prim.Native.Nat.{ℕ, zero, suc, _<_}
+use mathlib.Core.Path.{_≡_}
+use mathlib.Core.Bool.{Bool, true}
+use mathlib.Core.List.{List, [], _∷_, _++_}
+use Rattle.base.specs.Choice.{pick}
+use Rattle.model.specs.Grammar.{Rules}
+use Rattle.model.specs.Octets.{isWhitespace, leftover}
+
+-- 02, "This amends 01's …", "texts accepted before keep their octets": what ρ lets stand, σ lets stand, and what ρ gives a meaning has
+-- that meaning in σ
+pub record Wider (ρ σ : Rules) : Type 0 where
+  pub leftovers : (n : ℕ) → ρ .leftover n ≡ true → σ .leftover n ≡ true
+  pub escapes : (e : ℕ) → ρ .escape e < 256 → σ .escape e ≡ ρ .escape e
+
+-- 01, "Leftover low bits are ignored": whatever the escapes are, the rules with 01's sentence
+abbrev pub ignoring : (ℕ → ℕ) → Rules
+ignoring escape = record { leftover = λ n. true; escape = escape }
+
+-- and those with 02's Ask 2
+abbrev pub minding : (ℕ → ℕ) → Rules
+minding escape = record { leftover = leftover; escape = escape }
+
+-- a text with its whitespace left out
+unfoldable pub unspaced : List ℕ → List ℕ
+unspaced [] = []
+unspaced (b ∷ s) = pick (isWhitespace b) (unspaced s) (b ∷ unspaced s)
+
+-- so many "="
+unfoldable pub pads : ℕ → List ℕ
+pads zero = []
+pads (suc n) = 61 ∷ pads n
+
+-- 02, Ask 2, "two spellings of one line": texts between marks that differ only in whitespace and in "=" at the end
+pub record Spelling (x y : List ℕ) : Type 0 where
+  pub letters : List ℕ
+  pub p : ℕ
+  pub q : ℕ
+  pub one : unspaced x ≡ letters ++ pads p
+  pub other : unspaced y ≡ letters ++ pads q
