@@ -5,7 +5,7 @@ use mathlib.Core.Bool.{Bool, true}
 use mathlib.Core.List.{List, [], _∷_, _++_}
 use Rattle.base.specs.Choice.{pick}
 use Rattle.model.specs.Grammar.{Rules}
-use Rattle.model.specs.Octets.{isWhitespace, escape}
+use Rattle.model.specs.Octets.{isWhitespace, leftover, find, escape}
 
 -- what ρ lets stand, σ lets stand, and what ρ gives a meaning has that meaning in σ
 pub record Wider (ρ σ : Rules) : Type 0 where
@@ -15,6 +15,14 @@ pub record Wider (ρ σ : Rules) : Type 0 where
 -- 01, "Leftover low bits are ignored": the rules before 02's Ask 2
 abbrev pub ignoring : Rules
 ignoring = record { leftover = λ n. true; escape = escape }
+
+-- the rules with this list of escapes
+abbrev pub escaping : List (ℕ × ℕ) → Rules
+escaping es = record { leftover = leftover; escape = λ e. find es e 256 }
+
+-- 01, "Escapes are 001's and no others": the list before 02's Ask 3
+abbrev pub listed : List (ℕ × ℕ)
+listed = (98, 8) ∷ (116, 9) ∷ (118, 11) ∷ (110, 10) ∷ (102, 12) ∷ (114, 13) ∷ (34, 34) ∷ (39, 39) ∷ (92, 92) ∷ []
 
 -- a text with its whitespace left out
 unfoldable pub unspaced : List ℕ → List ℕ
