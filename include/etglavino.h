@@ -13,8 +13,8 @@
  *   counts, node numbers, forms and what stands in the buffers may be anything.
  *
  * Forms (both of what comes in and of what goes out)
- *   1 canonical, 2 basic, 3 advanced, as RFC 9804 has them. Low bits that
- *   base-64 leaves over must be zero. Hints are simple strings before a string.
+ *   1 canonical, 2 basic, 3 advanced (RFC 9804). Low bits that base-64 leaves
+ *   over must be zero.
  *
  * A sheet is a tree's canonical form in the first `length` octets of a lent
  * buffer. Its table has eight numbers to a node, in the order in which nodes

@@ -1,11 +1,11 @@
 -- 02, Ask 3: "Two escapes were left out".
 use Prim.Native.Nat.{ℕ}
-use mathlib.Core.Path.{_≡_, refl, subst}
+use mathlib.Core.Path.{_≡_, refl}
 use mathlib.Core.Option.{some}
 use mathlib.Core.List.{List, [], _∷_, _++_}
 use Rattle.model.specs.Amended.{escaping, listed}
 use Rattle.model.specs.Decode.{decode}
-use Rattle.model.specs.Grammar.{Rules, Language, rules}
+use Rattle.model.specs.Grammar.{Language, rules}
 use Rattle.model.specs.Octets.{escape, escapes}
 use Rattle.model.specs.Tree.{Tree}
 use Rattle.model.proofs.Exact.{complete}
@@ -20,7 +20,8 @@ more-escapes es fs = language-wider (listed-wider es fs)
 pub two-more : escapes ≡ listed ++ (97, 7) ∷ (63, 63) ∷ []
 two-more = refl
 
-in-force : rules ≡ escaping escapes
+-- "Put the definition right": the rules in force have that list
+pub in-force : rules ≡ escaping escapes
 unfolding escape
 in-force = refl
 

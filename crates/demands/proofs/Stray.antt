@@ -4,27 +4,36 @@ use native.Mathlib.Omega.{arith}
 use mathlib.Core.Path.{_≡_, refl}
 use mathlib.Core.Bool.{true}
 use mathlib.Core.Option.{some}
-use mathlib.Core.List.{List, _∷_, _++_}
-use Rattle.model.specs.Amended.{ignoring, Spelling}
+use mathlib.Core.List.{List, [], _∷_, _++_}
+use Rattle.model.specs.Amended.{ignoring, minding, Spelling}
 use Rattle.model.specs.Decode.{decode}
-use Rattle.model.specs.Grammar.{Base64Chars, Language, rules}
-use Rattle.model.specs.Octets.{letter}
+use Rattle.model.specs.Grammar.{Whitespaces, Base64Chars, Language, rules}
+use Rattle.model.specs.Octets.{letter, escape}
 use Rattle.model.specs.Tree.{Tree}
 use Rattle.model.proofs.Exact.{sound}
-use Rattle.model.proofs.Spellings.{spellings-differ}
+use Rattle.model.proofs.Spellings.{spellings-differ, braces-differ}
 use Rattle.model.proofs.Wider.{language-wider}
 
 -- "A terminal sent two spellings of one line and our duplicate finder missed it": between bars, texts with the same octets differ only
--- in whitespace and in "=" at the end
-pub one-spelling-in-bars : (x y d k l : List ℕ) → Base64Chars rules 124 (x ++ 124 ∷ k) d k → Base64Chars rules 124 (y ++ 124 ∷ l) d l → Spelling x y
+-- in whitespace and in "=" at the end; s and s′ begin where whitespace after the bar has ended
+pub one-spelling-in-bars : (x y d k l s s′ : List ℕ) → Whitespaces (x ++ 124 ∷ k) s → Base64Chars rules 124 s d k → Whitespaces (y ++ 124 ∷ l) s′ → Base64Chars rules 124 s′ d l → Spelling x y
 unfolding letter
 one-spelling-in-bars = spellings-differ 124 refl (λ e. omega arith)
 
 -- and between braces
-pub one-spelling-in-braces : (x y d k l : List ℕ) → Base64Chars rules 125 (x ++ 125 ∷ k) d k → Base64Chars rules 125 (y ++ 125 ∷ l) d l → Spelling x y
+pub one-spelling-in-braces : (x y d k l s s′ : List ℕ) → Whitespaces (x ++ 125 ∷ k) s → Base64Chars rules 125 s d k → Whitespaces (y ++ 125 ∷ l) s′ → Base64Chars rules 125 s′ d l → Spelling x y
 unfolding letter
 one-spelling-in-braces = spellings-differ 125 refl (λ e. omega arith)
 
--- "This amends 01's …": whatever is accepted was accepted before, with the same tree
-pub accepted-before : (form : ℕ) (s : List ℕ) (t : Tree) → decode form s ≡ some t → Language ignoring form s t
-accepted-before form s t e = language-wider (record { leftovers = λ n h. refl; escapes = λ c h. refl }) (sound form s t e)
+-- whole texts of form 2 with one tree: so much for "two spellings of one line"
+pub one-spelling-in-form-2 : (x y : List ℕ) (t : Tree) → decode 2 (123 ∷ x ++ 125 ∷ []) ≡ some t → decode 2 (123 ∷ y ++ 125 ∷ []) ≡ some t → Spelling x y
+unfolding decode
+one-spelling-in-form-2 = braces-differ
+
+-- "Do so with 3, for bars and braces. This amends 01's …": whatever the escapes are, a text with a tree had that tree under 01's rule
+pub stray-narrows : (escape : ℕ → ℕ) {form : ℕ} {s : List ℕ} {t : Tree} → Language (minding escape) form s t → Language (ignoring escape) form s t
+stray-narrows escape = language-wider (record { leftovers = λ n h. refl; escapes = λ c h. refl })
+
+-- so it is for what is accepted now
+pub accepted-before : (form : ℕ) (s : List ℕ) (t : Tree) → decode form s ≡ some t → Language (ignoring escape) form s t
+accepted-before form s t e = stray-narrows escape (sound form s t e)

@@ -178,6 +178,14 @@ sound₂ (b ∷ s) t e =
     rw w (b-base-64 (x .whites) (x .means) (omega (arith, canon-two t, ap length c)) (c-sexp-sound d t h₂)))))
     (λ z h. b-c-sexp (c-sexp-sound (b ∷ s) t h))
 
+-- what stands in braces is base-64 of the tree's canonical form
+pub braced : (s : List ℕ) (t : Tree) → decode₂ (123 ∷ s) ≡ some t → Split 125 s [] (λ l. Base64 l (canon t))
+unfolding decode₂
+braced s t e =
+    chain-cases (unbrace (upto 125 s)) decode₁ e
+    (λ d h₁ h₂. unbrace-cases (upto 125 s) h₁
+    (λ l i j. record { letters = l; upto = upto-sound 125 s i; means = subst (Base64 l) (canon-sound d t h₂) (base-sound l j) }))
+
 -- no canonical form begins with a brace
 unbraced : (b : ℕ) (s : List ℕ) (t : Tree) → decode₁ (b ∷ s) ≡ some t → b ≡ 123 → ⊥
 unfolding decode₁ strictLexemes lexemesBy strictLexeme verbatimOf bind chain

@@ -4,16 +4,20 @@ use native.Mathlib.Omega.{arith}
 use mathlib.Core.Path.{_≡_, refl, sym, ap, ap₂, _∙_}
 use mathlib.Core.Bool.{Bool, true, false}
 use mathlib.Core.List.{List, [], _∷_, _++_, append-cancel-right}
+use mathlib.Core.Option.{some}
 use lib.Dec.{eqb, ltb}
 use borrow.Author.Tests.{eqb-true, ne-eqb, lt-ltb}
 use Rattle.base.specs.Choice.{pick}
 use Rattle.base.proofs.Below.{below, below-at}
 use Rattle.base.proofs.Cases.{by-le, among-high, picked}
 use Rattle.model.specs.Amended.{unspaced, pads, Spelling}
-use Rattle.model.specs.Grammar.{Base64Chars, octet₁, octet₂, octet₃, rules}
+use Rattle.model.specs.Grammar.{Whitespaces, Base64Chars, octet₁, octet₂, octet₃, rules}
 use Rattle.model.specs.Octets.{isWhitespace, letter, leftover}
+use Rattle.model.specs.Decode.{decode₂}
+use Rattle.model.specs.Tree.{Tree, canon}
 use Rattle.model.specs.Write.{letterOf}
-use Rattle.model.proofs.Rules.{Split, base-64-strip}
+use Rattle.model.proofs.Exact.{braced}
+use Rattle.model.proofs.Rules.{Split, whites-upto, base-64-strip}
 use Rattle.model.proofs.Stripped.{Upto, upto-mark, upto-white, upto-other, Pads, no-pad, a-pad, Base64, no-letter, four, three, two}
 
 -- ---- a letter is the one of its value
@@ -97,17 +101,25 @@ inside (upto-other {b = b} {s = s} {l = l} {k = k} t n u) =
     let x : Inside _ s l k = inside u in
     record { text = b ∷ x .text; whole = ap (λ (y : List ℕ). b ∷ y) (x .whole); bare = rw t (ap (λ (y : List ℕ). b ∷ y) (x .bare)) }
 
-module _ (m : ℕ) (no : letter m ≡ 64) (other : 61 ≡ m → ⊥) where
-  spelling-of : (x d k : List ℕ) → Base64Chars rules m (x ++ m ∷ k) d k → Spelt (unspaced x) d
-  spelling-of x d k h =
-      let z : Split m (x ++ m ∷ k) k (λ l. Base64 l d) = base-64-strip m no other h in
-      let i : Inside m (x ++ m ∷ k) (z .letters) k = inside (z .upto) in
-      let e : x ≡ i .text = append-cancel-right x (i .text) (m ∷ k) (i .whole) in
-      let j : Spelt (z .letters) d = spelt (z .means) in
-      record { many = j .many; is = ap unspaced e ∙ sym (i .bare) ∙ j .is }
+split-spelt : (m : ℕ) (x d k : List ℕ) → Split m (x ++ m ∷ k) k (λ l. Base64 l d) → Spelt (unspaced x) d
+split-spelt m x d k z =
+    let i : Inside m (x ++ m ∷ k) (z .letters) k = inside (z .upto) in
+    let e : x ≡ i .text = append-cancel-right x (i .text) (m ∷ k) (i .whole) in
+    let j : Spelt (z .letters) d = spelt (z .means) in
+    record { many = j .many; is = ap unspaced e ∙ sym (i .bare) ∙ j .is }
 
-  pub spellings-differ : (x y d k l : List ℕ) → Base64Chars rules m (x ++ m ∷ k) d k → Base64Chars rules m (y ++ m ∷ l) d l → Spelling x y
-  spellings-differ x y d k l g h =
-      let i : Spelt (unspaced x) d = spelling-of x d k g in
-      let j : Spelt (unspaced y) d = spelling-of y d l h in
-      record { letters = lettersOf d; p = i .many; q = j .many; one = i .is; other = j .is }
+same-letters : (x y d : List ℕ) → Spelt (unspaced x) d → Spelt (unspaced y) d → Spelling x y
+same-letters x y d i j = record { letters = lettersOf d; p = i .many; q = j .many; one = i .is; other = j .is }
+
+-- texts in braces with one tree
+pub braces-differ : (x y : List ℕ) (t : Tree) → decode₂ (123 ∷ x ++ 125 ∷ []) ≡ some t → decode₂ (123 ∷ y ++ 125 ∷ []) ≡ some t → Spelling x y
+braces-differ x y t g h = same-letters x y (canon t) (split-spelt 125 x (canon t) [] (braced _ t g)) (split-spelt 125 y (canon t) [] (braced _ t h))
+
+module _ (m : ℕ) (no : letter m ≡ 64) (other : 61 ≡ m → ⊥) where
+  spelling-of : (x d k s : List ℕ) → Whitespaces (x ++ m ∷ k) s → Base64Chars rules m s d k → Spelt (unspaced x) d
+  spelling-of x d k s w h =
+      let z : Split m s k (λ l. Base64 l d) = base-64-strip m no other h in
+      split-spelt m x d k (record { letters = z .letters; upto = whites-upto w (z .upto); means = z .means })
+
+  pub spellings-differ : (x y d k l s s′ : List ℕ) → Whitespaces (x ++ m ∷ k) s → Base64Chars rules m s d k → Whitespaces (y ++ m ∷ l) s′ → Base64Chars rules m s′ d l → Spelling x y
+  spellings-differ x y d k l s s′ v g w h = same-letters x y d (spelling-of x d k s v g) (spelling-of y d l s′ w h)

@@ -5,20 +5,25 @@ use mathlib.Core.Bool.{Bool, true}
 use mathlib.Core.List.{List, [], _∷_, _++_}
 use Rattle.base.specs.Choice.{pick}
 use Rattle.model.specs.Grammar.{Rules}
-use Rattle.model.specs.Octets.{isWhitespace, leftover, find, escape}
+use Rattle.model.specs.Octets.{isWhitespace, leftover, find}
 
--- what ρ lets stand, σ lets stand, and what ρ gives a meaning has that meaning in σ
+-- 02, "This amends 01's …", "texts accepted before keep their octets": what ρ lets stand, σ lets stand, and what ρ gives a meaning has
+-- that meaning in σ
 pub record Wider (ρ σ : Rules) : Type 0 where
   pub leftovers : (n : ℕ) → ρ .leftover n ≡ true → σ .leftover n ≡ true
   pub escapes : (e : ℕ) → ρ .escape e < 256 → σ .escape e ≡ ρ .escape e
 
--- 01, "Leftover low bits are ignored": the rules before 02's Ask 2
-abbrev pub ignoring : Rules
-ignoring = record { leftover = λ n. true; escape = escape }
+-- 01, "Leftover low bits are ignored": whatever the escapes are, the rules with 01's sentence
+abbrev pub ignoring : (ℕ → ℕ) → Rules
+ignoring escape = record { leftover = λ n. true; escape = escape }
 
--- the rules with this list of escapes
+-- and those with 02's Ask 2
+abbrev pub minding : (ℕ → ℕ) → Rules
+minding escape = record { leftover = leftover; escape = escape }
+
+-- 02, Ask 3, "the escape list": the rules with this one
 abbrev pub escaping : List (ℕ × ℕ) → Rules
-escaping es = record { leftover = leftover; escape = λ e. find es e 256 }
+escaping es = minding (λ e. find es e 256)
 
 -- 01, "Escapes are 001's and no others": the list before 02's Ask 3
 abbrev pub listed : List (ℕ × ℕ)

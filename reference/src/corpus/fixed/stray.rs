@@ -17,10 +17,11 @@ pub fn cases() -> Vec<Case> {
         (2, b"{}", b"(1:a)"),
     ] {
         for last in base64::LETTERS {
-            for pads in 0..=4 - letters_at_end(octets) {
-                cases.push(make::read(form, &text(marks, octets, *last, pads, b"")));
+            for pads in 0..=5 - letters_at_end(octets) {
+                for gap in [&b""[..], b" \n"] {
+                    cases.push(make::read(form, &text(marks, octets, *last, pads, gap)));
+                }
             }
-            cases.push(make::read(form, &text(marks, octets, *last, 0, b" \n")));
         }
     }
     cases
@@ -32,7 +33,7 @@ fn letters_at_end(octets: &[u8]) -> usize {
 }
 
 /// The octets between marks, with another last letter and so many `=`, and
-/// `gap` after each letter.
+/// `gap` after each.
 fn text(marks: &[u8; 2], octets: &[u8], last: u8, pads: usize, gap: &[u8]) -> Vec<u8> {
     let mut letters = base64::encode(octets);
     letters.retain(|letter| *letter != b'=');
