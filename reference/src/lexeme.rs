@@ -65,13 +65,14 @@ fn quoted(cursor: &mut Cursor) -> Option<Vec<u8>> {
 /// What follows a backslash: one octet, or none where a line is continued.
 fn escape(cursor: &mut Cursor) -> Option<Option<u8>> {
     let octet = match cursor.step()? {
+        b'a' => 7,
         b'b' => 8,
         b't' => 9,
         b'n' => 10,
         b'v' => 11,
         b'f' => 12,
         b'r' => 13,
-        itself @ (b'"' | b'\'' | b'\\') => itself,
+        itself @ (b'"' | b'\'' | b'\\' | b'?') => itself,
         b'x' => hex_digit(cursor.step()?)? * 16 + hex_digit(cursor.step()?)?,
         first @ b'0'..=b'7' => octal(first, cursor)?,
         // Line breaks of two octets are taken whole: the second octet alone

@@ -104,13 +104,14 @@ fn quoted(source: &[u8], mut at: usize, out: &mut Vec<u8>) -> Option<usize> {
 /// What stands after a backslash.
 fn escape(source: &[u8], at: usize, out: &mut Vec<u8>) -> Option<usize> {
     let named = match *source.get(at)? {
+        b'a' => 7,
         b'b' => 8,
         b't' => 9,
         b'n' => 10,
         b'v' => 11,
         b'f' => 12,
         b'r' => 13,
-        mark @ (b'"' | b'\'' | b'\\') => mark,
+        mark @ (b'"' | b'\'' | b'\\' | b'?') => mark,
         b'\r' => return Some(at + 1 + usize::from(source.get(at + 1) == Some(&b'\n'))),
         b'\n' => return Some(at + 1 + usize::from(source.get(at + 1) == Some(&b'\r'))),
         b'x' => {

@@ -20,6 +20,7 @@ pub mod WrittenBasic
 pub mod OutputSizes
 pub mod Wider
 pub mod Spellings
+pub mod Listed
 pub mod Laws
 mod Starred
 mod Examples

@@ -5,7 +5,7 @@ use mathlib.Core.Bool.{Bool, true}
 use mathlib.Core.List.{List, [], _∷_, _++_}
 use Rattle.base.specs.Choice.{pick}
 use Rattle.model.specs.Grammar.{Rules}
-use Rattle.model.specs.Octets.{isWhitespace, leftover}
+use Rattle.model.specs.Octets.{isWhitespace, leftover, find}
 
 -- 02, "This amends 01's …", "texts accepted before keep their octets": what ρ lets stand, σ lets stand, and what ρ gives a meaning has
 -- that meaning in σ
@@ -20,6 +20,14 @@ ignoring escape = record { leftover = λ n. true; escape = escape }
 -- and those with 02's Ask 2
 abbrev pub minding : (ℕ → ℕ) → Rules
 minding escape = record { leftover = leftover; escape = escape }
+
+-- 02, Ask 3, "the escape list": the rules with this one
+abbrev pub escaping : List (ℕ × ℕ) → Rules
+escaping es = minding (λ e. find es e 256)
+
+-- 01, "Escapes are 001's and no others": the list before 02's Ask 3
+abbrev pub listed : List (ℕ × ℕ)
+listed = (98, 8) ∷ (116, 9) ∷ (118, 11) ∷ (110, 10) ∷ (102, 12) ∷ (114, 13) ∷ (34, 34) ∷ (39, 39) ∷ (92, 92) ∷ []
 
 -- a text with its whitespace left out
 unfoldable pub unspaced : List ℕ → List ℕ

@@ -58,9 +58,10 @@ unfoldable pub find : List (ℕ × ℕ) → ℕ → ℕ → ℕ
 find [] e other = other
 find (p ∷ ps) e other = pick (eqb e (p .0)) (p .1) (find ps e other)
 
--- 01, "Escapes are 001's and no others: `\b \t \v \n \f \r \" \' \\`"
+-- 01, "Escapes are 001's and no others: `\b \t \v \n \f \r \" \' \\`"; 02, Ask 3, "RFC 9804's grammar also has `\a` (octet 7) and `\?`
+-- (octet 63)": "no others" gives way
 abbrev pub escapes : List (ℕ × ℕ)
-escapes = (98, 8) ∷ (116, 9) ∷ (118, 11) ∷ (110, 10) ∷ (102, 12) ∷ (114, 13) ∷ (34, 34) ∷ (39, 39) ∷ (92, 92) ∷ []
+escapes = (98, 8) ∷ (116, 9) ∷ (118, 11) ∷ (110, 10) ∷ (102, 12) ∷ (114, 13) ∷ (34, 34) ∷ (39, 39) ∷ (92, 92) ∷ (97, 7) ∷ (63, 63) ∷ []
 
 -- 256 is none
 unfoldable pub escape : ℕ → ℕ

@@ -14,9 +14,9 @@ use Rattle.octets.specs.Classes.{Class}
 pub escape-arm : (k : ℕ) (e : ℕ) → e ≡ k → escape k ≡ escape e
 escape-arm k e h = ap escape (sym h)
 
-pub escape-none : (e : ℕ) → (e ≡ 98 → ⊥) → (e ≡ 116 → ⊥) → (e ≡ 118 → ⊥) → (e ≡ 110 → ⊥) → (e ≡ 102 → ⊥) → (e ≡ 114 → ⊥) → (e ≡ 34 → ⊥) → (e ≡ 39 → ⊥) → (e ≡ 92 → ⊥) → 256 ≡ escape e
+pub escape-none : (e : ℕ) → (e ≡ 98 → ⊥) → (e ≡ 116 → ⊥) → (e ≡ 118 → ⊥) → (e ≡ 110 → ⊥) → (e ≡ 102 → ⊥) → (e ≡ 114 → ⊥) → (e ≡ 34 → ⊥) → (e ≡ 39 → ⊥) → (e ≡ 92 → ⊥) → (e ≡ 97 → ⊥) → (e ≡ 63 → ⊥) → 256 ≡ escape e
 unfolding escape find
-escape-none e b t v n f r q a s =
+escape-none e b t v n f r q a s l m =
     sym
     (unpicked _ _ (ne-eqb e 98 b)
     ∙ unpicked _ _ (ne-eqb e 116 t)
@@ -26,7 +26,9 @@ escape-none e b t v n f r q a s =
     ∙ unpicked _ _ (ne-eqb e 114 r)
     ∙ unpicked _ _ (ne-eqb e 34 q)
     ∙ unpicked _ _ (ne-eqb e 39 a)
-    ∙ unpicked _ _ (ne-eqb e 92 s))
+    ∙ unpicked _ _ (ne-eqb e 92 s)
+    ∙ unpicked _ _ (ne-eqb e 97 l)
+    ∙ unpicked _ _ (ne-eqb e 63 m))
 
 -- ---- octal digits
 

@@ -116,13 +116,14 @@ fn continued(rng: &mut Rng, out: &mut Vec<u8>) {
 
 fn escaped(rng: &mut Rng, octet: u8, out: &mut Vec<u8>) {
     let named = match octet {
+        7 => Some(b'a'),
         8 => Some(b'b'),
         9 => Some(b't'),
         10 => Some(b'n'),
         11 => Some(b'v'),
         12 => Some(b'f'),
         13 => Some(b'r'),
-        b'"' | b'\'' | b'\\' => Some(octet),
+        b'"' | b'\'' | b'\\' | b'?' => Some(octet),
         _ => None,
     };
     out.push(b'\\');

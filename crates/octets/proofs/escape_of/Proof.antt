@@ -41,7 +41,15 @@ unfolding escape find
 returns-9 c = search (escape-arm 92, arith)
 
 returns-10 : tie.Need-returns-10
-returns-10 c = search (escape-none, arith)
+unfolding escape find
+returns-10 c = search (escape-arm 97, arith)
+
+returns-11 : tie.Need-returns-11
+unfolding escape find
+returns-11 c = search (escape-arm 63, arith)
+
+returns-12 : tie.Need-returns-12
+returns-12 c = search (escape-none, arith)
 
 pub escape-of-spec : {M : Type 1} → statement M
 escape-of-spec =
@@ -56,4 +64,6 @@ escape-of-spec =
     returns-7
     returns-8
     returns-9
-    returns-10)
+    returns-10
+    returns-11
+    returns-12)

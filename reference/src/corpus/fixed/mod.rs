@@ -1,5 +1,6 @@
 //! The cases that stand at the head of every corpus, whatever its seed.
 
+pub mod escapes;
 pub mod looks;
 pub mod order;
 pub mod replacements;
@@ -22,6 +23,7 @@ pub fn cases() -> Vec<Case> {
         order::cases(),
         sizes::cases(),
         stray::cases(),
+        escapes::cases(),
     ]
     .concat()
 }
