@@ -1,18 +1,21 @@
 // Replacing: a node of a sheet gives way to the tree of a text, in place. Text, sheet, table, node and room are judged before
-// anything is written, so that a refusal changes nothing.
+// anything is written, so that a refusal changes nothing. The core goes by the sheet's notes, and leaves those of the new sheet: the
+// table, as numbers or as records, is its caller's.
+mod numbers; // numbers.rt: the table as numbers
 mod tiers; // tiers.rt: local space for a text
 
 ghost use mathlib.Core.Path.{_≡_};
+ghost use Prim.Native.Nat.{_*_};
 ghost use lib.ListN.{length};
 ghost use Rattle.model.specs.Decode.{decode};
-ghost use Rattle.model.specs.Answers.{replacing};
-ghost use Rattle.answers.specs.Cases.{outcome};
 ghost use Rattle.octets.specs.Classes.{Classed, Lettered};
 ghost use Rattle.texts.specs.Texts.{Takeable};
-ghost use Rattle.plan.specs.Planned.{replaceTree};
+ghost use Rattle.plan.specs.Planned.{Known};
+ghost use Rattle.editor.specs.Given.{Noteable, GivesTree, GivesText};
 ghost use Rattle.editor.specs.Placed.{Placeable, Placed};
 use answers::Reading;
 use answers::refused;
+pub use numbers::replace;
 use plan::Plan;
 use plan::Sizes;
 use walk::Extent;
@@ -20,7 +23,9 @@ use walk::Extent;
 // A node of a sheet of `old` octets and `held` nodes gives way to the tree of these sizes whose octets stand in scratch.
 fn place(
     canonical: &mut [u8],
-    table: &mut [u32],
+    notes: &mut [usize],
+    own: bool,
+    records: usize,
     old: usize,
     held: usize,
     node: usize,
@@ -28,10 +33,12 @@ fn place(
     text: Sizes,
 ) -> Reading
     requires { ⌜ Placeable (now scratch) text ⌝ }
-    ensures { λ r. ⌜ Placed (now (scratch .entry)) text (now (canonical .entry)) (now (canonical .exit)) old (now (table .entry)) (now (table .exit)) held node r ⌝ }
+    requires { ⌜ Known (now canonical) old held records (now notes) own ⌝ }
+    requires { ⌜ Noteable held (text .nodes) (length (now notes)) ⌝ }
+    ensures { λ r. ⌜ Placed (now (scratch .entry)) text (now (canonical .entry)) (now (canonical .exit)) old held records own node (now (notes .exit)) r ⌝ }
 {
     let len = text.len;
-    match plan::judge(canonical, old, table, held, node, text) {
+    match plan::judge(canonical, old, notes, own, records, held, node, text) {
         Plan::Fits {
             start,
             end,
@@ -40,7 +47,7 @@ fn place(
         } => {
             splice::gap(canonical, start, end, old, len);
             scan::copy(scratch, 0, len, canonical, start);
-            splice::finish(canonical, table, old, held, length, nodes)
+            splice::finish(canonical, notes, old, length, nodes)
         }
         Plan::Misfit { number } => refused(number),
     }
@@ -54,7 +61,9 @@ fn replace_in(
     form: u32,
     text: &[u8],
     canonical: &mut [u8],
-    table: &mut [u32],
+    notes: &mut [usize],
+    own: bool,
+    records: usize,
     old: usize,
     held: usize,
     node: usize,
@@ -63,31 +72,46 @@ fn replace_in(
     requires { ⌜ Classed (now classes) ⌝ }
     requires { ⌜ Lettered (now letters) ⌝ }
     requires { ⌜ Takeable form (length (now text)) (length (now scratch)) ⌝ }
-    ensures { λ r. ⌜ outcome r (now (canonical .exit)) (now (table .exit)) ≡ replaceTree (decode form (now (text .entry))) (now (canonical .entry)) old (now (table .entry)) held node ⌝ }
+    requires { ⌜ Known (now canonical) old held records (now notes) own ⌝ }
+    requires { ⌜ Noteable held (2 * length (now text)) (length (now notes)) ⌝ }
+    ensures { λ r. ⌜ GivesTree (decode form (now (text .entry))) (now (canonical .entry)) old held records own node (now (canonical .exit)) (now (notes .exit)) r ⌝ }
 {
-    let mut notes: [usize; 1] = [0; 1];
-    match texts::take(classes, letters, form, text, scratch, &mut notes) {
+    let mut one: [usize; 1] = [0; 1];
+    match texts::take(classes, letters, form, text, scratch, &mut one) {
         Extent::Whole { len, nodes, depth } => {
             let sizes = Sizes { len, nodes, depth };
-            place(canonical, table, old, held, node, scratch, sizes)
+            place(
+                canonical,
+                notes,
+                own,
+                records,
+                old,
+                held,
+                node,
+                scratch,
+                sizes,
+            )
         }
         Extent::Refused => refused(3),
     }
 }
 
-// A node of the sheet with this length, node count and table gives way to the tree of a text of the form named (1 canonical,
-// 2 basic, 3 advanced). In a refusal both lent buffers hold what they held; in an acceptance what lies past the old and the
-// new octets and records stays, and what lies between the new ones and larger old ones is zeroed.
-pub fn replace(
+// A node of the sheet with this length, node count and notes gives way to the tree of a text of the form named, where sheet and
+// table are told to be good or not, and so many records are lent.
+fn replace_by(
     form: u32,
     text: &[u8],
     canonical: &mut [u8],
-    table: &mut [u32],
-    length: usize,
-    nodes: usize,
+    notes: &mut [usize],
+    own: bool,
+    records: usize,
+    old: usize,
+    held: usize,
     node: usize,
 ) -> Reading
-    ensures { λ r. ⌜ outcome r (now (canonical .exit)) (now (table .exit)) ≡ replacing form (now (text .entry)) (now (canonical .entry)) (now (table .entry)) length nodes node ⌝ }
+    requires { ⌜ Known (now canonical) old held records (now notes) own ⌝ }
+    requires { ⌜ Noteable held (2 * length (now text)) (length (now notes)) ⌝ }
+    ensures { λ r. ⌜ GivesText form (now (text .entry)) (now (canonical .entry)) old held records own node (now (canonical .exit)) (now (notes .exit)) r ⌝ }
 {
     let row = texts::row(form, text.len());
     if row > 0 {
@@ -102,9 +126,11 @@ pub fn replace(
             form,
             text,
             canonical,
-            table,
-            length,
-            nodes,
+            notes,
+            own,
+            records,
+            old,
+            held,
             node,
         );
     }
@@ -115,9 +141,11 @@ pub fn replace(
             form,
             text,
             canonical,
-            table,
-            length,
-            nodes,
+            notes,
+            own,
+            records,
+            old,
+            held,
             node,
         );
     }
@@ -127,7 +155,37 @@ pub fn replace(
         form,
         text,
         canonical,
-        table,
+        notes,
+        own,
+        records,
+        old,
+        held,
+        node,
+    )
+}
+
+// The same, with room for every note.
+pub fn replace_notes(
+    form: u32,
+    text: &[u8],
+    canonical: &mut [u8],
+    notes: &mut [usize; limits::NODES],
+    own: bool,
+    records: usize,
+    length: usize,
+    nodes: usize,
+    node: usize,
+) -> Reading
+    requires { ⌜ Known (now canonical) length nodes records (now notes) own ⌝ }
+    ensures { λ r. ⌜ GivesText form (now (text .entry)) (now (canonical .entry)) length nodes records own node (now (canonical .exit)) (now (notes .exit)) r ⌝ }
+{
+    replace_by(
+        form,
+        text,
+        canonical,
+        notes,
+        own,
+        records,
         length,
         nodes,
         node,

@@ -17,7 +17,7 @@ finish-requires c κs =
     let found = moved .before .before .before in
     let judged = found .before .before in
     let entry = judged .before .before .before .before .before .before in
-    place-rewritable _ _ _ _ _ _ _ (entry .pre) _ (judged .judge .ensures) _ _ _ _ (found .start .given .1) _ (moved .gap .ensures) _ _ (copied .copy .ensures)
+    place-rewritable _ _ _ _ _ _ (entry .args .notes .now) _ _ (entry .pre .0) _ (judged .judge .ensures) _ _ _ _ (found .start .given .1) _ (moved .gap .ensures) _ _ (copied .copy .ensures) (entry .pre .1 .1)
 
 returns : tie.Need-returns
 returns c = search (place-accepted, arith)

@@ -1,11 +1,11 @@
-use Rattle.editor.proofs.Replacing.{replace-none, replace-placeable, replace-placed}
+use Rattle.editor.proofs.Replacing.{replace-none, replace-placeable, replace-noteable, replace-placed}
 use native.Mathlib.Omega.{arith}
 use borrow.Author.Needs.{needs}
 use Rattle.editor.proofs.replace_in.Statement.{statement}
 use Rattle.editor.proofs.replace_in.Tie as tie
 
 place-requires : tie.Need-place-requires
-place-requires c κs = search (replace-placeable, arith)
+place-requires c κs = (search (replace-placeable, arith), (search needs, search (replace-noteable, arith)))
 
 returns : tie.Need-returns
 returns c = search (replace-placed, arith)

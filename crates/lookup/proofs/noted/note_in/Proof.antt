@@ -3,8 +3,8 @@ use Rattle.lookup.proofs.Sheets.{front-short}
 use Rattle.base.proofs.Lists.{front-length}
 use native.Mathlib.Omega.{arith}
 use borrow.Author.Needs.{needs}
-use Rattle.lookup.proofs.noted.note_sheet.Statement.{statement}
-use Rattle.lookup.proofs.noted.note_sheet.Tie as tie
+use Rattle.lookup.proofs.noted.note_in.Statement.{statement}
+use Rattle.lookup.proofs.noted.note_in.Tie as tie
 
 returns : tie.Need-returns
 returns c = search (unnoted-beyond, arith)
@@ -31,15 +31,13 @@ returns-6 : tie.Need-returns-6
 returns-6 c = search (unnoted-deep, arith)
 
 returns-7 : tie.Need-returns-7
-returns-7 c =
-    noted-whole _ _ _ _ _ _ _ (c .before .before .before .before .before .note .ensures) (c .before .before .before .before .before .before .before .before .before .before .before .if1 .left) _ _ _ (c .before .before .before .count .given .1)
-    (search needs) (search needs) (search needs) (search needs) (search needs) (search needs)
+returns-7 c = noted-whole _ _ _ _ _ _ _ (c .before .before .before .before .before .before .before .note .ensures) (c .before .before .before .before .before .before .before .before .before .before .before .before .before .if1 .left) _ _ _ (c .before .before .before .count .given .1) (search needs) (search needs) (search needs) (search needs) (search needs) (search needs)
 
 returns-8 : tie.Need-returns-8
 returns-8 c = search (unnoted-none, arith)
 
-pub note-sheet-spec : {M : Type 1} → statement M
-note-sheet-spec =
+pub note-in-spec : {M : Type 1} → statement M
+note-in-spec =
     tie.close
     (tie.spec
     returns
@@ -49,8 +47,12 @@ note-sheet-spec =
     slice-aggregate-part
     note-requires
     (λ c. search needs)
+    (λ c. search needs)
     returns-5
+    (λ c. search needs)
     returns-6
     (λ c. search needs)
+    (λ c. search needs)
     returns-7
+    (λ c. search needs)
     returns-8)
