@@ -1,8 +1,8 @@
 use native.Mathlib.Omega.{arith}
 use Rattle.records.proofs.Sizes.{touched-old, touched-new, touched-none}
 use borrow.Author.Needs.{needs}
-use Rattle.records.proofs.flat.touched_by.Statement.{statement}
-use Rattle.records.proofs.flat.touched_by.Tie as tie
+use Rattle.records.proofs.told.touched_by.Statement.{statement}
+use Rattle.records.proofs.told.touched_by.Tie as tie
 
 returns : tie.Need-returns
 returns c = search (touched-old, arith)
