@@ -4,11 +4,11 @@ use native.Mathlib.Omega.{arith}
 use mathlib.Core.Path.{_≡_, refl, sym, ap, ap₂, _∙_, subst}
 use mathlib.Core.Bool.{Bool, true}
 use mathlib.Core.Option.{Option, none, some}
-use mathlib.Core.List.{List, [], _++_}
-use lib.ListN.{length, take, drop, replicate, length-take}
+use mathlib.Core.List.{List, [], _∷_, _++_}
+use lib.ListN.{length, take, drop, getD, replicate, length-take}
 use lib.Seq.{sets, length-sets}
 use Rattle.base.specs.Choice.{isNone}
-use Rattle.base.proofs.Cases.{differ}
+use Rattle.base.proofs.Cases.{differ, some-same}
 use Rattle.model.specs.Answers.{the, settled, Outcome, unchanged, filled}
 use Rattle.model.specs.Decode.{decode₁, decode}
 use Rattle.model.specs.Edit.{replace}
@@ -27,11 +27,14 @@ use Rattle.answers.specs.Cases.{outcome, Refuses}
 use Rattle.edits.proofs.Demand.{replace-octets, replace-length}
 use Rattle.lookup.proofs.Sheets.{sheet-of}
 use Rattle.lookup.proofs.Sheets as good
-use Rattle.plan.specs.Planned.{Lends, treeChecks, replaceTree, AtNode, Taking, Fitting, Misfitting, Plans}
+use Rattle.sheets.specs.Told.{Holds}
+use Rattle.sheets.proofs.Keeping.{noted-length}
+use Rattle.lookup.specs.Noted.{Sheet}
+use Rattle.plan.specs.Planned.{Known, Lends, treeChecks, replaceTree, AtNode, Taking, Fitting, Misfitting, Plans}
 use Rattle.editor.specs.Given.{Noteable, Gives, GivesTree}
 use Rattle.editor.specs.Placed.{Standing, Placeable, Placed}
 use Rattle.plan.proofs.Resizing.{depth-few, ordered}
-use Rattle.splice.specs.Rewritten.{Movable, Rewritable, Rewritten}
+use Rattle.splice.specs.Rewritten.{Movable, Rewritable, Alone, Workable, Rewritten}
 use Rattle.splice.proofs.Spliced.{spliced, front-written, zeroed}
 use Rattle.answers.specs.declared.Reading.{Reading}
 use Rattle.answers.specs.declared.Reading.the-variants as reading
@@ -66,7 +69,7 @@ gives-refused Lent answer c n notes old k (reading.Accepted len count) f g = dif
 gives-refused Lent answer c n notes old k (reading.Refused x) f g = g
 
 -- ---- a tree u, known by its sizes, of which the canonical form stands at the front of scratch
-module _ (canonical : List ℕ) (len count room : ℕ) (own : Bool) (node : ℕ) (notes : List ℕ) (scratch : List ℕ) (sizes : Sizes) (g : Placeable scratch sizes) (p : Plan) (w : Plans canonical len count room own node sizes p) where
+module _ (canonical : List ℕ) (len count room : ℕ) (own : Bool) (node : ℕ) (notes : List ℕ) (scratch : List ℕ) (sizes : Sizes) (note : ℕ) (g : Placeable scratch sizes note) (p : Plan) (w : Plans canonical len count room own node sizes p) where
   abbrev n : ℕ
   n = sizes .len
 
@@ -161,6 +164,32 @@ module _ (canonical : List ℕ) (len count room : ℕ) (own : Bool) (node : ℕ)
               oldLent = omega (arith, kept-long, sheet .lent);
             }
 
+        pub place-workable : Known canonical len count room notes own → (b : Bool) → Alone (sizes .nodes) count count′ b → Workable canonical₂ notes len len′ count′ node start note b
+        place-workable known b a =
+            record {
+              works = λ y.
+                  let s : Sheet canonical len count room notes = known .sheet (fitting .good) in
+                  let q : s .tree ≡ t = some-same (λ (v : Tree). s .tree ≡ v) (sym (s .is) ∙ fitting .is) refl in
+                  record {
+                    tree = t;
+                    text = u;
+                    inside = at-node .inside;
+                    single = sym (g .is .sized .counted) ∙ a .single y;
+                    same = omega (arith, takes .counted, at-node .counted, a .same y);
+                    held = subst (λ (c : ℕ). Holds notes c t) (a .same y) (subst (Holds notes count) q (s .held));
+                    entry = g .noted (a .single y) short;
+                    starts = at-node .spot .begins;
+                    oldLong = at-node .long;
+                    long = takes .long;
+                    is = front-decodes;
+                    few = takes .few;
+                    short = takes .short;
+                    oldShort = at-node .short;
+                    lent = omega (arith, kept-long, takes .lent);
+                    oldLent = omega (arith, kept-long, sheet .lent);
+                  };
+            }
+
         pub place-accepted : (canonical₃ notes′ : List ℕ) (r : Reading) → Rewritten canonical₂ len len′ count′ canonical₃ notes′ r
             → Placed scratch sizes canonical canonical₃ len count room own node notes′ r
         unfolding Gives outcome filled
@@ -214,11 +243,18 @@ module _ (form : ℕ) (text : List ℕ) (space : ℕ) (k : Takeable form (length
           octets = λ h. ap (λ (i : ℕ). take i scratch) (whole .long) ∙ m .octets (whole .tree) (whole .is) (omega (arith, whole .long));
         }
 
-    pub replace-placeable : Placeable scratch told
-    replace-placeable =
+    alone : (l : List ℕ) → Holds l 1 (whole .tree) → Holds (getD l 0 0 ∷ []) 1 (whole .tree)
+    alone [] h = absurd (omega (arith, ap length (h .kept), noted-length (whole .tree), h .counted))
+    alone (y ∷ l) h = record { counted = h .counted; kept = h .kept; short = h .short }
+
+    pub replace-placeable : 1 ≤ length one → Placeable scratch told (getD one′ 0 0)
+    replace-placeable room =
         record {
           tree = whole .tree;
           is = standing;
+          noted = λ c s.
+              let one-node : nodes (whole .tree) ≡ 1 = sym (whole .counted) ∙ c in
+              alone one′ (subst (λ (i : ℕ). Holds one′ i (whole .tree)) one-node (m .noted (whole .tree) (whole .is) (omega (arith, whole .long)) (omega (arith, depth-few (whole .tree))) (omega arith)));
           small = record {
             len = omega (arith, few, whole .long);
             nodes = omega (arith, few, whole .counted, nodes-half (whole .tree));

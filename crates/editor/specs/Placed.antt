@@ -3,10 +3,11 @@ use Prim.Native.Nat.{ℕ, _≤_}
 use mathlib.Core.Path.{_≡_}
 use mathlib.Core.Bool.{Bool}
 use mathlib.Core.Option.{some}
-use mathlib.Core.List.{List}
+use mathlib.Core.List.{List, [], _∷_}
 use lib.ListN.{take}
 use Rattle.model.specs.Limits.{maxCanonical}
 use Rattle.model.specs.Tree.{Tree, canon}
+use Rattle.sheets.specs.Told.{Holds}
 use Rattle.plan.specs.Planned.{Sized, Small}
 use Rattle.plan.specs.declared.Sizes.{Sizes}
 use Rattle.answers.specs.declared.Reading.{Reading}
@@ -17,10 +18,12 @@ pub record Standing (scratch : List ℕ) (text : Sizes) (u : Tree) : Type 0 wher
   pub sized : Sized u text
   pub octets : text .len ≤ maxCanonical → take (text .len) scratch ≡ canon u
 
-pub record Placeable (scratch : List ℕ) (text : Sizes) : Type 0 where
+-- where it is one node, the note is its own
+pub record Placeable (scratch : List ℕ) (text : Sizes) (note : ℕ) : Type 0 where
   pub tree : Tree
   pub is : Standing scratch text tree
   pub small : Small text
+  pub noted : text .nodes ≡ 1 → text .len ≤ maxCanonical → Holds (note ∷ []) 1 tree
 
 -- the answer, the octets and the notes are those of replacing by that tree
 pub record Placed (scratch : List ℕ) (text : Sizes) (c c′ : List ℕ) (len count n : ℕ) (own : Bool) (node : ℕ) (notes′ : List ℕ) (r : Reading) : Type 0 where

@@ -20,7 +20,8 @@ use plan::Plan;
 use plan::Sizes;
 use walk::Extent;
 
-// A node of a sheet of `old` octets and `held` nodes gives way to the tree of these sizes whose octets stand in scratch.
+// A node of a sheet of `old` octets and `held` nodes gives way to the tree of these sizes whose octets stand in scratch, and whose first
+// note is given.
 fn place(
     canonical: &mut [u8],
     notes: &mut [usize],
@@ -31,8 +32,9 @@ fn place(
     node: usize,
     scratch: &[u8],
     text: Sizes,
+    note: usize,
 ) -> Reading
-    requires { ⌜ Placeable (now scratch) text ⌝ }
+    requires { ⌜ Placeable (now scratch) text note ⌝ }
     requires { ⌜ Known (now canonical) old held records (now notes) own ⌝ }
     requires { ⌜ Noteable held (text .nodes) (length (now notes)) ⌝ }
     ensures { λ r. ⌜ Placed (now (scratch .entry)) text (now (canonical .entry)) (now (canonical .exit)) old held records own node (now (notes .exit)) r ⌝ }
@@ -47,14 +49,24 @@ fn place(
         } => {
             splice::gap(canonical, start, end, old, len);
             scan::copy(scratch, 0, len, canonical, start);
-            splice::finish(canonical, notes, old, length, nodes)
+            let alone = splice::alone(text.nodes, held, nodes);
+            splice::settle(
+                canonical,
+                notes,
+                old,
+                length,
+                nodes,
+                node,
+                start,
+                note,
+                alone,
+            )
         }
         Plan::Misfit { number } => refused(number),
     }
 }
 
-// By a text that rows 1 and 2 don't apply to, in the local space lent. Of the text only octets and sizes are asked for, so that one
-// note is room enough.
+// By a text that rows 1 and 2 don't apply to, in the local space lent. Of the text's notes only the first is asked for.
 fn replace_in(
     classes: &[u8; 256],
     letters: &[u8; 256],
@@ -90,6 +102,7 @@ fn replace_in(
                 node,
                 scratch,
                 sizes,
+                one[0],
             )
         }
         Extent::Refused => refused(3),

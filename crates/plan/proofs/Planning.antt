@@ -113,6 +113,7 @@ module _ (c : List ℕ) (len : ℕ) (notes : List ℕ) (own : Bool) (room count 
             let none : row ≡ 0 = omega arith in
             let g : Lodged (to .depth) (to .nodes) (to .len) (length c) room = roomy (to .depth) (to .nodes) (to .len) (length c) room (sym v ∙ none) in
             record {
+              good = finding .good;
               number = n;
               level = level;
               tree = t;

@@ -147,6 +147,7 @@ pub record Taking (t′ : Tree) (c : List ℕ) (n len′ count′ : ℕ) : Type 
   pub lent : len′ ≤ length c
 
 pub record Fitting (c : List ℕ) (len count n : ℕ) (own : Bool) (node : ℕ) (text : Sizes) (start end len′ count′ : ℕ) : Type 0 where
+  pub good : own ≡ true
   pub number : ℕ
   pub level : ℕ
   pub tree : Tree

@@ -2,21 +2,27 @@
 use Prim.Native.Nat.{ℕ, _+_, _*_, _-_, _≤_, _<_, max}
 use native.Mathlib.Omega.{arith}
 use mathlib.Core.Path.{_≡_, refl, sym, ap, ap₂, _∙_, subst}
+use mathlib.Core.Bool.{Bool, true, false}
 use mathlib.Core.Option.{some}
 use mathlib.Core.List.{List}
 use lib.ListN.{length, take, drop, replicate}
 use lib.Seq.{sets, length-take-le}
-use Rattle.base.proofs.Cases.{some-same}
+use lib.Dec.{eqb}
+use borrow.Author.Tests.{eqb-true}
+use Rattle.base.proofs.Cases.{some-same, untrue}
 use Rattle.model.specs.Decode.{decode₁}
 use Rattle.model.specs.Limits.{maxSource}
 use Rattle.model.specs.Table.{width, tableOf}
-use Rattle.model.specs.Tree.{Tree}
+use Rattle.model.specs.Edit.{replace}
+use Rattle.model.specs.Tree.{Tree, canon}
 use Rattle.walk.specs.declared.Extent.{Extent}
 use Rattle.walk.proofs.Tabled.{table-length}
 use Rattle.sheets.specs.Notes.{Notable, Noted}
 use Rattle.sheets.specs.Told.{Holds, Filled}
 use Rattle.sheets.proofs.Held.{note-holds}
-use Rattle.splice.specs.Rewritten.{Movable, Rewritable, Rewritten, Retellable, Retold}
+use Rattle.splice.specs.Rewritten.{Movable, Rewritable, Reworkable, Alone, Workable, Rewritten, Retellable, Retold}
+use Rattle.splice.specs.Moved.{Renotable, Renoted}
+use Rattle.splice.proofs.Renoting.{renotable, renoted-holds}
 use Rattle.splice.proofs.Spliced.{zeroed}
 use Rattle.answers.specs.declared.Reading.the-variants as reading
 
@@ -51,6 +57,43 @@ module _ (canonical notes : List ℕ) (old len count : ℕ) (g : Rewritable cano
           held = λ t i. subst (Holds notes′ count) (some-same (λ (u : Tree). g .tree ≡ u) (sym (g .is) ∙ i) refl) mine;
           tells = refl;
         }
+
+-- ---- refinish
+module _ (canonical notes : List ℕ) (old len count node start note : ℕ) (g : Reworkable canonical notes old len count node start note) where
+  short : length (canon (replace (g .tree) node (g .text))) ≤ maxSource
+  short = omega (arith, g .long, g .short)
+
+  pub refinish-renotable : Renotable notes node count start old len note
+  refinish-renotable =
+      rw (g .starts, g .oldLong, g .long)
+      (renotable (g .tree) node (g .inside) (g .text) (g .single) (g .same) notes count (g .held) note (g .entry) short (g .few) (omega (arith, g .oldLong, g .oldShort)))
+
+  module _ (notes′ : List ℕ) (w : Renoted notes node count start old len note notes′) (m : ℕ) (e : m ≡ max old len) (canonical′ : List ℕ) (z : canonical′ ≡ sets canonical len (replicate (m - len) 0)) where
+    its : Holds notes′ count (replace (g .tree) node (g .text))
+    its =
+        renoted-holds (g .tree) node (g .inside) (g .text) (g .single) (g .same) notes count (g .held) note (g .entry) short notes′
+        (rw (sym (g .starts), sym (g .oldLong), sym (g .long)) w)
+
+    pub refinished : Rewritten canonical old len count canonical′ notes′ (reading.Accepted len count)
+    refinished =
+        let a : m - len ≡ old - len = omega arith in
+        record {
+          octets = z ∙ ap (λ (n : ℕ). sets canonical len (replicate n 0)) a;
+          held = λ t i. subst (Holds notes′ count) (some-same (λ (u : Tree). replace (g .tree) node (g .text) ≡ u) (sym (g .is) ∙ i) refl) its;
+          tells = refl;
+        }
+
+-- ---- settle
+module _ (canonical notes : List ℕ) (old len count node start note : ℕ) (b : Bool) (g : Workable canonical notes old len count node start note b) where
+  pub settle-works : b ≡ true → Reworkable canonical notes old len count node start note
+  settle-works y = g .works y
+
+module _ (new held count : ℕ) where
+  pub alone-is : new ≡ 1 → Alone new held count (eqb held count)
+  alone-is e = record { single = λ y. e; same = λ y. eqb-true held count y }
+
+  pub alone-not : Alone new held count false
+  alone-not = record { single = λ y. untrue y; same = λ y. untrue y }
 
 -- ---- retell
 module _ (notes table : List ℕ) (held count : ℕ) (g : Retellable notes (length table) held count) where

@@ -1,12 +1,14 @@
 -- What rewriting a sheet in place needs, and what it leaves.
-use Prim.Native.Nat.{ℕ, _+_, _*_, _-_, _≤_}
+use Prim.Native.Nat.{ℕ, _+_, _*_, _-_, _≤_, _<_}
 use mathlib.Core.Path.{_≡_}
+use mathlib.Core.Bool.{Bool, true}
 use mathlib.Core.Option.{some}
-use mathlib.Core.List.{List}
+use mathlib.Core.List.{List, [], _∷_}
 use lib.ListN.{length, take, replicate}
 use lib.Seq.{sets}
-use Rattle.model.specs.Tree.{Tree, nodes, depth}
-use Rattle.model.specs.Table.{width, tableOf}
+use Rattle.model.specs.Edit.{replace}
+use Rattle.model.specs.Tree.{Tree, canon, nodes, depth}
+use Rattle.model.specs.Table.{width, rowOf, tableOf}
 use Rattle.model.specs.Decode.{decode₁}
 use Rattle.model.specs.Limits.{maxDepth, maxNodes, maxCanonical}
 use Rattle.model.specs.Answers.{settled}
@@ -31,6 +33,32 @@ pub record Rewritable (canonical : List ℕ) (room old len count : ℕ) : Type 0
   pub short : len ≤ maxCanonical
   pub lent : len ≤ length canonical
   pub oldLent : old ≤ length canonical
+
+-- the same, where a node of the old tree gave way to a text's tree and each of the two is one node. The notes are still the old tree's
+pub record Reworkable (canonical notes : List ℕ) (old len count node start note : ℕ) : Type 0 where
+  pub tree : Tree
+  pub text : Tree
+  pub inside : node < nodes tree
+  pub single : nodes text ≡ 1
+  pub same : nodes (replace tree node text) ≡ nodes tree
+  pub held : Holds notes count tree
+  pub entry : Holds (note ∷ []) 1 text
+  pub starts : start ≡ (rowOf tree node) .start
+  pub oldLong : old ≡ length (canon tree)
+  pub long : len ≡ length (canon (replace tree node text))
+  pub is : decode₁ (take len canonical) ≡ some (replace tree node text)
+  pub few : count ≤ maxNodes
+  pub short : len ≤ maxCanonical
+  pub oldShort : old ≤ maxCanonical
+  pub lent : len ≤ length canonical
+  pub oldLent : old ≤ length canonical
+
+pub record Alone (new held count : ℕ) (r : Bool) : Type 0 where
+  pub single : r ≡ true → new ≡ 1
+  pub same : r ≡ true → held ≡ count
+
+pub record Workable (canonical notes : List ℕ) (old len count node start note : ℕ) (alone : Bool) : Type 0 where
+  pub works : alone ≡ true → Reworkable canonical notes old len count node start note
 
 -- octets past it are zeroed, and the notes are its own
 pub record Rewritten (canonical : List ℕ) (old len count : ℕ) (canonical′ notes′ : List ℕ) (r : Reading) : Type 0 where

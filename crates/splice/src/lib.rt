@@ -1,10 +1,12 @@
 // A sheet rewritten in place, and its table: the octets after a node make room, the new sheet is noted, and what it leaves of the old
 // one is zeroed.
+mod notes; // notes.rt: notes that move
+
 ghost use mathlib.Core.Path.{_≡_};
 ghost use Prim.Native.Nat.{_+_, _-_};
 ghost use lib.ListN.{length, take, drop};
 ghost use lib.Seq.{sets};
-ghost use Rattle.splice.specs.Rewritten.{Movable, Rewritable, Rewritten, Retellable, Retold};
+ghost use Rattle.splice.specs.Rewritten.{Movable, Rewritable, Reworkable, Alone, Workable, Rewritten, Retellable, Retold};
 use answers::Reading;
 
 // The octets after a node moved, so that `len` octets have room from `start` on.
@@ -21,7 +23,7 @@ pub fn gap(canonical: &mut [u8], start: usize, end: usize, whole: usize, len: us
 }
 
 // The notes of the `len` octets with `count` nodes that stand where `old` octets stood, and zeros up to a larger old length.
-pub fn finish(
+fn finish(
     canonical: &mut [u8],
     notes: &mut [usize],
     old: usize,
@@ -38,6 +40,61 @@ pub fn finish(
         length: len,
         nodes: count,
     }
+}
+
+// The same, where a string gave way to a string: the notes move, and the node's own is that of the text, moved to where the node
+// begins.
+fn refinish(
+    canonical: &mut [u8],
+    notes: &mut [usize],
+    old: usize,
+    len: usize,
+    count: usize,
+    node: usize,
+    start: usize,
+    note: usize,
+) -> Reading
+    requires { ⌜ Reworkable (now canonical) (now notes) old len count node start note ⌝ }
+    ensures { λ r. ⌜ Rewritten (now (canonical .entry)) old len count (now (canonical .exit)) (now (notes .exit)) r ⌝ }
+{
+    notes::renote(notes, node, count, start, old, len, note);
+    moves::zero(canonical, len, walk::larger(old, len));
+    Reading::Accepted {
+        length: len,
+        nodes: count,
+    }
+}
+
+// Whether a string gives way to a string: what comes has one node, and as many are there as were.
+pub fn alone(nodes: usize, held: usize, count: usize) -> bool
+    ensures { λ r. ⌜ Alone nodes held count r ⌝ }
+{
+    if nodes == 1 {
+        return held == count;
+    }
+    false
+}
+
+// By either.
+pub fn settle(
+    canonical: &mut [u8],
+    notes: &mut [usize],
+    old: usize,
+    len: usize,
+    count: usize,
+    node: usize,
+    start: usize,
+    note: usize,
+    alone: bool,
+) -> Reading
+    requires { ⌜ Rewritable (now canonical) (length (now notes)) old len count ⌝ }
+    requires { ⌜ Workable (now canonical) (now notes) old len count node start note alone ⌝ }
+    ensures { λ r. ⌜ Rewritten (now (canonical .entry)) old len count (now (canonical .exit)) (now (notes .exit)) r ⌝ }
+{
+    if alone {
+        return refinish(canonical, notes, old, len, count, node, start, note);
+    }
+    finish(canonical, notes, old, len, count)
 }
 
 // The table that notes tell of `count` nodes, where `held` records were in use, and zeros up to a larger old count.
