@@ -29,8 +29,8 @@
  *   etg_read              84,896
  *   etg_read_records      84,000
  *   etg_write             33,552
- *   etg_replace           84,624
- *   etg_replace_records   84,432
+ *   etg_replace           84,656
+ *   etg_replace_records   84,464
  *   etg_same                 912
  *   etg_hint              33,584
  *   etg_hint_records      33,616
