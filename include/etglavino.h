@@ -30,12 +30,12 @@
  *   etg_read              84,896
  *   etg_read_records      84,000
  *   etg_write             33,552
- *   etg_replace          116,576
- *   etg_replace_records  247,696
+ *   etg_replace           84,656
+ *   etg_replace_records   84,464
  *   etg_same                 912
- *   etg_hint              33,616
+ *   etg_hint              33,584
  *   etg_hint_records      33,616
- *   etg_data              33,616
+ *   etg_data              33,584
  *   etg_data_records      33,616
  *
  * Refusals. Every function but those that find a hint or data returns one of

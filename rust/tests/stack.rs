@@ -12,11 +12,8 @@ use std::thread;
 use common::{empties, nested, padded, verbatim, NUMBER, OCTET};
 use etglavino::{Extent, Record, Refusal, MAX_CANONICAL, MAX_NODES, MAX_SOURCE, RECORD};
 
-/// What a thread has: enough for any entry but one, and for the thread itself.
+/// What a thread has: enough for any entry, and for the thread itself.
 const STACK: usize = 192 * 1024;
-
-/// Replacing over records works in a flat copy of the table besides.
-const FLAT: usize = 64 * 1024;
 
 /// Tells a test that it is the child.
 const CHILD: &str = "ETGLAVINO_STACK_CHILD";
@@ -41,15 +38,10 @@ fn alone(name: &str, test: fn()) {
 
 /// Runs a call on a thread with little stack.
 fn tight<R: Send>(case: &str, call: impl FnOnce() -> R + Send) -> R {
-    within(STACK, case, call)
-}
-
-/// The same with so much stack.
-fn within<R: Send>(stack: usize, case: &str, call: impl FnOnce() -> R + Send) -> R {
     thread::scope(|scope| {
         let thread = thread::Builder::new()
             .name(case.to_string())
-            .stack_size(stack)
+            .stack_size(STACK)
             .spawn_scoped(scope, call);
         thread.expect("a thread").join().expect("an answer")
     })
@@ -194,8 +186,6 @@ fn bad_texts() -> Vec<(u32, Vec<u8>, Refusal)> {
 trait Table: Clone + Send + Sync {
     /// How many of them are one record.
     const WIDTH: usize;
-    /// What replacing takes besides for the table.
-    const COPY: usize;
     /// One that stands in no table.
     fn other() -> Self;
     /// Those of a flat table.
@@ -204,7 +194,6 @@ trait Table: Clone + Send + Sync {
 
 impl Table for u32 {
     const WIDTH: usize = RECORD;
-    const COPY: usize = 0;
 
     fn other() -> u32 {
         NUMBER
@@ -217,7 +206,6 @@ impl Table for u32 {
 
 impl Table for Record {
     const WIDTH: usize = 1;
-    const COPY: usize = FLAT;
 
     fn other() -> Record {
         Record::from([NUMBER; RECORD])
@@ -317,7 +305,7 @@ fn replaced<T: Table>(
 ) -> Result<Extent, Refusal> {
     let (canonical, table, extent) = (&mut sheet.canonical, &mut sheet.table, sheet.extent);
     let case = case(&format!("replace {node}"), form, text);
-    within(STACK + T::COPY, &case, || {
+    tight(&case, || {
         replace(form, text, canonical, table, extent, node)
     })
 }

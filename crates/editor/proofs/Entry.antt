@@ -1,6 +1,7 @@
 -- The entry: rows 1 and 2, and then what the text's tree gives.
 use Prim.Native.Nat.{ℕ, _≤_, _<_}
 use mathlib.Core.Path.{_≡_, sym, _∙_}
+use mathlib.Core.Bool.{Bool}
 use mathlib.Core.List.{List}
 use lib.ListN.{length}
 use Rattle.model.specs.Answers.{unchanged, replaced, replacingChecks, replacing}
@@ -10,13 +11,24 @@ use Rattle.texts.proofs.Rows.{text-refused, text-taken}
 use Rattle.answers.specs.Cases.{outcome, Refuses}
 use Rattle.plan.specs.Planned.{treeChecks, replaceTree}
 use Rattle.answers.specs.declared.Reading.{Reading}
+use Rattle.answers.specs.declared.Reading.the-variants as reading
+use Rattle.editor.specs.Given.{Gives, GivesTree, GivesText}
+use Rattle.editor.proofs.Replacing.{gives-refused}
 
-module _ (form : ℕ) (text canonical : List ℕ) (len : ℕ) (table : List ℕ) (count node : ℕ) (n : ℕ) (v : n ≡ textVerdict form (length text)) where
-  pub replace-refused : 0 < n → (a : Reading) → Refuses n a → outcome a canonical table ≡ replacing form text canonical table len count node
+module _ (form : ℕ) (text canonical : List ℕ) (len count room : ℕ) (own : Bool) (node : ℕ) (n : ℕ) (v : n ≡ textVerdict form (length text)) where
+  pub replace-refused : 0 < n → (notes : List ℕ) (a : Reading) → Refuses n a → GivesText form text canonical len count room own node canonical notes a
   unfolding replacing replacingChecks
-  replace-refused h a f = f .is canonical table ∙ sym (text-refused form text _ _ (λ (k : ℕ). unchanged k canonical table) n v h)
+  replace-refused h notes a f =
+      gives-refused _ _ canonical room notes count n a f
+      (λ table l. f .is canonical table ∙ sym (text-refused form text _ _ (λ (k : ℕ). unchanged k canonical table) n v h))
 
-  pub replace-taken : n ≤ 0 → (canonical′ table′ : List ℕ) (a : Reading) → outcome a canonical′ table′ ≡ replaceTree (decode form text) canonical len table count node
-      → outcome a canonical′ table′ ≡ replacing form text canonical table len count node
+  taken : n ≤ 0 → (table : List ℕ) → replaceTree (decode form text) canonical len table count node ≡ replacing form text canonical table len count node
   unfolding replacing replacingChecks replaceTree treeChecks replaced
-  replace-taken h canonical′ table′ a f = f ∙ sym (text-taken form text _ _ (λ (k : ℕ). unchanged k canonical table) n v h)
+  taken h table = sym (text-taken form text _ _ (λ (k : ℕ). unchanged k canonical table) n v h)
+
+  pub replace-taken : n ≤ 0 → (canonical′ notes′ : List ℕ) (a : Reading) → GivesTree (decode form text) canonical len count room own node canonical′ notes′ a
+      → GivesText form text canonical len count room own node canonical′ notes′ a
+  unfolding Gives
+  replace-taken h canonical′ notes′ (reading.Accepted l c) p =
+      record { tree = p .tree; held = p .held; recorded = p .recorded; few = p .few; is = λ table z. p .is table z ∙ taken h table }
+  replace-taken h canonical′ notes′ (reading.Refused f) p = λ table z. p table z ∙ taken h table

@@ -1,37 +1,46 @@
 // Replacing: a node of a sheet gives way to the tree of a text, in place. Text, sheet, table, node and room are judged before
-// anything is written, so that a refusal changes nothing.
+// anything is written, so that a refusal changes nothing. The core goes by the sheet's notes, and leaves those of the new sheet: the
+// table, as numbers or as records, is its caller's.
+mod numbers; // numbers.rt: the table as numbers
 mod tiers; // tiers.rt: local space for a text
 
 ghost use mathlib.Core.Path.{_≡_};
+ghost use Prim.Native.Nat.{_*_};
 ghost use lib.ListN.{length};
 ghost use Rattle.model.specs.Decode.{decode};
-ghost use Rattle.model.specs.Answers.{replacing};
-ghost use Rattle.answers.specs.Cases.{outcome};
 ghost use Rattle.octets.specs.Classes.{Classed, Lettered};
 ghost use Rattle.texts.specs.Texts.{Takeable};
-ghost use Rattle.plan.specs.Planned.{replaceTree};
+ghost use Rattle.plan.specs.Planned.{Known};
+ghost use Rattle.editor.specs.Given.{Noteable, GivesTree, GivesText};
 ghost use Rattle.editor.specs.Placed.{Placeable, Placed};
 use answers::Reading;
 use answers::refused;
+pub use numbers::replace;
 use plan::Plan;
 use plan::Sizes;
 use walk::Extent;
 
-// A node of a sheet of `old` octets and `held` nodes gives way to the tree of these sizes whose octets stand in scratch.
+// A node of a sheet of `old` octets and `held` nodes gives way to the tree of these sizes whose octets stand in scratch, and whose first
+// note is given.
 fn place(
     canonical: &mut [u8],
-    table: &mut [u32],
+    notes: &mut [usize],
+    own: bool,
+    records: usize,
     old: usize,
     held: usize,
     node: usize,
     scratch: &[u8],
     text: Sizes,
+    note: usize,
 ) -> Reading
-    requires { ⌜ Placeable (now scratch) text ⌝ }
-    ensures { λ r. ⌜ Placed (now (scratch .entry)) text (now (canonical .entry)) (now (canonical .exit)) old (now (table .entry)) (now (table .exit)) held node r ⌝ }
+    requires { ⌜ Placeable (now scratch) text note ⌝ }
+    requires { ⌜ Known (now canonical) old held records (now notes) own ⌝ }
+    requires { ⌜ Noteable held (text .nodes) (length (now notes)) ⌝ }
+    ensures { λ r. ⌜ Placed (now (scratch .entry)) text (now (canonical .entry)) (now (canonical .exit)) old held records own node (now (notes .exit)) r ⌝ }
 {
     let len = text.len;
-    match plan::judge(canonical, old, table, held, node, text) {
+    match plan::judge(canonical, old, notes, own, records, held, node, text) {
         Plan::Fits {
             start,
             end,
@@ -40,21 +49,33 @@ fn place(
         } => {
             splice::gap(canonical, start, end, old, len);
             scan::copy(scratch, 0, len, canonical, start);
-            splice::finish(canonical, table, old, held, length, nodes)
+            let alone = splice::alone(text.nodes, held, nodes);
+            splice::settle(
+                canonical,
+                notes,
+                old,
+                length,
+                nodes,
+                node,
+                start,
+                note,
+                alone,
+            )
         }
         Plan::Misfit { number } => refused(number),
     }
 }
 
-// By a text that rows 1 and 2 don't apply to, in the local space lent. Of the text only octets and sizes are asked for, so that one
-// note is room enough.
+// By a text that rows 1 and 2 don't apply to, in the local space lent. Of the text's notes only the first is asked for.
 fn replace_in(
     classes: &[u8; 256],
     letters: &[u8; 256],
     form: u32,
     text: &[u8],
     canonical: &mut [u8],
-    table: &mut [u32],
+    notes: &mut [usize],
+    own: bool,
+    records: usize,
     old: usize,
     held: usize,
     node: usize,
@@ -63,31 +84,47 @@ fn replace_in(
     requires { ⌜ Classed (now classes) ⌝ }
     requires { ⌜ Lettered (now letters) ⌝ }
     requires { ⌜ Takeable form (length (now text)) (length (now scratch)) ⌝ }
-    ensures { λ r. ⌜ outcome r (now (canonical .exit)) (now (table .exit)) ≡ replaceTree (decode form (now (text .entry))) (now (canonical .entry)) old (now (table .entry)) held node ⌝ }
+    requires { ⌜ Known (now canonical) old held records (now notes) own ⌝ }
+    requires { ⌜ Noteable held (2 * length (now text)) (length (now notes)) ⌝ }
+    ensures { λ r. ⌜ GivesTree (decode form (now (text .entry))) (now (canonical .entry)) old held records own node (now (canonical .exit)) (now (notes .exit)) r ⌝ }
 {
-    let mut notes: [usize; 1] = [0; 1];
-    match texts::take(classes, letters, form, text, scratch, &mut notes) {
+    let mut one: [usize; 1] = [0; 1];
+    match texts::take(classes, letters, form, text, scratch, &mut one) {
         Extent::Whole { len, nodes, depth } => {
             let sizes = Sizes { len, nodes, depth };
-            place(canonical, table, old, held, node, scratch, sizes)
+            place(
+                canonical,
+                notes,
+                own,
+                records,
+                old,
+                held,
+                node,
+                scratch,
+                sizes,
+                one[0],
+            )
         }
         Extent::Refused => refused(3),
     }
 }
 
-// A node of the sheet with this length, node count and table gives way to the tree of a text of the form named (1 canonical,
-// 2 basic, 3 advanced). In a refusal both lent buffers hold what they held; in an acceptance what lies past the old and the
-// new octets and records stays, and what lies between the new ones and larger old ones is zeroed.
-pub fn replace(
+// A node of the sheet with this length, node count and notes gives way to the tree of a text of the form named, where sheet and
+// table are told to be good or not, and so many records are lent.
+fn replace_by(
     form: u32,
     text: &[u8],
     canonical: &mut [u8],
-    table: &mut [u32],
-    length: usize,
-    nodes: usize,
+    notes: &mut [usize],
+    own: bool,
+    records: usize,
+    old: usize,
+    held: usize,
     node: usize,
 ) -> Reading
-    ensures { λ r. ⌜ outcome r (now (canonical .exit)) (now (table .exit)) ≡ replacing form (now (text .entry)) (now (canonical .entry)) (now (table .entry)) length nodes node ⌝ }
+    requires { ⌜ Known (now canonical) old held records (now notes) own ⌝ }
+    requires { ⌜ Noteable held (2 * length (now text)) (length (now notes)) ⌝ }
+    ensures { λ r. ⌜ GivesText form (now (text .entry)) (now (canonical .entry)) old held records own node (now (canonical .exit)) (now (notes .exit)) r ⌝ }
 {
     let row = texts::row(form, text.len());
     if row > 0 {
@@ -102,9 +139,11 @@ pub fn replace(
             form,
             text,
             canonical,
-            table,
-            length,
-            nodes,
+            notes,
+            own,
+            records,
+            old,
+            held,
             node,
         );
     }
@@ -115,9 +154,11 @@ pub fn replace(
             form,
             text,
             canonical,
-            table,
-            length,
-            nodes,
+            notes,
+            own,
+            records,
+            old,
+            held,
             node,
         );
     }
@@ -127,7 +168,37 @@ pub fn replace(
         form,
         text,
         canonical,
-        table,
+        notes,
+        own,
+        records,
+        old,
+        held,
+        node,
+    )
+}
+
+// The same, with room for every note.
+pub fn replace_notes(
+    form: u32,
+    text: &[u8],
+    canonical: &mut [u8],
+    notes: &mut [usize; limits::NODES],
+    own: bool,
+    records: usize,
+    length: usize,
+    nodes: usize,
+    node: usize,
+) -> Reading
+    requires { ⌜ Known (now canonical) length nodes records (now notes) own ⌝ }
+    ensures { λ r. ⌜ GivesText form (now (text .entry)) (now (canonical .entry)) length nodes records own node (now (canonical .exit)) (now (notes .exit)) r ⌝ }
+{
+    replace_by(
+        form,
+        text,
+        canonical,
+        notes,
+        own,
+        records,
         length,
         nodes,
         node,

@@ -1,12 +1,13 @@
 // Local space for a text, in three sizes: a short text does not pay for clearing the largest.
 ghost use mathlib.Core.Path.{_≡_};
+ghost use Prim.Native.Nat.{_*_};
 ghost use lib.ListN.{length};
 ghost use Rattle.model.specs.Decode.{decode};
 ghost use Rattle.model.specs.Limits.{maxSource};
-ghost use Rattle.answers.specs.Cases.{outcome};
 ghost use Rattle.octets.specs.Classes.{Classed, Lettered};
 ghost use Rattle.texts.specs.Texts.{Formed};
-ghost use Rattle.plan.specs.Planned.{replaceTree};
+ghost use Rattle.plan.specs.Planned.{Known};
+ghost use Rattle.editor.specs.Given.{Noteable, GivesTree};
 use crate::replace_in;
 use answers::Reading;
 
@@ -16,7 +17,9 @@ pub fn replace_short(
     form: u32,
     text: &[u8],
     canonical: &mut [u8],
-    table: &mut [u32],
+    notes: &mut [usize],
+    own: bool,
+    records: usize,
     old: usize,
     held: usize,
     node: usize,
@@ -24,7 +27,9 @@ pub fn replace_short(
     requires { ⌜ Classed (now classes) ⌝ }
     requires { ⌜ Lettered (now letters) ⌝ }
     requires { ⌜ Formed form (length (now text)) 128 ⌝ }
-    ensures { λ r. ⌜ outcome r (now (canonical .exit)) (now (table .exit)) ≡ replaceTree (decode form (now (text .entry))) (now (canonical .entry)) old (now (table .entry)) held node ⌝ }
+    requires { ⌜ Known (now canonical) old held records (now notes) own ⌝ }
+    requires { ⌜ Noteable held (2 * length (now text)) (length (now notes)) ⌝ }
+    ensures { λ r. ⌜ GivesTree (decode form (now (text .entry))) (now (canonical .entry)) old held records own node (now (canonical .exit)) (now (notes .exit)) r ⌝ }
 {
     let mut scratch: [u8; limits::SHORT_SCRATCH] = [0; limits::SHORT_SCRATCH];
     replace_in(
@@ -33,7 +38,9 @@ pub fn replace_short(
         form,
         text,
         canonical,
-        table,
+        notes,
+        own,
+        records,
         old,
         held,
         node,
@@ -47,7 +54,9 @@ pub fn replace_middle(
     form: u32,
     text: &[u8],
     canonical: &mut [u8],
-    table: &mut [u32],
+    notes: &mut [usize],
+    own: bool,
+    records: usize,
     old: usize,
     held: usize,
     node: usize,
@@ -55,7 +64,9 @@ pub fn replace_middle(
     requires { ⌜ Classed (now classes) ⌝ }
     requires { ⌜ Lettered (now letters) ⌝ }
     requires { ⌜ Formed form (length (now text)) 1024 ⌝ }
-    ensures { λ r. ⌜ outcome r (now (canonical .exit)) (now (table .exit)) ≡ replaceTree (decode form (now (text .entry))) (now (canonical .entry)) old (now (table .entry)) held node ⌝ }
+    requires { ⌜ Known (now canonical) old held records (now notes) own ⌝ }
+    requires { ⌜ Noteable held (2 * length (now text)) (length (now notes)) ⌝ }
+    ensures { λ r. ⌜ GivesTree (decode form (now (text .entry))) (now (canonical .entry)) old held records own node (now (canonical .exit)) (now (notes .exit)) r ⌝ }
 {
     let mut scratch: [u8; limits::MIDDLE_SCRATCH] = [0; limits::MIDDLE_SCRATCH];
     replace_in(
@@ -64,7 +75,9 @@ pub fn replace_middle(
         form,
         text,
         canonical,
-        table,
+        notes,
+        own,
+        records,
         old,
         held,
         node,
@@ -78,7 +91,9 @@ pub fn replace_long(
     form: u32,
     text: &[u8],
     canonical: &mut [u8],
-    table: &mut [u32],
+    notes: &mut [usize],
+    own: bool,
+    records: usize,
     old: usize,
     held: usize,
     node: usize,
@@ -86,7 +101,9 @@ pub fn replace_long(
     requires { ⌜ Classed (now classes) ⌝ }
     requires { ⌜ Lettered (now letters) ⌝ }
     requires { ⌜ Formed form (length (now text)) maxSource ⌝ }
-    ensures { λ r. ⌜ outcome r (now (canonical .exit)) (now (table .exit)) ≡ replaceTree (decode form (now (text .entry))) (now (canonical .entry)) old (now (table .entry)) held node ⌝ }
+    requires { ⌜ Known (now canonical) old held records (now notes) own ⌝ }
+    requires { ⌜ Noteable held (2 * length (now text)) (length (now notes)) ⌝ }
+    ensures { λ r. ⌜ GivesTree (decode form (now (text .entry))) (now (canonical .entry)) old held records own node (now (canonical .exit)) (now (notes .exit)) r ⌝ }
 {
     let mut scratch: [u8; limits::LONG_SCRATCH] = [0; limits::LONG_SCRATCH];
     replace_in(
@@ -95,7 +112,9 @@ pub fn replace_long(
         form,
         text,
         canonical,
-        table,
+        notes,
+        own,
+        records,
         old,
         held,
         node,

@@ -16,9 +16,6 @@ pub const CANONICAL: usize = 16384;
 // Numbers of a record.
 pub const WIDTH: usize = 8;
 
-// Numbers of the largest table.
-pub const NUMBERS: usize = NODES * WIDTH;
-
 // Local space for a text comes in three sizes, so that a short text does not pay for clearing the largest. A text of n octets makes
 // at most 3n canonical octets, hence at most 3n / 2 nodes.
 

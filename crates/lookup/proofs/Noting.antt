@@ -8,10 +8,11 @@ use mathlib.Core.List.{List}
 use lib.ListN.{length, take, getD}
 use lib.Seq.{length-take-le}
 use lib.Dec.{leb}
+use borrow.Author.Tests.{eq-eqb}
 use Rattle.base.specs.Choice.{pick, not, chain, isNone}
 use Rattle.base.proofs.Cases.{by-bool, differ, picked, unpicked, some-same}
 use Rattle.model.specs.Limits.{maxCanonical, maxDepth, maxNodes, maxSource}
-use Rattle.model.specs.Answers.{fits, fitting, sheetTree, ownTree, hintPart, dataPart}
+use Rattle.model.specs.Answers.{fits, fitting, sheetTree, owns, ownTree, hintPart, dataPart}
 use Rattle.model.specs.Decode.{decode₁}
 use Rattle.model.specs.Table.{width, numbers, records, rowOf}
 use Rattle.model.specs.Tree.{Tree, canon, nodes, depth}
@@ -21,14 +22,14 @@ use Rattle.walk.specs.declared.Extent.{Extent}
 use Rattle.walk.specs.declared.Extent.the-variants.{Whole, Refused}
 use Rattle.sheets.specs.Notes.{Notable, Noted}
 use Rattle.sheets.specs.Rows.{rowList, RowIs}
-use Rattle.sheets.specs.Told.{rowAt, Readable, Holds}
+use Rattle.sheets.specs.Told.{rowAt, Readable, Holds, Fillable, Compared}
 use Rattle.sheets.specs.declared.rows.Row as coded
-use Rattle.sheets.proofs.Owning.{note-holds}
+use Rattle.sheets.proofs.Held.{note-holds}
 use Rattle.sheets.proofs.Telling.{holds-row}
 use Rattle.answers.specs.Cases.{placed}
 use Rattle.answers.specs.declared.Place.{Place}
 use Rattle.answers.specs.declared.Place.the-variants.{Part, NoPart}
-use Rattle.lookup.specs.Noted.{Sheeted, Owning, Readables, Shows}
+use Rattle.lookup.specs.Noted.{Notes, Sheet, Sheeted, Owned, Owning, Readables, Shows}
 use Rattle.lookup.proofs.Sheets.{no-tree, tree-of, none-of, fitted, within, sheet-none, sheet-deep, Own, own-of, own-beyond, own-long, own-many, own-unlent}
 use Rattle.lookup.proofs.Shown.{table-at, hint-unowned, hint-beyond, hint-other, hint-found, data-unowned, data-beyond, data-found}
 
@@ -79,7 +80,7 @@ module _ (c : List ℕ) (n m k : ℕ) (before after : List ℕ) (r : Extent) (v 
     pub unnoted-deep : maxDepth < deep → Sheeted c n m k after false
     unnoted-deep h = none-owned (none-of (sheetTree c n) (sheet-deep c n lent r (v .measures) len count deep e h))
 
-    pub noted-whole : n ≤ maxCanonical → m ≤ maxNodes → m ≤ k → count ≡ m → deep ≤ maxDepth → maxNodes ≤ length before → Sheeted c n m k after true
+    pub noted-whole : n ≤ maxCanonical → m ≤ maxNodes → m ≤ k → count ≡ m → deep ≤ maxDepth → Notes m (length before) → Sheeted c n m k after true
     unfolding Sheeted chain fitting
     noted-whole short few held z shallow room =
         let t : Tree = wholly .tree in
@@ -92,6 +93,42 @@ module _ (c : List ℕ) (n m k : ℕ) (before after : List ℕ) (r : Extent) (v 
           held = subst (λ (i : ℕ). Holds after i t) (sym (wholly .counted) ∙ z) (note-holds (take n c) before after r v (omega (arith, length-take-le n c lent)) g);
           lent = held;
         }
+
+-- ---- and its table compared
+
+module _ (c : List ℕ) (len count : ℕ) (notes table : List ℕ) (noted : Bool) (s : Sheeted c len count (length table / width) notes noted) where
+  module _ (y : noted ≡ true) where
+    sheet : Sheet c len count (length table / width) notes
+    unfolding Sheeted
+    sheet = subst (Sheeted c len count (length table / width) notes) y s
+
+    pub own-fillable : Fillable notes count (length table)
+    own-fillable = record { tree = sheet .tree; held = sheet .held; fits = omega (arith, sheet .lent) }
+
+    told-some : (b : Bool) (t : Tree) → b ≡ not (isNone (pick b (some t) none))
+    unfolding isNone
+    told-some true t = refl
+    told-some false t = refl
+
+    pub owned-whole : (b : Bool) → Compared notes count table b → Owned c len table count notes b
+    unfolding ownTree owns chain
+    owned-whole b f =
+        record {
+          tells = told-some b (sheet .tree)
+              ∙ ap (λ (x : Bool). not (isNone (pick x (some (sheet .tree)) none))) (f .tells (sheet .tree) (sheet .held) ∙ sym (picked _ _ (eq-eqb count (nodes (sheet .tree)) (sheet .held .counted))))
+              ∙ ap (λ (o : Option Tree). not (isNone (chain o (owns table count)))) (sym (sheet .is));
+          sheet = λ z. sheet;
+        }
+
+  unowned : {o : Option Tree} → o ≡ none → false ≡ not (isNone o)
+  unfolding isNone
+  unowned e = rw e
+
+  pub owned-none : noted ≡ false → Owned c len table count notes false
+  unfolding Sheeted
+  owned-none y =
+      let g : (t : List ℕ) → records t ≡ length table / width → ownTree c len t count ≡ none = subst (Sheeted c len count (length table / width) notes) y s in
+      record { tells = unowned (g table refl); sheet = λ z. differ z refl }
 
 -- ---- a node shown
 

@@ -20,7 +20,6 @@ use Rattle.model.specs.Tree.{Tree, canon, nodes, depth}
 use Rattle.model.proofs.Exact.{canon-sound}
 use Rattle.walk.specs.Extent.{Wholly, Measures}
 use Rattle.walk.proofs.Tabled.{table-length}
-use Rattle.sheets.specs.Owned.{Judgeable, owned}
 use Rattle.walk.specs.declared.Extent.{Extent}
 use Rattle.walk.specs.declared.Extent.the-variants.{Whole, Refused}
 
@@ -166,10 +165,3 @@ module _ (c : List ℕ) (n : ℕ) (table : List ℕ) (m : ℕ) where
 
   pub own-unlent : length table / width < m → false ≡ not (isNone (ownTree c n table m))
   own-unlent h = no-tree _ (λ t e. let o : Own c n table m t = own-of c n table m t e in omega (arith, own-lent c n table m t o))
-
-  pub own-room : n ≤ length c → n ≤ maxCanonical → m ≤ maxNodes → m ≤ length table / width → Judgeable (length (take n c)) (length table) m
-  own-room h k l i = record { short = omega (arith, length-take-le n c h); few = l; lent = omega arith }
-
-  pub own-is : n ≤ length c → (r : Bool) → r ≡ owned (take n c) table m → r ≡ not (isNone (ownTree c n table m))
-  unfolding owned ownTree
-  own-is h r e = e ∙ ap (λ (o : Option Tree). not (isNone (chain o (owns table m)))) (sym (within c n h))

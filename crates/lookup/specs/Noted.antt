@@ -1,11 +1,12 @@
 -- A sheet by its notes.
-use Prim.Native.Nat.{ℕ, _≤_, _<_}
+use Prim.Native.Nat.{ℕ, _≤_, _<_, min}
 use mathlib.Core.Path.{_≡_}
 use mathlib.Core.Bool.{Bool, true, false}
 use mathlib.Core.Option.{none, some}
 use mathlib.Core.List.{List}
 use Rattle.base.specs.Choice.{pick, not, isNone}
 use Rattle.model.specs.Tree.{Tree}
+use Rattle.model.specs.Limits.{maxNodes}
 use Rattle.model.specs.Table.{records}
 use Rattle.model.specs.Answers.{sheetTree, ownTree, hintPart, dataPart}
 use Rattle.sheets.specs.Told.{Holds, Readable}
@@ -23,6 +24,15 @@ pub record Sheet (c : List ℕ) (len count n : ℕ) (notes : List ℕ) : Type 0 
 unfoldable pub Sheeted : List ℕ → ℕ → ℕ → ℕ → List ℕ → Bool → Type 0
 Sheeted c len count n notes true = Sheet c len count n notes
 Sheeted c len count n notes false = (table : List ℕ) → records table ≡ n → ownTree c len table count ≡ none
+
+-- notes for every sheet of this node count
+pub record Notes (count room : ℕ) : Type 0 where
+  pub enough : min count maxNodes ≤ room
+
+-- whether a table is the sheet's own; and where it is, these are the sheet's notes
+pub record Owned (c : List ℕ) (len : ℕ) (table : List ℕ) (count : ℕ) (notes : List ℕ) (own : Bool) : Type 0 where
+  pub tells : own ≡ not (isNone (ownTree c len table count))
+  pub sheet : own ≡ true → Sheet c len count (records table) notes
 
 -- a truth value that tells whether a table is a sheet's own; and where it is, the notes are the sheet's
 pub record Owning (c : List ℕ) (len : ℕ) (table : List ℕ) (count : ℕ) (notes : List ℕ) (own : Bool) : Type 0 where

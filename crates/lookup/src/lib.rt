@@ -2,6 +2,7 @@
 mod alike; // alike.rt: lexeme by lexeme
 pub mod noted; // noted.rt: a sheet by its notes
 mod parts; // parts.rt: octets compared
+mod tiers; // tiers.rt: notes in local space
 
 ghost use mathlib.Core.Path.{_≡_};
 ghost use Prim.Native.Nat.{_+_, _*_, _≤_, _<_};
@@ -16,6 +17,7 @@ use answers::Comparing;
 use answers::Place;
 use answers::refused_comparing;
 pub use noted::note_sheet;
+pub use noted::own_notes;
 pub use noted::place_by;
 use walk::Extent;
 
@@ -49,20 +51,13 @@ pub fn sheet(canonical: &[u8], length: usize) -> bool
 pub fn own_sheet(canonical: &[u8], length: usize, table: &[u32], nodes: usize) -> bool
     ensures { λ r. ⌜ r ≡ not (isNone (ownTree (now (canonical .entry)) length (now (table .entry)) nodes)) ⌝ }
 {
-    if length > canonical.len() {
-        return false;
+    if nodes <= limits::SHORT_NOTES {
+        return tiers::own_short(canonical, length, table, nodes);
     }
-    if length > limits::CANONICAL {
-        return false;
+    if nodes <= limits::MIDDLE_NOTES {
+        return tiers::own_middle(canonical, length, table, nodes);
     }
-    if nodes > limits::NODES {
-        return false;
-    }
-    if nodes > table.len() / limits::WIDTH {
-        return false;
-    }
-    let part = &canonical[..length];
-    sheets::own(part, table, nodes)
+    tiers::own_long(canonical, length, table, nodes)
 }
 
 // The k-th number of a node's record.

@@ -1,24 +1,20 @@
 // A sheet by its notes: noted, and what a node of it shows.
 ghost use mathlib.Core.Path.{_≡_};
-ghost use Rattle.lookup.specs.Noted.{Sheeted, Readables, Shows};
+ghost use lib.ListN.{length};
+ghost use Rattle.lookup.specs.Noted.{Notes, Sheeted, Owned, Readables, Shows};
 use answers::Place;
 use walk::Extent;
 
 // The notes of the first `length` octets: whether these are one fitting canonical form with this node count, and so many records
 // are lent for it.
-pub fn note_sheet(
-    canonical: &[u8],
-    length: usize,
-    notes: &mut [usize; limits::NODES],
-    records: usize,
-    nodes: usize,
-) -> bool
-    ensures { λ r. ⌜ Sheeted (now (canonical .entry)) length nodes records (now (notes .exit)) r ⌝ }
+fn note_in(canonical: &[u8], len: usize, notes: &mut [usize], records: usize, nodes: usize) -> bool
+    requires { ⌜ Notes nodes (length (now notes)) ⌝ }
+    ensures { λ r. ⌜ Sheeted (now (canonical .entry)) len nodes records (now (notes .exit)) r ⌝ }
 {
-    if length > canonical.len() {
+    if len > canonical.len() {
         return false;
     }
-    if length > limits::CANONICAL {
+    if len > limits::CANONICAL {
         return false;
     }
     if nodes > limits::NODES {
@@ -27,7 +23,7 @@ pub fn note_sheet(
     if nodes > records {
         return false;
     }
-    let part = &canonical[..length];
+    let part = &canonical[..len];
     match sheets::note(part, notes) {
         Extent::Whole {
             len: _,
@@ -44,6 +40,38 @@ pub fn note_sheet(
         }
         Extent::Refused => false,
     }
+}
+
+// The same, with room for every note.
+pub fn note_sheet(
+    canonical: &[u8],
+    length: usize,
+    notes: &mut [usize; limits::NODES],
+    records: usize,
+    nodes: usize,
+) -> bool
+    ensures { λ r. ⌜ Sheeted (now (canonical .entry)) length nodes records (now (notes .exit)) r ⌝ }
+{
+    note_in(canonical, length, notes, records, nodes)
+}
+
+// Whether the first `nodes` records are the table of the sheet of these octets (01: the sheet's own); where they are, these are its
+// notes.
+pub fn own_notes(
+    canonical: &[u8],
+    len: usize,
+    table: &[u32],
+    nodes: usize,
+    notes: &mut [usize],
+) -> bool
+    requires { ⌜ Notes nodes (length (now notes)) ⌝ }
+    ensures { λ r. ⌜ Owned (now (canonical .entry)) len (now (table .entry)) nodes (now (notes .exit)) r ⌝ }
+{
+    let records = table.len() / limits::WIDTH;
+    if note_in(canonical, len, notes, records, nodes) {
+        return sheets::holds(notes, nodes, table);
+    }
+    false
 }
 
 // Where a node's hint stands, if it is a string with a hint, or where its data stands; by the notes of a sheet, where they are told to

@@ -1,5 +1,5 @@
 -- Rows 7 and 8, and the node of a sheet with its own table.
-use Prim.Native.Nat.{ℕ, _+_, _*_, _≤_, _<_}
+use Prim.Native.Nat.{ℕ, _≤_, _<_}
 use native.Mathlib.Omega.{arith}
 use mathlib.Core.Path.{_≡_, refl, sym, ap, _∙_}
 use mathlib.Core.Bool.{Bool, true, false}
@@ -8,18 +8,22 @@ use mathlib.Core.List.{List}
 use lib.ListN.{length, getD}
 use lib.Dec.{leb}
 use borrow.Author.Tests.{le-leb, lt-leb}
-use Rattle.model.specs.Table.{width, records}
+use Rattle.model.specs.Table.{Row, records, numbers, rowOf}
 use Rattle.base.specs.Choice.{not, isNone}
 use Rattle.model.specs.Answers.{verdict, the, roomChecks, ownTree, unchanged, filled}
 use Rattle.model.specs.Edit.{replace}
 use Rattle.model.specs.Tree.{Tree, canon, nodes, depth}
 use Rattle.model.proofs.Judging.{judged-accepted, judged-refused, verdict-here, verdict-past}
+use Rattle.sheets.specs.Rows.{rowList, RowIs}
+use Rattle.sheets.specs.Told.{rowAt, Readable, Holds}
+use Rattle.sheets.specs.declared.rows.Row as coded
+use Rattle.sheets.proofs.Telling.{holds-row, holds-readable, holds-long}
 use Rattle.reader.specs.Stored.{roomVerdict}
 use Rattle.reader.proofs.Rooms.{rooms}
-use Rattle.lookup.proofs.Sheets.{tree-of, none-of, Own, own-of, own-lent}
-use Rattle.lookup.proofs.Shown.{table-at}
-use Rattle.plan.specs.Planned.{treeChecks, replaceTree, Finds}
+use Rattle.lookup.proofs.Sheets.{tree-of, none-of}
+use Rattle.plan.specs.Planned.{treeChecks, replaceTree, Recorded, Levels, Spot, Kept, Findable, Finds}
 use Rattle.plan.specs.declared.Found.the-variants.{Node, Unfound}
+use Rattle.plan.proofs.Levelling.{levels-holders}
 
 module _ (canonical : List ℕ) (len : ℕ) (table : List ℕ) (count node : ℕ) where
   not-own : ownTree canonical len table count ≡ none → (u : Tree) → replaceTree (some u) canonical len table count node ≡ unchanged 7 canonical table
@@ -61,39 +65,41 @@ module _ (canonical : List ℕ) (len : ℕ) (table : List ℕ) (count node : ℕ
       unfolding replaceTree the
       node-accepted v = judged-accepted _ _ _ (rooms-left ∙ v) ∙ ap (λ (o : Option Tree). filled (replace (the o) node u) len count canonical table) e
 
-  module _ (b : Bool) (e : b ≡ not (isNone (ownTree canonical len table count))) where
-    pub find-unowned : b ≡ false → Finds canonical len table count node (Unfound 7)
+-- ---- by notes
+
+module _ (notes : List ℕ) (count : ℕ) (own : Bool) (node : ℕ) where
+  pub find-unowned : own ≡ false → Finds notes count own node (Unfound 7)
+  unfolding Finds
+  find-unowned y = record { is = λ c len table e u. not-own c len table count node (none-of (ownTree c len table count) (sym y ∙ e)) u }
+
+  module _ (y : own ≡ true) where
+    pub find-beyond : count ≤ node → Finds notes count own node (Unfound 8)
     unfolding Finds
-    find-unowned y = record { is = not-own (none-of (ownTree canonical len table count) (sym y ∙ e)) }
+    find-beyond h = record { is = λ c len table e u. tree-of (ownTree c len table count) (sym y ∙ e) (λ t i. no-node c len table count node t i u h) }
 
-    module _ (y : b ≡ true) where
-      pub find-beyond : count ≤ node → Finds canonical len table count node (Unfound 8)
-      unfolding Finds
-      find-beyond h = tree-of (ownTree canonical len table count) (sym y ∙ e) (λ t i. record { is = λ u. no-node t i u h })
+    module _ (g : Findable notes count own) (h : node < count) where
+      kept : Kept notes count
+      kept = g .kept y
 
-      pub find-node : node < count → (s f n : ℕ) → s ≡ getD table (node * width + 1) 0 → f ≡ getD table (node * width + 2) 0 → n ≡ getD table (node * width + 3) 0
-          → Finds canonical len table count node (Node s f n)
+      pub find-readable : Readable notes node
+      find-readable = holds-readable notes count (kept .tree) (kept .held) node h
+
+      pub find-recorded : Recorded (length notes) node
+      find-recorded = record { few = omega (arith, kept .few); fits = omega (arith, holds-long notes count (kept .tree) (kept .held)) }
+
+      pub find-node : (row : coded.Row) → RowIs row (rowAt notes node) → (level : ℕ) → Levels notes node level → Finds notes count own node (Node (row .start) (row .end) (row .nodes) level)
       unfolding Finds
-      find-node h s f n p q r =
-          tree-of (ownTree canonical len table count) (sym y ∙ e)
-          (λ t i.
-          let o : Own canonical len table count t = own-of canonical len table count t i in
+      find-node row is level l =
           record {
-            tree = t;
-            own = i;
-            is = o .sheet .is;
-            lent = o .sheet .lent;
-            at = record {
-              long = sym (o .sheet .size);
-              short = omega (arith, o .sheet .size, o .sheet .fitting .long);
-              shallow = o .sheet .fitting .deep;
-              recorded = own-lent canonical len table count t o;
-              counts = λ j l. table-at canonical len table count t o j 3 l (omega arith);
-              counted = o .counted;
-              few = omega (arith, o .counted, o .sheet .fitting .many);
-              inside = omega (arith, o .counted);
-              begins = p ∙ table-at canonical len table count t o node 1 h (omega arith);
-              ends = q ∙ table-at canonical len table count t o node 2 h (omega arith);
-              has = r ∙ table-at canonical len table count t o node 3 h (omega arith);
-            };
-          })
+            good = y;
+            inside = h;
+            spot = λ t held.
+                let e : rowList row ≡ numbers (rowOf t node) = is ∙ ap numbers (holds-row notes count t held node h) in
+                record {
+                  begins = ap (λ (x : List ℕ). getD x 1 0) e;
+                  ends = ap (λ (x : List ℕ). getD x 2 0) e;
+                  has = ap (λ (x : List ℕ). getD x 3 0) e;
+                  lies = l .is ∙ levels-holders notes count t held node (omega arith);
+                  low = l .few;
+                };
+          }

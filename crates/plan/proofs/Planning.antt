@@ -1,19 +1,28 @@
 -- The plan: what is found, resized and judged.
-use Prim.Native.Nat.{ℕ, _≤_, _<_}
+use Prim.Native.Nat.{ℕ, _+_, _-_, _≤_, _<_}
 use native.Mathlib.Omega.{arith}
-use mathlib.Core.Path.{_≡_, sym, _∙_, subst}
+use mathlib.Core.Path.{_≡_, refl, sym, ap, _∙_, subst}
+use mathlib.Core.Bool.{Bool, true}
+use mathlib.Core.Option.{Option, some}
 use mathlib.Core.List.{List}
 use lib.ListN.{length}
 use lib.Dec.{ltb}
 use borrow.Author.Tests.{le-ltb, ltb-false}
+use Rattle.base.proofs.Cases.{some-same}
+use Rattle.base.specs.Choice.{chain}
 use Rattle.model.specs.Limits.{maxDepth}
 use Rattle.model.specs.Edit.{replace}
 use Rattle.model.specs.Table.{records}
+use Rattle.model.specs.Answers.{sheetTree, ownTree}
 use Rattle.model.specs.Tree.{Tree, canon, nodes, depth}
 use Rattle.reader.specs.Stored.{roomVerdict}
 use Rattle.reader.proofs.Rooms.{Lodged, roomy}
-use Rattle.plan.specs.Planned.{Sized, Small, Entered, Refusing, Finds, Resizable, Weighed, Resized, Plans}
+use Rattle.lookup.specs.Noted.{Sheet}
+use Rattle.lookup.proofs.Sheets.{tree-of, sheet-of, Own, own-of}
+use Rattle.lookup.proofs.Sheets as good
+use Rattle.plan.specs.Planned.{Known, Lends, Sized, Small, Findable, Finding, Refusing, Finds, AtNode, Resizable, resized, Plans}
 use Rattle.plan.proofs.Finding.{node-refused, node-accepted}
+use Rattle.plan.proofs.Resizing.{resizable, long-is, nodes-are, deep-where, ordered}
 use Rattle.plan.specs.declared.Sizes.{Sizes}
 use Rattle.plan.specs.declared.Found.{Found}
 use Rattle.plan.specs.declared.Found.the-variants.{Node, Unfound}
@@ -24,46 +33,103 @@ same-verdict : (o k d d′ : ℕ) {n n′ l l′ : ℕ} → ltb maxDepth d ≡ l
 unfolding roomVerdict
 same-verdict o k d d′ p q r = rw (p, q, r)
 
-module _ (canonical : List ℕ) (len : ℕ) (table : List ℕ) (count node : ℕ) (text : Sizes) (small : Small text) (r : Found) (w : Finds canonical len table count node r) where
-  pub plan-unfound : (k : ℕ) → r ≡ Unfound k → Plans canonical len table count node text (Misfit k)
-  unfolding Finds Plans
-  plan-unfound k e =
-      let g : Refusing canonical len table count node k = subst (Finds canonical len table count node) e w in
-      record { answer = λ u s. g .is u }
+module _ (c : List ℕ) (len : ℕ) (notes : List ℕ) (own : Bool) (room count node : ℕ) (known : Known c len count room notes own) where
+  pub plan-findable : Findable notes count own
+  plan-findable =
+      record {
+        kept = λ y.
+            let s : Sheet c len count room notes = known .sheet y in
+            record { tree = s .tree; held = s .held; few = omega (arith, s .held .counted, sheet-of c len (s .tree) (s .is) .fitting .many) };
+      }
 
-  module _ (start end n : ℕ) (e : r ≡ Node start end n) where
-    entered : Entered canonical len table count node start end n
-    unfolding Finds
-    entered = subst (Finds canonical len table count node) e w
+  module _ (text : Sizes) (small : Small text) (r : Found) (w : Finds notes count own node r) where
+    pub plan-unfound : (k : ℕ) → r ≡ Unfound k → Plans c len count room own node text (Misfit k)
+    unfolding Finds Plans
+    plan-unfound k e =
+        let g : Refusing count own node k = subst (Finds notes count own node) e w in
+        record { answer = λ table l u s. g .is c len table (l .tells) u }
 
-    pub plan-resizable : Resizable table len count node start end n text
-    plan-resizable = record { tree = entered .tree; at = entered .at; small = small }
+    module _ (start end n level : ℕ) (e : r ≡ Node start end n level) where
+      finding : Finding notes count own node start end n level
+      unfolding Finds
+      finding = subst (Finds notes count own node) e w
 
-    module _ (to : Sizes) (z : Resized table len count node start end n text to) (row : ℕ) (v : row ≡ roomVerdict (to .depth) (to .nodes) (to .len) (length canonical) (records table)) where
-      weighed : (u : Tree) → Sized u text → Weighed (replace (entered .tree) node u) to
-      weighed u s = z .is (entered .tree) (entered .at) u s
+      sheet : Sheet c len count room notes
+      sheet = known .sheet (finding .good)
 
-      verdict-of : (u : Tree) → Sized u text
-          → row ≡ roomVerdict (depth (replace (entered .tree) node u)) (nodes (replace (entered .tree) node u)) (length (canon (replace (entered .tree) node u))) (length canonical) (records table)
-      verdict-of u s = let x = weighed u s in v ∙ same-verdict (length canonical) (records table) (to .depth) (depth (replace (entered .tree) node u)) (x .deep) (x .counted) (x .long)
+      abbrev t : Tree
+      t = sheet .tree
 
-      inside : node < count
-      inside = omega (arith, entered .at .inside, entered .at .counted)
+      good-sheet : good.Sheet c len t
+      good-sheet = sheet-of c len t (sheet .is)
 
-      pub plan-misfit : 0 < row → Plans canonical len table count node text (Misfit row)
-      unfolding Plans
-      plan-misfit h = record { answer = λ u s. node-refused canonical len table count node (entered .tree) (entered .own) u inside row (verdict-of u s) h }
-
-      pub plan-fits : row ≤ 0 → Plans canonical len table count node text (Fits start end (to .len) (to .nodes))
-      unfolding Plans
-      plan-fits h =
-          let none : row ≡ 0 = omega arith in
-          let g : Lodged (to .depth) (to .nodes) (to .len) (length canonical) (records table) = roomy (to .depth) (to .nodes) (to .len) (length canonical) (records table) (sym v ∙ none) in
+      at : AtNode len count start end n level t node
+      at =
           record {
-            n = n;
-            found = entered;
-            takes = λ u s.
-                let x = weighed u s in
-                record { long = x .long; counted = x .counted; shallow = ltb-false maxDepth _ (sym (x .deep) ∙ le-ltb maxDepth (to .depth) (g .shallow)); recorded = omega (arith, g .recorded); few = g .few; short = g .small; lent = g .lent };
-            answer = λ u s. node-accepted canonical len table count node (entered .tree) (entered .own) u inside (sym (verdict-of u s) ∙ none);
+            long = sym (good-sheet .size);
+            short = omega (arith, good-sheet .size, good-sheet .fitting .long);
+            shallow = good-sheet .fitting .deep;
+            counted = sheet .held .counted;
+            few = omega (arith, sheet .held .counted, good-sheet .fitting .many);
+            inside = omega (arith, finding .inside, sheet .held .counted);
+            spot = finding .spot t (sheet .held);
           }
+
+      pub plan-resizable : Resizable len count start end n level text
+      plan-resizable = resizable len count node start end n level t at text small
+
+      -- the sheet has one tree
+      owned-tree : (table : List ℕ) → Lends c len count room own table → ownTree c len table count ≡ some t
+      owned-tree table l =
+          tree-of (ownTree c len table count) (sym (finding .good) ∙ l .tells)
+          (λ u i.
+          let o : Own c len table count u = own-of c len table count u i in
+          i ∙ ap some (sym (some-same (λ (v : Tree). t ≡ v) (sym (good-sheet .decoded) ∙ o .sheet .decoded) refl)))
+
+      module _ (to : Sizes) (z : to ≡ resized len count start end n level text) (row : ℕ) (v : row ≡ roomVerdict (to .depth) (to .nodes) (to .len) (length c) room) where
+        deep : (u : Tree) → Sized u text → ltb maxDepth (to .depth) ≡ ltb maxDepth (depth (replace t node u))
+        deep u s = ap (λ (x : Sizes). ltb maxDepth (x .depth)) z ∙ deep-where len count node start end n level t at u text s
+
+        counted : (u : Tree) → Sized u text → to .nodes ≡ nodes (replace t node u)
+        counted u s = ap (λ (x : Sizes). x .nodes) z ∙ nodes-are len count node start end n level t at u text s
+
+        long : (u : Tree) → Sized u text → to .len ≡ length (canon (replace t node u))
+        long u s = ap (λ (x : Sizes). x .len) z ∙ long-is len count node start end n level t at u text s
+
+        verdict-of : (table : List ℕ) → Lends c len count room own table → (u : Tree) → Sized u text
+            → row ≡ roomVerdict (depth (replace t node u)) (nodes (replace t node u)) (length (canon (replace t node u))) (length c) (records table)
+        verdict-of table l u s =
+            v ∙ same-verdict (length c) room (to .depth) (depth (replace t node u)) (deep u s) (counted u s) (long u s)
+            ∙ ap (roomVerdict (depth (replace t node u)) (nodes (replace t node u)) (length (canon (replace t node u))) (length c)) (sym (l .recorded))
+
+        pub plan-misfit : 0 < row → Plans c len count room own node text (Misfit row)
+        unfolding Plans
+        plan-misfit h =
+            record { answer = λ table l u s. node-refused c len table count node t (owned-tree table l) u (finding .inside) row (verdict-of table l u s) h }
+
+        pub plan-fits : row ≤ 0 → Plans c len count room own node text (Fits start end (to .len) (to .nodes))
+        unfolding Plans
+        plan-fits h =
+            let none : row ≡ 0 = omega arith in
+            let g : Lodged (to .depth) (to .nodes) (to .len) (length c) room = roomy (to .depth) (to .nodes) (to .len) (length c) room (sym v ∙ none) in
+            record {
+              good = finding .good;
+              number = n;
+              level = level;
+              tree = t;
+              is = sheet .is;
+              at = at;
+              recorded = sheet .lent;
+              grows = omega (arith, ap (λ (x : Sizes). x .nodes) z);
+              takes = λ u s.
+                  record {
+                    long = long u s;
+                    counted = counted u s;
+                    shallow = ltb-false maxDepth _ (sym (deep u s) ∙ le-ltb maxDepth (to .depth) (g .shallow));
+                    recorded = g .recorded;
+                    few = g .few;
+                    short = g .small;
+                    lent = g .lent;
+                  };
+              answer = λ table l u s. node-accepted c len table count node t (owned-tree table l) u (finding .inside) (sym (verdict-of table l u s) ∙ none);
+            }

@@ -1,9 +1,9 @@
 // Replacing judged, with nothing written: where the node stands, the sizes of the tree with it replaced, and whether that
-// tree has room. What is put in its place is known by its sizes alone.
+// tree has room. What is put in its place is known by its sizes alone, the sheet by its notes, and the table by the number of its
+// records and whether it is the sheet's own.
 ghost use mathlib.Core.Path.{_≡_};
-ghost use Prim.Native.Nat.{_+_, _*_, _≤_};
-ghost use lib.ListN.{length, getD};
-ghost use Rattle.plan.specs.Planned.{Small, Finds, Recorded, Levels, Resizable, Resized, Plans};
+ghost use lib.ListN.{length};
+ghost use Rattle.plan.specs.Planned.{Known, Small, Findable, Finds, Recorded, Levels, Resizable, resized, Plans};
 
 // The canonical length, the node count and the depth of a tree.
 pub struct Sizes {
@@ -12,12 +12,13 @@ pub struct Sizes {
     pub depth: usize,
 }
 
-// Where a node stands and how many nodes it has, or the number of the refusal.
+// Where a node stands, how many nodes it has, and how many lists are around it; or the number of the refusal.
 pub enum Found {
     Node {
         start: usize,
         end: usize,
         count: usize,
+        level: usize,
     },
     Unfound {
         number: u32,
@@ -37,33 +38,15 @@ pub enum Plan {
     },
 }
 
-// The node of a sheet with its own table.
-fn find(canonical: &[u8], length: usize, table: &[u32], nodes: usize, node: usize) -> Found
-    ensures { λ r. ⌜ Finds (now (canonical .entry)) length (now (table .entry)) nodes node r ⌝ }
-{
-    if lookup::own_sheet(canonical, length, table, nodes) {
-        if node >= nodes {
-            return Found::Unfound { number: 8 };
-        }
-        Found::Node {
-            start: lookup::number(table, node, 1),
-            end: lookup::number(table, node, 2),
-            count: lookup::number(table, node, 3),
-        }
-    } else {
-        Found::Unfound { number: 7 }
-    }
-}
-
-// How many lists are around a node: of the records before its own, those that count it among their nodes.
-fn level(table: &[u32], node: usize) -> usize
-    requires { ⌜ Recorded (length (now table)) node ⌝ }
-    ensures { λ r. ⌜ Levels (now (table .entry)) node r ⌝ }
+// How many lists are around a node: of the nodes before it, those that count it among theirs.
+fn level(notes: &[usize], node: usize) -> usize
+    requires { ⌜ Recorded (length (now notes)) node ⌝ }
+    ensures { λ r. ⌜ Levels (now (notes .entry)) node r ⌝ }
 {
     let mut level: usize = 0;
     let mut j: usize = 0;
     while j < node {
-        if lookup::number(table, j, 3) > node - j {
+        if sheets::over(notes, j, node - j) {
             level += 1;
         }
         j += 1;
@@ -71,50 +54,72 @@ fn level(table: &[u32], node: usize) -> usize
     level
 }
 
-// The sizes of the tree with the node replaced by one of the sizes given. The old tree fits, so that the new one is too deep
-// only where the lists around the node and the text's together are: the depth told is theirs.
+// The node of a sheet with its own table.
+fn find(notes: &[usize], own: bool, nodes: usize, node: usize) -> Found
+    requires { ⌜ Findable (now notes) nodes own ⌝ }
+    ensures { λ r. ⌜ Finds (now (notes .entry)) nodes own node r ⌝ }
+{
+    if own {
+        if node >= nodes {
+            return Found::Unfound { number: 8 };
+        }
+        let row = sheets::row_of(notes, node);
+        let around = level(notes, node);
+        return Found::Node {
+            start: row.start as usize,
+            end: row.end as usize,
+            count: row.nodes as usize,
+            level: around,
+        };
+    }
+    Found::Unfound { number: 7 }
+}
+
+// The sizes of a tree of which a part gives way to what has the sizes given. The old tree fits, so that the new one is too deep
+// only where the lists around the part and the text's together are: the depth told is theirs.
 fn resize(
-    table: &[u32],
     length: usize,
     nodes: usize,
-    node: usize,
     start: usize,
     end: usize,
     count: usize,
+    level: usize,
     text: Sizes,
 ) -> Sizes
-    requires { ⌜ Resizable (now table) length nodes node start end count text ⌝ }
-    ensures { λ r. ⌜ Resized (now (table .entry)) length nodes node start end count text r ⌝ }
+    requires { ⌜ Resizable length nodes start end count level text ⌝ }
+    ensures { λ r. ⌜ r ≡ resized length nodes start end count level text ⌝ }
 {
     Sizes {
         len: length - (end - start) + text.len,
         nodes: nodes - count + text.nodes,
-        depth: level(table, node) + text.depth,
+        depth: level + text.depth,
     }
 }
 
-// Rows 7, 8, 4, 5 and 6.
+// Rows 7, 8, 4, 5 and 6, where so many records are lent.
 pub fn judge(
     canonical: &[u8],
     length: usize,
-    table: &[u32],
+    notes: &[usize],
+    own: bool,
+    records: usize,
     nodes: usize,
     node: usize,
     text: Sizes,
 ) -> Plan
     requires { ⌜ Small text ⌝ }
-    ensures { λ r. ⌜ Plans (now (canonical .entry)) length (now (table .entry)) nodes node text r ⌝ }
+    requires { ⌜ Known (now canonical) length nodes records (now notes) own ⌝ }
+    ensures { λ r. ⌜ Plans (now (canonical .entry)) length nodes records own node text r ⌝ }
 {
-    match find(canonical, length, table, nodes, node) {
-        Found::Node { start, end, count } => {
-            let to = resize(table, length, nodes, node, start, end, count, text);
-            let row = reader::room(
-                to.len,
-                to.nodes,
-                to.depth,
-                canonical.len(),
-                table.len() / limits::WIDTH,
-            );
+    match find(notes, own, nodes, node) {
+        Found::Node {
+            start,
+            end,
+            count,
+            level,
+        } => {
+            let to = resize(length, nodes, start, end, count, level, text);
+            let row = reader::room(to.len, to.nodes, to.depth, canonical.len(), records);
             if row > 0 {
                 return Plan::Misfit { number: row };
             }

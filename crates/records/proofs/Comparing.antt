@@ -23,10 +23,10 @@ use Rattle.sheets.specs.declared.rows.Row as coded
 use Rattle.sheets.proofs.Filling.{Comparing, compare-start, compare-on, compare-off, compare-end}
 use Rattle.sheets.proofs.Telling.{holds-readable}
 use Rattle.lookup.specs.Noted.{Sheet, Sheeted, Owning, Readables}
+use Rattle.plan.specs.Planned.{Known, Lends}
 use Rattle.records.specs.declared.Record.{Record}
 use Rattle.records.specs.Numbers.{eight, numbers}
-use Rattle.records.specs.Flat.{nil}
-use Rattle.records.specs.Told.{agrees, agreed, looked, Comparable}
+use Rattle.records.specs.Told.{nil, agrees, agreed, looked, Comparable}
 use Rattle.records.proofs.Tables.{length-numbers, eight-numbers}
 
 -- ---- eight numbers
@@ -153,3 +153,11 @@ module _ (c : List ℕ) (len count : ℕ) (ys : List Record) (notes : List ℕ) 
   unfolding Sheeted looked agreed
   sheet-readables true s own e = record { read = λ y i h. holds-readable notes count (s .tree) (s .held) i h }
   sheet-readables false s own e = record { read = λ y i h. differ y e }
+
+  pub sheet-known : (noted : Bool) → Sheeted c len count (length ys) notes noted → (own : Bool) → own ≡ agreed ys notes noted (looked noted count) → Known c len count (length ys) notes own
+  unfolding Sheeted looked agreed
+  sheet-known true s own e = record { sheet = λ y. s }
+  sheet-known false s own e = record { sheet = λ y. differ y e }
+
+  pub sheet-lends : (noted : Bool) → Sheeted c len count (length ys) notes noted → (own : Bool) → own ≡ agreed ys notes noted (looked noted count) → Lends c len count (length ys) own (numbers ys)
+  sheet-lends noted s own e = record { recorded = omega (arith, length-numbers ys); tells = sheet-owning noted s own e .tells }

@@ -1,19 +1,14 @@
--- Facts of the tables, of machine values, truth values and numbers, that the walks cite.
+-- Facts of machine values, truth values and numbers, that the walks cite.
 use mathlib.Core.Path.{_≡_, refl, sym, _∙_, ap, subst}
 use mathlib.Core.Bool.{Bool, true, false}
-use mathlib.Core.List.{List, [], _∷_}
+use mathlib.Core.List.{[], _∷_}
 use Prim.Native.Nat.{ℕ, zero, suc, _+_, _*_, _<_, _^_}
 use native.Mathlib.Nat.{add-zero, add-suc}
 use native.Mathlib.Omega.{arith}
 use lib.Dec.{T}
-use lib.ListN.{length, length-set, getD}
-use lib.Seq.{length-sets}
 use package.mir.Syntax.{w64, tyInt, tyUnit, tyBool}
 use package.mir.Val.{Val, WT, hasTy, vunit, vbool, vint}
 use denote.Steps.{only}
-use Rattle.records.specs.declared.Record.{Record}
-use Rattle.records.specs.Numbers.{eight}
-use Rattle.records.specs.Flat.{nil, spelled, written, filled, flattened}
 
 pub holds : (t : Bool) → T t → t ≡ true
 holds true _ = refl
@@ -39,17 +34,3 @@ is-bool w b e = subst (λ (v : Val). T (hasTy tyBool v) × WT v) (sym (ap only e
 
 pub is-word : (w : Val) (n : ℕ) → w ∷ [] ≡ vint w64 n ∷ [] → n < 2 ^ 64 → T (hasTy (tyInt w64) w) × WT w
 is-word w n e l = subst (λ (v : Val). T (hasTy (tyInt w64) v) × WT v) (sym (ap only e)) (tt, record { fits = l })
-
-pub length-filled : (flat : List ℕ) (n : ℕ) (xs : List Record) → length (filled flat n xs) ≡ length xs
-unfolding filled
-length-filled flat zero xs = refl
-length-filled flat (suc n) xs = length-set (filled flat n xs) n (spelled flat n) ∙ length-filled flat n xs
-
-pub length-written : (flat : List ℕ) (i : ℕ) (r : Record) → length (written flat i r) ≡ length flat
-unfolding written
-length-written flat i r = length-sets flat (8 * i) (eight r)
-
-pub length-flattened : (xs : List Record) (n : ℕ) (flat : List ℕ) → length (flattened xs n flat) ≡ length flat
-unfolding flattened
-length-flattened xs zero flat = refl
-length-flattened xs (suc n) flat = length-written (flattened xs n flat) n (getD xs n nil) ∙ length-flattened xs n flat

@@ -29,8 +29,7 @@ use denote.Triple.Walked.{says}
 use Rattle.answers.specs.declared.Reading.{Reading}
 use Rattle.answers.proofs.Reading as R
 use Rattle.answers.proofs.Reading.Laws as R′
-use Rattle.records.specs.Flat.{touched}
-use Rattle.records.specs.Told.{countOf, told, Tells}
+use Rattle.records.specs.Told.{touched, countOf, told, Tells}
 use Rattle.records.proofs.tell as tell
 use Rattle.records.specs.declared.Record.{Record}
 use Rattle.records.proofs.Spelled.{Notes}

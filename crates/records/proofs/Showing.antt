@@ -13,7 +13,7 @@ use Rattle.answers.specs.declared.Place.the-variants as place
 use Rattle.lookup.proofs.Shown.{hint-ordered, hint-ended, data-ordered, data-ended}
 use Rattle.records.specs.declared.Record.{Record}
 use Rattle.records.specs.Numbers.{numbers, placeOf}
-use Rattle.records.specs.Flat.{Inside}
+use Rattle.records.specs.Places.{Inside}
 use Rattle.lookup.specs.Noted.{Owning, Shows}
 
 -- by the notes of a sheet that has these records

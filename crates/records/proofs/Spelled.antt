@@ -1,13 +1,12 @@
--- The types that the walks name: an answer's and a place's, as MIR spells them, those of lent slices, and the flat table's.
+-- The types that the walks name: an answer's and a place's, as MIR spells them, those of lent slices, and the notes'.
 use mathlib.Core.List.{[], _∷_}
 use package.mir.Syntax.{Lifetime, Mutability, Ty, w8, w32, w64, tyInt, tyRef, tyArray, tyEnum, tyStruct, tcons, tnil, ttcons, ttnil}
 use denote.RattleType.{RattleType}
 use denote.Memory.{pointee}
 use denote.Slice.{sliceTy}
-use denote.Builtin.{u32, usize}
+use denote.Builtin.{usize}
 use denote.Array.{Array}
 use Rattle.model.specs.Limits.{maxNodes}
-use Rattle.records.specs.Flat.{flatLength}
 use Rattle.records.proofs.Record as T
 
 abbrev pub word : Ty
@@ -23,7 +22,7 @@ answerTy =
 abbrev pub placeTy : Ty
 placeTy = tyEnum (97 ∷ 110 ∷ 115 ∷ 119 ∷ 101 ∷ 114 ∷ 115 ∷ 58 ∷ 58 ∷ 80 ∷ 108 ∷ 97 ∷ 99 ∷ 101 ∷ []) (ttcons (tcons word (tcons word tnil)) (ttcons tnil ttnil))
 
--- what points to an octet, to a record, and to the flat table; and slices of octets and of records
+-- what points to an octet, to a record; and slices of octets and of records
 abbrev pub toByte : Lifetime → Mutability → Ty
 toByte ℓ μ = tyRef ℓ μ (tyInt w8)
 
@@ -35,16 +34,6 @@ bytes ℓ μ = sliceTy (toByte ℓ μ)
 
 abbrev pub recs : Lifetime → Mutability → Ty
 recs ℓ μ = sliceTy (toRecord ℓ μ)
-
--- the flat table
-abbrev pub Flat : RattleType
-Flat = Array u32 flatLength
-
-abbrev pub flatTy : Ty
-flatTy = tyArray (tyInt w32) flatLength
-
-abbrev pub toFlat : Lifetime → Mutability → Ty
-toFlat ℓ μ = tyRef ℓ μ flatTy
 
 -- the notes
 abbrev pub Notes : RattleType

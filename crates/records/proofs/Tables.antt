@@ -9,8 +9,7 @@ use lib.Seq.{sets, drop-drop, take-add, getD-drop, length-take-le}
 use Rattle.base.proofs.Stores.{sets-all}
 use Rattle.records.specs.declared.Record.{Record}
 use Rattle.records.specs.Numbers.{eight, numbers}
-use Rattle.records.specs.Flat.{nil, spelled, written, filled, flattened}
-use Rattle.records.proofs.Facts.{length-filled}
+use Rattle.records.specs.Told.{nil}
 
 pub length-numbers : (xs : List Record) → length (numbers xs) ≡ 8 * length xs
 unfolding numbers
@@ -64,27 +63,6 @@ numbers-set [] i r l = absurd (omega arith)
 numbers-set (x ∷ xs) zero r l = refl
 numbers-set (x ∷ xs) (suc i) r l = ap (λ (k : List ℕ). eight x ++ k) (numbers-set xs i r (omega arith)) ∙ sym (sets-eight x (numbers xs) (eight r) i)
 
-front-8 : (l : List ℕ) → 8 ≤ length l
-    → take 8 l ≡ getD l 0 0 ∷ getD l 1 0 ∷ getD l 2 0 ∷ getD l 3 0 ∷ getD l 4 0 ∷ getD l 5 0 ∷ getD l 6 0 ∷ getD l 7 0 ∷ []
-front-8 [] h = absurd (omega arith)
-front-8 (a ∷ []) h = absurd (omega arith)
-front-8 (a ∷ b ∷ []) h = absurd (omega arith)
-front-8 (a ∷ b ∷ c ∷ []) h = absurd (omega arith)
-front-8 (a ∷ b ∷ c ∷ d ∷ []) h = absurd (omega arith)
-front-8 (a ∷ b ∷ c ∷ d ∷ e ∷ []) h = absurd (omega arith)
-front-8 (a ∷ b ∷ c ∷ d ∷ e ∷ f ∷ []) h = absurd (omega arith)
-front-8 (a ∷ b ∷ c ∷ d ∷ e ∷ f ∷ g ∷ []) h = absurd (omega arith)
-front-8 (a ∷ b ∷ c ∷ d ∷ e ∷ f ∷ g ∷ h ∷ l) _ = refl
-
-pub eight-spelled : (flat : List ℕ) (i : ℕ) → 8 * i + 8 ≤ length flat → take 8 (drop (8 * i) flat) ≡ eight (spelled flat i)
-unfolding spelled
-eight-spelled flat i h =
-    front-8 (drop (8 * i) flat) (omega (arith, length-drop (8 * i) flat))
-    ∙ (λ t. (at 0 ∙ ap (λ (k : ℕ). getD flat k 0) (add-zero (8 * i))) t ∷ at 1 t ∷ at 2 t ∷ at 3 t ∷ at 4 t ∷ at 5 t ∷ at 6 t ∷ at 7 t ∷ [])
-  where
-    at : (j : ℕ) → getD (drop (8 * i) flat) j 0 ≡ getD flat (8 * i + j) 0
-    at j = getD-drop (8 * i) flat j 0
-
 pub eight-numbers : (xs : List Record) (i : ℕ) → i < length xs → take 8 (drop (8 * i) (numbers xs)) ≡ eight (getD xs i nil)
 unfolding numbers
 eight-numbers [] i l = absurd (omega arith)
@@ -112,20 +90,3 @@ next-eight f n k h h′ =
     ∙ sym (append-assoc p v (drop (8 * k + 8) n))
     ∙ ap (λ (l : List ℕ). l ++ drop (8 * k + 8) n) (sym (take-add (8 * k) 8 f))
     ∙ ap (λ (j : ℕ). take j f ++ drop j n) (sym more)
-
-pub numbers-filled : (f : List ℕ) (n : ℕ) (xs : List Record) → n ≤ length xs → 8 * n ≤ length f → numbers (filled f n xs) ≡ take (8 * n) f ++ drop (8 * n) (numbers xs)
-unfolding filled
-numbers-filled f zero xs h l = refl
-numbers-filled f (suc n) xs h l =
-    numbers-set (filled f n xs) n (spelled f n) (omega (arith, length-filled f n xs))
-    ∙ ap (λ (v : List ℕ). sets (numbers (filled f n xs)) (8 * n) v) (sym (eight-spelled f n (omega arith)))
-    ∙ ap (λ (k : List ℕ). sets k (8 * n) (take 8 (drop (8 * n) f))) (numbers-filled f n xs (omega arith) (omega arith))
-    ∙ next-eight f (numbers xs) n (omega arith) (omega (arith, length-numbers xs))
-
-pub flattened-is : (xs : List Record) (n : ℕ) (f : List ℕ) → n ≤ length xs → 8 * n ≤ length f → flattened xs n f ≡ take (8 * n) (numbers xs) ++ drop (8 * n) f
-unfolding flattened written
-flattened-is xs zero f h l = refl
-flattened-is xs (suc n) f h l =
-    ap (λ (v : List ℕ). sets (flattened xs n f) (8 * n) v) (sym (eight-numbers xs n (omega arith)))
-    ∙ ap (λ (k : List ℕ). sets k (8 * n) (take 8 (drop (8 * n) (numbers xs)))) (flattened-is xs n f (omega arith) (omega arith))
-    ∙ next-eight (numbers xs) f n (omega (arith, length-numbers xs)) (omega arith)

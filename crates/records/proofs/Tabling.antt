@@ -19,14 +19,14 @@ use Rattle.sheets.specs.declared.rows.Row as coded
 use Rattle.sheets.proofs.Telling.{holds-row, holds-readable}
 use Rattle.reader.specs.Stored.{Accepting, Puts}
 use Rattle.reader.proofs.Rooms.{settled-front}
+use Rattle.editor.specs.Given.{Gives}
 use Rattle.answers.specs.Cases.{outcome}
 use Rattle.answers.specs.declared.Reading.{Reading}
 use Rattle.answers.specs.declared.Reading.the-variants.{Accepted, Refused}
 use Rattle.answers.specs.declared.Refusal.{Refusal}
 use Rattle.records.specs.declared.Record.{Record}
 use Rattle.records.specs.Numbers.{eight, numbers}
-use Rattle.records.specs.Flat.{nil, touched}
-use Rattle.records.specs.Told.{recordOf, countOf, toldAt, told, Tellable, Tells}
+use Rattle.records.specs.Told.{nil, touched, recordOf, countOf, toldAt, told, Tellable, Tells}
 use Rattle.records.proofs.Tables.{length-numbers, numbers-set, eight-more, next-eight}
 
 -- ---- one record
@@ -171,3 +171,17 @@ module _ (answer : List ℕ → Outcome) (c : List ℕ) (ys : List Record) (note
       ∙ settled-front (numbers ys) (tableOf (p .tree)) (omega (arith, table-length (p .tree), p .held .counted, p .recorded, length-numbers ys)))
       ∙ p .is (numbers ys) records-are
   put-told (Refused f) p = p (numbers ys) records-are
+
+-- ---- the same where old records were in use
+
+module _ (Lent : List ℕ → Type 0) (answer : List ℕ → Outcome) (c : List ℕ) (ys : List Record) (notes : List ℕ) (old : ℕ) where
+  pub give-tells : (r : Reading) → Gives Lent answer c (length ys) notes old r → Tells notes r old (length ys)
+  unfolding Gives countOf touched
+  give-tells (Accepted len count) p = record { lent = omega (arith, p .recorded .0, p .recorded .1); read = λ i h. holds-readable notes count (p .tree) (p .held) i h }
+  give-tells (Refused f) p = record { lent = omega arith; read = λ i h. absurd (omega arith) }
+
+  pub give-told : Lent (numbers ys) → (r : Reading) → Gives Lent answer c (length ys) notes old r → outcome r c (numbers (told notes (countOf r) (touched r old) ys)) ≡ answer (numbers ys)
+  unfolding Gives countOf touched told
+  give-told l (Accepted len count) p =
+      ap (outcome (Accepted len count) c) (told-settled notes count (p .tree) (p .held) old ys (omega (arith, p .recorded .0, p .recorded .1))) ∙ p .is (numbers ys) l
+  give-told l (Refused f) p = p (numbers ys) l

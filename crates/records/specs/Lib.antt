@@ -1,3 +1,3 @@
 pub mod Numbers
-pub mod Flat
+pub mod Places
 pub mod Told

@@ -1,5 +1,5 @@
 -- The records that notes tell.
-use Prim.Native.Nat.{ℕ, zero, suc, _≤_, _<_}
+use Prim.Native.Nat.{ℕ, zero, suc, _≤_, _<_, max}
 use mathlib.Core.Bool.{Bool}
 use mathlib.Core.List.{List}
 use lib.ListN.{getD, set}
@@ -12,7 +12,10 @@ use Rattle.answers.specs.declared.Reading.{Reading}
 use Rattle.answers.specs.declared.Reading.the-variants as reading
 use Rattle.records.specs.declared.Record.{Record}
 use Rattle.records.specs.Numbers.{eight}
-use Rattle.records.specs.Flat.{nil, touched}
+
+-- a record of zeros
+abbrev pub nil : Record
+nil = record { kind = 0; start = 0; end = 0; nodes = 0; «hint_start» = 0; «hint_end» = 0; «data_start» = 0; «data_end» = 0 }
 
 -- the record with the numbers of a row
 abbrev pub recordOf : Row → Record
@@ -32,6 +35,12 @@ recordOf r =
 unfoldable pub countOf : Reading → ℕ
 countOf (reading.Accepted len count) = count
 countOf (reading.Refused f) = 0
+
+-- how many records an answer may change, where `old` were in use. 01, "it sets octets between the new and a larger old length to 0, and
+-- records likewise; past both, nothing changes", and in a refusal "all lent space is unchanged"
+unfoldable pub touched : Reading → ℕ → ℕ
+touched (reading.Accepted len count) old = max old count
+touched (reading.Refused f) old = 0
 
 -- record i of count nodes: the one that its note tells, and zeros past the count
 unfoldable pub toldAt : List ℕ → ℕ → ℕ → Record

@@ -1,19 +1,16 @@
-// The node table as a lent slice of records. Reading and showing go by the notes of a sheet, in local space; replacing works over a
-// flat copy of the table, eight numbers to a record. The functions that take records are few and thin.
-mod flat; // flat.rt: the flat copy
+// The node table as a lent slice of records. Every entry goes by the notes of a sheet, in local space. The functions that take
+// records are few and thin.
 mod told; // told.rt: the record that a note tells
 
 ghost use mathlib.Core.Path.{_≡_};
-ghost use Prim.Native.Nat.{_<_};
 ghost use lib.ListN.{length};
 ghost use mathlib.Core.List.{[]};
-ghost use Rattle.model.specs.Limits.{maxNodes};
 ghost use Rattle.model.specs.Answers.{reading, replacing, hintPart, dataPart, hintShown, dataShown, shownOr};
 ghost use Rattle.answers.specs.Cases.{outcome, placed};
 ghost use Rattle.answers.specs.Shown.{Shows, shownAt};
 ghost use Rattle.records.specs.Numbers.{numbers, placeOf};
-ghost use Rattle.records.specs.Told.{countOf, told, agreed, looked, Tells, Comparable};
-ghost use Rattle.records.specs.Flat.{spelled, written, filled, flattened, touched, held, Fills, Inside};
+ghost use Rattle.records.specs.Places.{Inside};
+ghost use Rattle.records.specs.Told.{countOf, touched, told, agreed, looked, Tells, Comparable};
 use answers::Place;
 use answers::Reading;
 
@@ -30,60 +27,12 @@ pub struct Record {
     pub data_end: u32,
 }
 
-// The record that the eight numbers from `8 * i` on spell.
-fn decode(flat: &[u32; limits::NUMBERS], i: usize) -> Record
-    requires { ⌜ i < maxNodes ⌝ }
-    ensures { λ r. ⌜ r ≡ spelled (now (flat .entry)) i ⌝ }
-{
-    let at = limits::WIDTH * i;
-    Record {
-        kind: flat[at],
-        start: flat[at + 1],
-        end: flat[at + 2],
-        nodes: flat[at + 3],
-        hint_start: flat[at + 4],
-        hint_end: flat[at + 5],
-        data_start: flat[at + 6],
-        data_end: flat[at + 7],
-    }
-}
-
-// Eight numbers, from `8 * i` on, spell `r`.
-fn encode(flat: &mut [u32; limits::NUMBERS], i: usize, r: Record)
-    requires { ⌜ i < maxNodes ⌝ }
-    ensures { λ _. ⌜ now (flat .exit) ≡ written (now (flat .entry)) i r ⌝ }
-{
-    let at = limits::WIDTH * i;
-    flat[at] = r.kind;
-    flat[at + 1] = r.start;
-    flat[at + 2] = r.end;
-    flat[at + 3] = r.nodes;
-    flat[at + 4] = r.hint_start;
-    flat[at + 5] = r.hint_end;
-    flat[at + 6] = r.data_start;
-    flat[at + 7] = r.data_end;
-}
-
-// The records that an answer touches become those that `flat` spells.
-fn fill(records: &mut [Record], flat: &[u32; limits::NUMBERS], r: Reading, old: usize)
-    requires { ⌜ Fills r old (length (now records)) ⌝ }
-    ensures { λ _. ⌜ now (records .exit) ≡ filled (now (flat .entry)) (touched r old) (now (records .entry)) ⌝ }
-{
-    let n = flat::touched_by(r, old);
-    let mut i: usize = 0;
-    while i < n {
-        let r = decode(flat, i);
-        records[i] = r;
-        i += 1;
-    }
-}
-
 // The records that an answer touches become those that notes tell.
 fn tell(records: &mut [Record], notes: &[usize; limits::NODES], r: Reading, old: usize)
     requires { ⌜ Tells (now notes) r old (length (now records)) ⌝ }
     ensures { λ _. ⌜ now (records .exit) ≡ told (now (notes .entry)) (countOf r) (touched r old) (now (records .entry)) ⌝ }
 {
-    let n = flat::touched_by(r, old);
+    let n = told::touched_by(r, old);
     let mut i: usize = 0;
     while i < n {
         let z = told::record_of(notes, r, i);
@@ -106,19 +55,6 @@ fn holds(records: &[Record], notes: &[usize; limits::NODES], noted: bool, nodes:
         k += 1;
     }
     same
-}
-
-// The records in use are spelled out in `flat`.
-fn flatten(records: &[Record], flat: &mut [u32; limits::NUMBERS], nodes: usize)
-    ensures { λ _. ⌜ now (flat .exit) ≡ flattened (now (records .entry)) (held (length (now (records .entry))) nodes) (now (flat .entry)) ⌝ }
-{
-    let n = flat::held_of(records.len(), nodes);
-    let mut k: usize = 0;
-    while k < n {
-        let r = records[k];
-        encode(flat, k, r);
-        k += 1;
-    }
 }
 
 // A text of the form named (1 canonical, 2 basic, 3 advanced) into canonical octets and the records of its nodes. In a
@@ -146,19 +82,21 @@ pub fn replace(
 ) -> Reading
     ensures { λ r. ⌜ outcome r (now (canonical .exit)) (numbers (now (records .exit))) ≡ replacing form (now (text .entry)) (now (canonical .entry)) (numbers (now (records .entry))) length nodes node ⌝ }
 {
-    let mut flat: [u32; limits::NUMBERS] = [0; limits::NUMBERS];
-    flatten(records, &mut flat, nodes);
-    let r = flat::replace(
+    let mut notes: [usize; limits::NODES] = [0; limits::NODES];
+    let noted = lookup::note_sheet(canonical, length, &mut notes, records.len(), nodes);
+    let own = holds(records, &notes, noted, nodes);
+    let r = editor::replace_notes(
         form,
         text,
         canonical,
-        &mut flat,
+        &mut notes,
+        own,
         records.len(),
         length,
         nodes,
         node,
     );
-    fill(records, &flat, r, nodes);
+    tell(records, &notes, r, nodes);
     r
 }
 

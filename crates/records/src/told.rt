@@ -4,8 +4,7 @@ ghost use Rattle.base.specs.Choice.{equal};
 ghost use Rattle.sheets.specs.Rows.{rowList};
 ghost use Rattle.sheets.specs.Told.{Readable};
 ghost use Rattle.records.specs.Numbers.{eight};
-ghost use Rattle.records.specs.Flat.{nil};
-ghost use Rattle.records.specs.Told.{countOf, toldAt, agrees, looked, Tellable};
+ghost use Rattle.records.specs.Told.{nil, touched, countOf, toldAt, agrees, looked, Tellable};
 use crate::Record;
 use answers::Reading;
 
@@ -54,6 +53,16 @@ pub fn record_of(notes: &[usize; limits::NODES], r: Reading, i: usize) -> Record
             zero_record()
         }
         Reading::Refused { refusal: _ } => zero_record(),
+    }
+}
+
+// How many records may differ after an answer, where `old` were in use.
+pub fn touched_by(r: Reading, old: usize) -> usize
+    ensures { λ n. ⌜ n ≡ touched r old ⌝ }
+{
+    match r {
+        Reading::Accepted { length: _, nodes } => { if nodes < old { old } else { nodes } }
+        Reading::Refused { refusal: _ } => 0,
     }
 }
 

@@ -1,19 +1,28 @@
 -- The functions' needs.
 use Prim.Native.Nat.{ℕ, _+_, _*_, _-_, _≤_, _<_, max}
 use native.Mathlib.Omega.{arith}
-use mathlib.Core.Path.{_≡_, refl, sym, ap, ap₂, _∙_}
-use mathlib.Core.Option.{Option}
+use mathlib.Core.Path.{_≡_, refl, sym, ap, ap₂, _∙_, subst}
+use mathlib.Core.Bool.{Bool, true, false}
+use mathlib.Core.Option.{some}
 use mathlib.Core.List.{List}
 use lib.ListN.{length, take, drop, replicate}
 use lib.Seq.{sets, length-take-le}
-use Rattle.model.specs.Answers.{the}
+use lib.Dec.{eqb}
+use borrow.Author.Tests.{eqb-true}
+use Rattle.base.proofs.Cases.{some-same, untrue}
 use Rattle.model.specs.Decode.{decode₁}
+use Rattle.model.specs.Limits.{maxSource}
 use Rattle.model.specs.Table.{width, tableOf}
-use Rattle.model.specs.Tree.{Tree}
+use Rattle.model.specs.Edit.{replace}
+use Rattle.model.specs.Tree.{Tree, canon}
+use Rattle.walk.specs.declared.Extent.{Extent}
 use Rattle.walk.proofs.Tabled.{table-length}
-use Rattle.sheets.specs.Owned.{Indexable}
-use Rattle.answers.specs.Cases.{outcome}
-use Rattle.splice.specs.Rewritten.{Movable, Rewritable, Rewritten}
+use Rattle.sheets.specs.Notes.{Notable, Noted}
+use Rattle.sheets.specs.Told.{Holds, Filled}
+use Rattle.sheets.proofs.Held.{note-holds}
+use Rattle.splice.specs.Rewritten.{Movable, Rewritable, Reworkable, Alone, Workable, Rewritten, Retellable, Retold}
+use Rattle.splice.specs.Moved.{Renotable, Renoted}
+use Rattle.splice.proofs.Renoting.{renotable, renoted-holds}
 use Rattle.splice.proofs.Spliced.{zeroed}
 use Rattle.answers.specs.declared.Reading.the-variants as reading
 
@@ -26,40 +35,77 @@ module _ (c c′ : List ℕ) (start end len n : ℕ) (g : Movable (length c) sta
   lowered h e = let z : end - ((end - start) - n) ≡ start + n = omega (arith, g .ordered) in e ∙ ap (λ (m : ℕ). sets c m (take (len - end) (drop end c))) z
 
 -- ---- finish
-module _ (canonical : List ℕ) (numbers old oldCount len count : ℕ) (g : Rewritable canonical numbers old oldCount len count) where
+module _ (canonical notes : List ℕ) (old len count : ℕ) (g : Rewritable canonical (length notes) old len count) where
   pub finish-part : len ≡ length (take len canonical)
   finish-part = sym (length-take-le len canonical (g .lent))
 
-  pub finish-indexable : Indexable (take len canonical) count numbers
-  finish-indexable =
-      record {
-        tree = g .tree;
-        is = g .is;
-        deep = g .deep;
-        counted = g .counted;
-        few = g .few .0;
-        fits = g .recorded;
-        short = omega (arith, length-take-le len canonical (g .lent), g .short);
-      }
+  pub finish-short : length (take len canonical) ≤ maxSource
+  finish-short = omega (arith, length-take-le len canonical (g .lent), g .short)
 
-module _ (canonical table : List ℕ) (old oldCount len count : ℕ) (g : Rewritable canonical (length table) old oldCount len count) (table₁ : List ℕ) (i : table₁ ≡ sets table 0 (tableOf (the (decode₁ (take len canonical))))) (m : ℕ) (e : m ≡ max old len) (canonical′ : List ℕ) (z : canonical′ ≡ sets canonical len (replicate (m - len) 0)) (m₁ : ℕ) (e₁ : m₁ ≡ max oldCount count) (table′ : List ℕ) (z₁ : table′ ≡ sets table₁ (count * width) (replicate (m₁ * width - count * width) 0)) where
-  abbrev new : List ℕ
-  new = tableOf (the (decode₁ (take len canonical)))
+  abbrev notable : Notable (take len canonical) (length notes)
+  notable = record { tree = g .tree; is = g .is; deep = g .deep; fits = omega (arith, g .counted, g .noted) }
 
-  new-long : length new ≡ width * count
-  unfolding the
-  new-long = ap (λ (o : Option Tree). length (tableOf (the o))) (g .is) ∙ omega (arith, table-length (g .tree), g .counted)
+  module _ (notes′ : List ℕ) (x : Extent) (v : Noted (take len canonical) notes notes′ x) (m : ℕ) (e : m ≡ max old len) (canonical′ : List ℕ) (z : canonical′ ≡ sets canonical len (replicate (m - len) 0)) where
+    mine : Holds notes′ count (g .tree)
+    mine = subst (λ (n : ℕ). Holds notes′ n (g .tree)) (sym (g .counted)) (note-holds (take len canonical) notes notes′ x v finish-short notable)
 
-  pub finished : Rewritten canonical table old oldCount len count canonical′ table′ (reading.Accepted len count)
-  unfolding outcome
-  finished =
-      let a : m - len ≡ old - len = omega arith in
-      let b : count * width ≡ length new = omega (arith, new-long) in
-      let d : m₁ * width - count * width ≡ width * oldCount - length new = omega (arith, new-long) in
-      record {
-        octets = z ∙ ap (λ (n : ℕ). sets canonical len (replicate n 0)) a;
-        records = z₁ ∙ ap (λ (t : List ℕ). sets t (count * width) (replicate (m₁ * width - count * width) 0)) i
-            ∙ ap₂ (λ (p q : ℕ). sets (sets table 0 new) p (replicate q 0)) b d
-            ∙ zeroed table new (width * oldCount) (g .oldRecorded) (omega (arith, new-long, g .recorded));
-        tells = λ c t. refl;
-      }
+    pub finished : Rewritten canonical old len count canonical′ notes′ (reading.Accepted len count)
+    finished =
+        let a : m - len ≡ old - len = omega arith in
+        record {
+          octets = z ∙ ap (λ (n : ℕ). sets canonical len (replicate n 0)) a;
+          held = λ t i. subst (Holds notes′ count) (some-same (λ (u : Tree). g .tree ≡ u) (sym (g .is) ∙ i) refl) mine;
+          tells = refl;
+        }
+
+-- ---- refinish
+module _ (canonical notes : List ℕ) (old len count node start note : ℕ) (g : Reworkable canonical notes old len count node start note) where
+  short : length (canon (replace (g .tree) node (g .text))) ≤ maxSource
+  short = omega (arith, g .long, g .short)
+
+  pub refinish-renotable : Renotable notes node count start old len note
+  refinish-renotable =
+      rw (g .starts, g .oldLong, g .long)
+      (renotable (g .tree) node (g .inside) (g .text) (g .single) (g .same) notes count (g .held) note (g .entry) short (g .few) (omega (arith, g .oldLong, g .oldShort)))
+
+  module _ (notes′ : List ℕ) (w : Renoted notes node count start old len note notes′) (m : ℕ) (e : m ≡ max old len) (canonical′ : List ℕ) (z : canonical′ ≡ sets canonical len (replicate (m - len) 0)) where
+    its : Holds notes′ count (replace (g .tree) node (g .text))
+    its =
+        renoted-holds (g .tree) node (g .inside) (g .text) (g .single) (g .same) notes count (g .held) note (g .entry) short notes′
+        (rw (sym (g .starts), sym (g .oldLong), sym (g .long)) w)
+
+    pub refinished : Rewritten canonical old len count canonical′ notes′ (reading.Accepted len count)
+    refinished =
+        let a : m - len ≡ old - len = omega arith in
+        record {
+          octets = z ∙ ap (λ (n : ℕ). sets canonical len (replicate n 0)) a;
+          held = λ t i. subst (Holds notes′ count) (some-same (λ (u : Tree). replace (g .tree) node (g .text) ≡ u) (sym (g .is) ∙ i) refl) its;
+          tells = refl;
+        }
+
+-- ---- settle
+module _ (canonical notes : List ℕ) (old len count node start note : ℕ) (b : Bool) (g : Workable canonical notes old len count node start note b) where
+  pub settle-works : b ≡ true → Reworkable canonical notes old len count node start note
+  settle-works y = g .works y
+
+module _ (new held count : ℕ) where
+  pub alone-is : new ≡ 1 → Alone new held count (eqb held count)
+  alone-is e = record { single = λ y. e; same = λ y. eqb-true held count y }
+
+  pub alone-not : Alone new held count false
+  alone-not = record { single = λ y. untrue y; same = λ y. untrue y }
+
+-- ---- retell
+module _ (notes table : List ℕ) (held count : ℕ) (g : Retellable notes (length table) held count) where
+  module _ (table₁ : List ℕ) (f : Filled notes count table table₁) (m : ℕ) (e : m ≡ max held count) (table′ : List ℕ) (z : table′ ≡ sets table₁ (count * width) (replicate (m * width - count * width) 0)) where
+    pub retold : Retold notes held count table table′
+    retold =
+        record {
+          is = λ t h.
+              let l : length (tableOf t) ≡ width * count = omega (arith, table-length t, h .counted) in
+              let b : count * width ≡ length (tableOf t) = omega arith in
+              let d : m * width - count * width ≡ width * held - length (tableOf t) = omega arith in
+              z ∙ ap (λ (x : List ℕ). sets x (count * width) (replicate (m * width - count * width) 0)) (f .fills t h)
+              ∙ ap₂ (λ (p q : ℕ). sets (sets table 0 (tableOf t)) p (replicate q 0)) b d
+              ∙ zeroed table (tableOf t) (width * held) (g .oldRecorded) (omega (arith, l, g .recorded));
+        }

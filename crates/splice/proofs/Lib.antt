@@ -1,2 +1,4 @@
 pub mod Spliced
+pub mod Moving
+pub mod Renoting
 pub mod Finishing

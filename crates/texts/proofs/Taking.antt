@@ -21,7 +21,7 @@ use Rattle.blocks.proofs.Laws.{front-wrote}
 use Rattle.advanced.specs.Converted.{Converts, Enough, thrice, largest, Lent}
 use Rattle.sheets.specs.Notes.{noted, Noted}
 use Rattle.sheets.proofs.Keeping.{noted-length}
-use Rattle.sheets.proofs.Owning.{note-holds}
+use Rattle.sheets.proofs.Held.{note-holds}
 use Rattle.texts.specs.Texts.{Taken}
 
 -- scratch has room for the text as it stands, and more

@@ -4,4 +4,3 @@ pub mod Evented
 pub mod Tabled
 pub mod Shut
 pub mod Fronts
-pub mod Owning

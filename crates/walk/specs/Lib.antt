@@ -1,4 +1,3 @@
 pub mod Count
 pub mod Events
 pub mod Extent
-pub mod Owned

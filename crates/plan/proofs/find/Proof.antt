@@ -1,6 +1,5 @@
+use Rattle.plan.proofs.Finding.{find-beyond, find-readable, find-recorded, find-node, find-unowned}
 use native.Mathlib.Omega.{arith}
-use Rattle.plan.proofs.Finding.{find-beyond, find-node, find-unowned}
-use Rattle.lookup.proofs.Shown.{numbered}
 use borrow.Author.Needs.{needs}
 use Rattle.plan.proofs.find.Statement.{statement}
 use Rattle.plan.proofs.find.Tie as tie
@@ -8,14 +7,11 @@ use Rattle.plan.proofs.find.Tie as tie
 returns : tie.Need-returns
 returns c = search (find-beyond, arith)
 
-number-requires : tie.Need-number-requires
-number-requires c κs = numbered _ _ _ _ _ _ (c .before .before .own-sheet .ensures) (c .before .if1 .taken) 1 (omega arith) (c .if2 .left)
+row-of-requires : tie.Need-row-of-requires
+row-of-requires c κs = search (find-readable, arith)
 
-number-requires-2 : tie.Need-number-requires-2
-number-requires-2 c κs = numbered _ _ _ _ _ _ (c .before .before .before .own-sheet .ensures) (c .before .before .if1 .taken) 2 (omega arith) (c .before .if2 .left)
-
-number-requires-3 : tie.Need-number-requires-3
-number-requires-3 c κs = numbered _ _ _ _ _ _ (c .before .before .before .before .own-sheet .ensures) (c .before .before .before .if1 .taken) 3 (omega arith) (c .before .before .if2 .left)
+level-requires : tie.Need-level-requires
+level-requires c κs = search (find-recorded, arith)
 
 returns-2 : tie.Need-returns-2
 returns-2 c = search (find-node, arith)
@@ -27,10 +23,11 @@ pub find-spec : {M : Type 1} → statement M
 find-spec =
     tie.close
     (tie.spec
-    (λ c κs. search needs)
     returns
-    number-requires
-    number-requires-2
-    number-requires-3
+    row-of-requires
+    level-requires
+    (λ c. search needs)
+    (λ c. search needs)
+    (λ c. search needs)
     returns-2
     returns-3)

@@ -1,8 +1,11 @@
+use Rattle.plan.proofs.Planning.{plan-findable, plan-resizable, plan-misfit, plan-fits, plan-unfound}
 use native.Mathlib.Omega.{arith}
-use Rattle.plan.proofs.Planning.{plan-resizable, plan-misfit, plan-fits, plan-unfound}
 use borrow.Author.Needs.{needs}
 use Rattle.plan.proofs.judge.Statement.{statement}
 use Rattle.plan.proofs.judge.Tie as tie
+
+find-requires : tie.Need-find-requires
+find-requires c κs = search (plan-findable, arith)
 
 resize-requires : tie.Need-resize-requires
 resize-requires c κs = search (plan-resizable, arith)
@@ -20,7 +23,7 @@ pub judge-spec : {M : Type 1} → statement M
 judge-spec =
     tie.close
     (tie.spec
-    (λ c κs. search needs)
+    find-requires
     (λ c. search needs)
     resize-requires
     (λ c κs. search needs)

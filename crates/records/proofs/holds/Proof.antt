@@ -48,8 +48,7 @@ use denote.Triple.Walked.{says, needs, Stays, stay-dropped, stay-none-ref, walkO
 use denote.Exit.{yes}
 use Rattle.model.specs.Limits.{maxNodes}
 use Rattle.records.specs.declared.Record.{Record}
-use Rattle.records.specs.Flat.{nil}
-use Rattle.records.specs.Told.{agrees, agreed, looked, Comparable}
+use Rattle.records.specs.Told.{nil, agrees, agreed, looked, Comparable}
 use Rattle.records.proofs.Facts.{holds, fails, one-more, scaled, is-word, is-bool}
 use Rattle.records.proofs.Counting.{counts}
 use Rattle.records.proofs.Spelled.{word, recs, Notes, toNotes}

@@ -51,8 +51,7 @@ use Rattle.records.specs.declared.Record.{Record}
 use Rattle.records.specs.Numbers.{numbers}
 use Rattle.model.specs.Limits.{maxNodes}
 use Rattle.reader.specs.Stored.{Puts}
-use Rattle.records.specs.Flat.{touched}
-use Rattle.records.specs.Told.{countOf, told, Tells}
+use Rattle.records.specs.Told.{touched, countOf, told, Tells}
 use Rattle.records.proofs.Facts.{is-unit}
 use Rattle.records.proofs.Spelled.{word, answerTy, toByte, toRecord, bytes, recs, Notes, notesTy, toNotes}
 use Rattle.records.proofs.Noted.{zeros, zeros-typed, zeroed, at-local, lends-mut, mut-back, lends-const, const-back, dies}

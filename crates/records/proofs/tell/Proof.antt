@@ -54,8 +54,7 @@ use Rattle.answers.specs.declared.Reading.{Reading}
 use Rattle.answers.proofs.Reading as R
 use Rattle.answers.proofs.Reading.Laws as R′
 use Rattle.records.specs.declared.Record.{Record}
-use Rattle.records.specs.Flat.{nil, touched}
-use Rattle.records.specs.Told.{countOf, toldAt, told, Tells}
+use Rattle.records.specs.Told.{nil, touched, countOf, toldAt, told, Tells}
 use Rattle.records.proofs.Facts.{holds, fails, one-more, scaled, is-word}
 use Rattle.records.proofs.Tabling.{length-told}
 use Rattle.records.proofs.Counting.{counts}
@@ -66,10 +65,10 @@ use Rattle.records.proofs.told.record_of as recording
 use Rattle.records.proofs.told.record_of.Symbol as record-def
 use Rattle.records.proofs.told.record_of.Symbol.{name as #records·record-of}
 use Rattle.records.proofs.told.record_of.Met as record-thm
-use Rattle.records.proofs.flat.touched_by as counting
-use Rattle.records.proofs.flat.touched_by.Symbol as counting-def
-use Rattle.records.proofs.flat.touched_by.Symbol.{name as #records·touched-by}
-use Rattle.records.proofs.flat.touched_by.Met as counting-thm
+use Rattle.records.proofs.told.touched_by as counting
+use Rattle.records.proofs.told.touched_by.Symbol as counting-def
+use Rattle.records.proofs.told.touched_by.Symbol.{name as #records·touched-by}
+use Rattle.records.proofs.told.touched_by.Met as counting-thm
 use Rattle.records.proofs.tell.Key.{name as #records·tell}
 use Rattle.records.proofs.tell as tell
 use Rattle.records.proofs.tell.Statement as stated
@@ -301,4 +300,4 @@ tell-spec 𝓤 H 𝓜 𝓖 𝓡 =
     (tables 𝓤 H 𝓜 𝓡 code.env .C) (tables 𝓤 H 𝓜 𝓡 code.env .Λ) #records·tell code.function (code.unfolded 𝓤 H 𝓜 𝓡)
     (meets 𝓤 H (𝓖 .A) (givenOf 𝓤 H 𝓜 𝓖) (𝓜 .mem) (𝓡 .run) (tablesOf 𝓤 H 𝓜 (tables 𝓤 H 𝓜 𝓡 code.env))
     (cited 𝓤 H (Recording 𝓤 H (𝓖 .A) (𝓜 .mem) (𝓡 .run)) 𝓜 𝓡 code.env #records·record-of record-def.routine code.calls-records·told·record-of (record-thm.met 𝓤 H 𝓜 𝓖 𝓡))
-    (cited 𝓤 H (Counting 𝓤 H (𝓖 .A) (𝓜 .mem) (𝓡 .run)) 𝓜 𝓡 code.env #records·touched-by counting-def.routine code.calls-records·flat·touched-by (counting-thm.met 𝓤 H 𝓜 𝓖 𝓡)))
+    (cited 𝓤 H (Counting 𝓤 H (𝓖 .A) (𝓜 .mem) (𝓡 .run)) 𝓜 𝓡 code.env #records·touched-by counting-def.routine code.calls-records·told·touched-by (counting-thm.met 𝓤 H 𝓜 𝓖 𝓡)))

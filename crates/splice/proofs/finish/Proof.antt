@@ -1,5 +1,5 @@
+use Rattle.splice.proofs.Finishing.{finish-part, finish-short, finished}
 use native.Mathlib.Omega.{arith}
-use Rattle.splice.proofs.Finishing.{finish-part, finish-indexable, finished}
 use borrow.Author.Needs.{needs}
 use Rattle.splice.proofs.finish.Statement.{statement}
 use Rattle.splice.proofs.finish.Tie as tie
@@ -7,8 +7,8 @@ use Rattle.splice.proofs.finish.Tie as tie
 slice-aggregate-part : tie.Need-slice-aggregate-part
 slice-aggregate-part c = search (finish-part, arith)
 
-index-requires : tie.Need-index-requires
-index-requires c κs = search (finish-indexable, arith)
+note-requires : tie.Need-note-requires
+note-requires c κs = search (finish-short, arith)
 
 returns : tie.Need-returns
 returns c = search (finished, arith)
@@ -19,12 +19,8 @@ finish-spec =
     (tie.spec
     (λ c. search needs)
     slice-aggregate-part
-    index-requires
+    note-requires
     (λ c κs. search needs)
-    (λ c κs. search needs)
-    (λ c. search needs)
-    (λ c κs. search needs)
-    (λ c. search needs)
     (λ c κs. search needs)
     (λ c. search needs)
     (λ c. search needs)

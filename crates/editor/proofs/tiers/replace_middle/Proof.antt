@@ -5,7 +5,7 @@ use Rattle.editor.proofs.tiers.replace_middle.Statement.{statement}
 use Rattle.editor.proofs.tiers.replace_middle.Tie as tie
 
 replace-in-requires : tie.Need-replace-in-requires
-replace-in-requires c κs = (search needs, (search needs, small-takes _ _ _ 1024 (search needs) (omega arith) (search needs) (search needs)))
+replace-in-requires c κs = (search needs, (search needs, (small-takes _ _ _ 1024 (search needs) (omega arith) (search needs) (search needs), (search needs, search needs))))
 
 pub replace-middle-spec : {M : Type 1} → statement M
 replace-middle-spec =

@@ -1,0 +1,47 @@
+-- The table as numbers: told by the new notes, it is the one that the answer speaks of.
+use Prim.Native.Nat.{ℕ, _*_, _/_, _≤_}
+use native.Mathlib.Omega.{arith}
+use mathlib.Core.Path.{_≡_, refl, sym, ap, _∙_, subst}
+use mathlib.Core.Bool.{Bool}
+use mathlib.Core.List.{List}
+use lib.ListN.{length}
+use Rattle.model.specs.Answers.{replacing}
+use Rattle.model.specs.Table.{width, records}
+use Rattle.lookup.specs.Noted.{Notes, Owned}
+use Rattle.plan.specs.Planned.{Known, Lends}
+use Rattle.splice.specs.Rewritten.{Retellable, Retold}
+use Rattle.answers.specs.Cases.{outcome}
+use Rattle.answers.specs.declared.Refusal.{Refusal}
+use Rattle.answers.specs.declared.Reading.{Reading}
+use Rattle.answers.specs.declared.Reading.the-variants as reading
+use Rattle.editor.specs.Given.{Noteable, Giving, Gives, GivesText}
+
+pub numbers-notes : (count more room : ℕ) → Noteable count more room → Notes count room
+numbers-notes count more room h = record { enough = omega (arith, h .enough) }
+
+module _ (form : ℕ) (text canonical : List ℕ) (len count : ℕ) (table notes : List ℕ) (node : ℕ) (own : Bool) (o : Owned canonical len table count notes own) (n : ℕ) (z : n ≡ length table / width) where
+  pub numbers-known : Known canonical len count n notes own
+  numbers-known = record { sheet = λ y. rw z (o .sheet y) }
+
+  lends : Lends canonical len count n own table
+  lends = record { recorded = sym z; tells = o .tells }
+
+  module _ (canonical′ notes′ : List ℕ) (r : Reading) (p : GivesText form text canonical len count n own node canonical′ notes′ r) where
+    pub numbers-refused : (f : Refusal) → r ≡ reading.Refused f → outcome (reading.Refused f) canonical′ table ≡ replacing form text canonical table len count node
+    unfolding Gives
+    numbers-refused f e =
+        let g : (t : List ℕ) → Lends canonical len count n own t → outcome (reading.Refused f) canonical′ t ≡ replacing form text canonical t len count node
+        = subst (GivesText form text canonical len count n own node canonical′ notes′) e p in
+        g table lends
+
+    module _ (l c : ℕ) (e : r ≡ reading.Accepted l c) where
+      giving : Giving (Lends canonical len count n own) (λ (t : List ℕ). replacing form text canonical t len count node) canonical′ n notes′ count l c
+      unfolding Gives
+      giving = subst (GivesText form text canonical len count n own node canonical′ notes′) e p
+
+      pub numbers-retellable : Retellable notes′ (length table) count c
+      numbers-retellable =
+          record { tree = giving .tree; is = giving .held; few = giving .few; recorded = omega (arith, giving .recorded .0); oldRecorded = omega (arith, giving .recorded .1) }
+
+      pub numbers-accepted : (table′ : List ℕ) → Retold notes′ count c table table′ → outcome (reading.Accepted l c) canonical′ table′ ≡ replacing form text canonical table len count node
+      numbers-accepted table′ f = ap (outcome (reading.Accepted l c) canonical′) (f .is (giving .tree) (giving .held)) ∙ giving .is table lends

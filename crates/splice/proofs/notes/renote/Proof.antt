@@ -1,0 +1,27 @@
+use Rattle.splice.proofs.Moving.{renote-shiftable, renote-long, renoted}
+use native.Mathlib.Omega.{arith}
+use borrow.Author.Needs.{needs}
+use Rattle.splice.proofs.notes.renote.Statement.{statement}
+use Rattle.splice.proofs.notes.renote.Tie as tie
+
+after-requires : tie.Need-after-requires
+after-requires c κs = search (renote-shiftable, arith)
+
+same-length : tie.Need-same-length
+same-length c = search (renote-long, arith)
+
+returns : tie.Need-returns
+returns c = search (renoted, arith)
+
+pub renote-spec : {M : Type 1} → statement M
+renote-spec =
+    tie.close
+    (tie.spec
+    (λ c κs. search needs)
+    (λ c κs. search needs)
+    (λ c. search needs)
+    (λ c. search needs)
+    (λ c. search needs)
+    after-requires
+    same-length
+    returns)
