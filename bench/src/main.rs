@@ -7,6 +7,7 @@
 mod entries;
 mod readers;
 mod records;
+mod spool;
 
 use std::env;
 use std::process::ExitCode;
@@ -41,4 +42,5 @@ fn tables() {
     readers::table(gcrypt.as_ref());
     entries::table();
     records::table();
+    spool::table();
 }
