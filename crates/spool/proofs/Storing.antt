@@ -18,7 +18,7 @@ use Rattle.spools.proofs.Stored.{stores-length}
 use Rattle.spools.proofs.Three.{groups-three}
 use Rattle.spools.proofs.Order.{stores-behind, stores-at-end, lastly-length, lastly-rest, lastly-first}
 use Rattle.spool.specs.Cases.{stateOf}
-use Rattle.spool.specs.Octets.{Long}
+use Rattle.spool.specs.Octets.{Wide, Long}
 use Rattle.spool.specs.Stores.{offsetOf, storesOfLen, nextOf, NextOf}
 use Rattle.spool.specs.declared.Adding.{Adding}
 use Rattle.spool.specs.declared.stores.Next.the-variants.{Octet, Nothing}
@@ -102,6 +102,9 @@ stored-within at len size made total i t o l a m =
 
 -- ---- where nothing is stored
 
+long-of : {octets g : ℕ} → Wide octets g → Long octets (g + octets)
+long-of {octets} w = record { is = ap (λ (n : ℕ). n + octets) (w .is); few = omega (arith, w .few) }
+
 pub entry-long : (sheet : List ℕ) (octets len : ℕ) → Long octets len → octets ≤ length sheet → length (entry (take octets sheet)) ≡ len
 unfolding entry
 entry-long sheet octets len l h =
@@ -152,28 +155,33 @@ module _ (a : Adding) (area sheet : List ℕ) where
   pub stop-large : maxCanonical < a .octets → NextOf a area sheet Nothing
   stop-large e = never (λ g. omega (arith, g .small))
 
-  pub stop-long : (len : ℕ) → Long (a .octets) len → length area < len → NextOf a area sheet Nothing
-  stop-long len l e = never (λ g. omega (arith, g .room, entry-long sheet (a .octets) len l (g .lent)))
+  pub stop-long : (n : ℕ) → Wide (a .octets) n → length area < n + a .octets → NextOf a area sheet Nothing
+  stop-long n w e = never (λ g. omega (arith, g .room, entry-long sheet (a .octets) (n + a .octets) (long-of w) (g .lent)))
 
-  pub stop-far : (len : ℕ) → Long (a .octets) len → len ≤ length area → length area - len < a .at → NextOf a area sheet Nothing
-  stop-far len l k e = never (λ g. omega (arith, g .room, entry-long sheet (a .octets) len l (g .lent)))
+  pub stop-far : (n : ℕ) → Wide (a .octets) n → n + a .octets ≤ length area → length area - (n + a .octets) < a .at → NextOf a area sheet Nothing
+  stop-far n w k e = never (λ g. omega (arith, g .room, entry-long sheet (a .octets) (n + a .octets) (long-of w) (g .lent)))
 
-  pub stop-made : (len total : ℕ) → Long (a .octets) len → total ≡ storesOfLen (ltb (a .at + len) (length area)) len → total ≤ a .made → NextOf a area sheet Nothing
-  stop-made len total l t e =
+  pub stop-made : (n total : ℕ) → Wide (a .octets) n → total ≡ storesOfLen (ltb (a .at + (n + a .octets)) (length area)) (n + a .octets) → total ≤ a .made → NextOf a area sheet Nothing
+  stop-made n total x t e =
       never
       (λ g.
-      let w = entry-long sheet (a .octets) len l (g .lent) in
+      let len = n + a .octets in
+      let w = entry-long sheet (a .octets) len (long-of x) (g .lent) in
       let v : length (stores (length area) (a .at) (entry (take (a .octets) sheet))) ≡ storesOfLen (ltb (a .at + len) (length area)) len =
       total-is (length area) (a .at) (entry (take (a .octets) sheet)) ∙ ap (λ (n : ℕ). storesOfLen (ltb (a .at + n) (length area)) n) w in
       omega (arith, g .left))
 
 -- ---- where something is
-module _ (a : Adding) (area sheet : List ℕ) (len total i : ℕ) where
-  pub stores-on : a .done ≡ false → a .octets ≤ length sheet → a .octets ≤ maxCanonical → Long (a .octets) len → len ≤ length area → a .at ≤ length area - len
+module _ (a : Adding) (area sheet : List ℕ) (g total i : ℕ) where
+  abbrev len : ℕ
+  len = g + a .octets
+
+  pub stores-on : a .done ≡ false → a .octets ≤ length sheet → a .octets ≤ maxCanonical → Wide (a .octets) g → len ≤ length area → a .at ≤ length area - len
       → total ≡ storesOfLen (ltb (a .at + len) (length area)) len → a .made < total → i ≡ offsetOf (ltb (a .at + len) (length area)) len (a .made)
-      → NextOf a area sheet (Octet i (leb total (a .made + 1)))
+      → NextOf a area sheet (Octet i g (leb total (a .made + 1)))
   unfolding NextOf storesOf going
-  stores-on d o m l n p t k e =
+  stores-on d o m x n p t k e =
+      let l : Long (a .octets) len = long-of x in
       let e₀ = entry (take (a .octets) sheet) in
       let w : length e₀ ≡ len = entry-long sheet (a .octets) len l o in
       let v : length (stores (length area) (a .at) e₀) ≡ total =
@@ -188,6 +196,6 @@ module _ (a : Adding) (area sheet : List ℕ) (len total i : ℕ) where
         octet = ap (λ (z : Store). z .octet) s;
         ends = ap (λ (n : ℕ). leb n (a .made + 1)) (sym v);
         within = stored-within (a .at) len (length area) (a .made) total i t e n p k;
-        entried = record { within = o; small = m };
+        entried = record { within = o; small = m; wide = x };
         few = omega (arith, made-within (ltb (a .at + len) (length area)) len (a .made) total t k, l .few);
       }

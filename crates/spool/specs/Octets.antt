@@ -10,10 +10,11 @@ pub record Wide (n r : ℕ) : Type 0 where
   pub is : r ≡ length (groups n)
   pub few : r ≤ 3
 
--- a sheet of so many octets, of those lent
-pub record Entried (lent octets : ℕ) : Type 0 where
+-- a sheet of so many octets, of those lent, whose length has so many groups
+pub record Entried (lent octets groups : ℕ) : Type 0 where
   pub within : octets ≤ lent
   pub small : octets ≤ maxCanonical
+  pub wide : Wide octets groups
 
 -- an entry of so many octets, for a sheet of so many
 pub record Long (octets r : ℕ) : Type 0 where

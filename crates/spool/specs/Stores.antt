@@ -30,15 +30,15 @@ abbrev pub nextOf : Adding → List ℕ → List ℕ → Store
 nextOf a area sheet = getD (storesOf (stateOf a) area sheet) (a .made) (store 0 0)
 
 -- it is the octet at an offset of the entry, and the last or not
-pub record Stores (a : Adding) (area sheet : List ℕ) (offset : ℕ) (last : Bool) : Type 0 where
+pub record Stores (a : Adding) (area sheet : List ℕ) (offset groups : ℕ) (last : Bool) : Type 0 where
   pub goes : going (stateOf a) area sheet ≡ true
   pub place : nextOf a area sheet .place ≡ a .at + offset
   pub octet : nextOf a area sheet .octet ≡ getD (entry (take (a .octets) sheet)) offset 0
   pub ends : last ≡ leb (length (storesOf (stateOf a) area sheet)) (a .made + 1)
   pub within : a .at + offset < length area
-  pub entried : Entried (length sheet) (a .octets)
+  pub entried : Entried (length sheet) (a .octets) groups
   pub few : a .made < 16388
 
 unfoldable pub NextOf : Adding → List ℕ → List ℕ → Next → Type 0
-NextOf a area sheet (Octet offset last) = Stores a area sheet offset last
+NextOf a area sheet (Octet offset groups last) = Stores a area sheet offset groups last
 NextOf a area sheet Nothing = going (stateOf a) area sheet ≡ false

@@ -41,16 +41,15 @@ pub fn entry_len(octets: usize) -> usize
     groups_len(octets) + octets
 }
 
-// An octet of the entry of a sheet; 0 behind it.
-pub fn entry_at(sheet: &[u8], octets: usize, i: usize) -> u8
-    requires { ⌜ Entried (length (now sheet)) octets ⌝ }
+// An octet of the entry of a sheet, whose length has so many groups; 0 behind it.
+pub fn entry_at(sheet: &[u8], octets: usize, groups: usize, i: usize) -> u8
+    requires { ⌜ Entried (length (now sheet)) octets groups ⌝ }
     ensures { λ r. ⌜ r ≡ getD (entry (take octets (now (sheet .entry)))) i 0 ⌝ }
 {
-    let g = groups_len(octets);
-    if i < g {
+    if i < groups {
         return group_at(octets, i);
     }
-    let k = i - g;
+    let k = i - groups;
     if k < octets {
         return sheet[k];
     }

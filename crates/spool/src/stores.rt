@@ -2,12 +2,17 @@
 ghost use mathlib.Core.Path.{_≡_};
 ghost use Prim.Native.Nat.{_≤_};
 ghost use Rattle.spool.specs.Stores.{offsetOf, storesOfLen, NextOf};
-use super::entries::entry_len;
+use super::lengths::groups_len;
 use crate::Adding;
 
-// The next store: the octet of the entry at an offset, and whether it is the last store; or none. The octet past the entry is 0.
+// The next store: the octet of the entry at an offset, how many groups its length has, and whether it is the last store; or none. The
+// octet past the entry is 0.
 pub enum Next {
-    Octet { offset: usize, last: bool },
+    Octet {
+        offset: usize,
+        groups: usize,
+        last: bool,
+    },
     Nothing,
 }
 
@@ -61,7 +66,8 @@ pub fn next_store(adding: Adding, area: &[u8], sheet: &[u8]) -> Next
     if octets > limits::CANONICAL {
         return Next::Nothing;
     }
-    let len = entry_len(octets);
+    let groups = groups_len(octets);
+    let len = groups + octets;
     if len > area.len() {
         return Next::Nothing;
     }
@@ -76,6 +82,7 @@ pub fn next_store(adding: Adding, area: &[u8], sheet: &[u8]) -> Next
     let i = offset(behind, len, made);
     Next::Octet {
         offset: i,
+        groups,
         last: made + 1 >= total,
     }
 }
