@@ -38,7 +38,7 @@
  *   etg_data_records       33,616
  *   etg_spool_open            864
  *   etg_spool_add_start       928
- *   etg_spool_add_step         32
+ *   etg_spool_add_step         40
  *   etg_spool_add_commits       8
  *   etg_spool_add             944
  *

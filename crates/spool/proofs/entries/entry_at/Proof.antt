@@ -4,14 +4,8 @@ use borrow.Author.Needs.{needs}
 use Rattle.spool.proofs.entries.entry_at.Statement.{statement}
 use Rattle.spool.proofs.entries.entry_at.Tie as tie
 
-group-at-requires : tie.Need-group-at-requires
-group-at-requires c κs = search needs
-
 returns : tie.Need-returns
 returns c = search (entry-group, arith)
-
-shared-slice-read-result : tie.Need-shared-slice-read-result
-shared-slice-read-result c = search needs
 
 returns-2 : tie.Need-returns-2
 returns-2 c = search (entry-data, arith)
@@ -21,4 +15,10 @@ returns-3 c = search (entry-behind, arith)
 
 pub entry-at-spec : {M : Type 1} → statement M
 entry-at-spec =
-    tie.close (tie.spec group-at-requires returns shared-slice-read-result returns-2 returns-3)
+    tie.close
+    (tie.spec
+    (λ c κs. search needs)
+    returns
+    (λ c. search needs)
+    returns-2
+    returns-3)

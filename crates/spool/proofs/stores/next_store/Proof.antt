@@ -13,35 +13,17 @@ returns-2 c = search (stop-lent, arith)
 returns-3 : tie.Need-returns-3
 returns-3 c = search (stop-large, arith)
 
-groups-len-requires : tie.Need-groups-len-requires
-groups-len-requires c κs = search needs
-
-add-len : tie.Need-add-len
-add-len c = search needs
-
 returns-4 : tie.Need-returns-4
 returns-4 c = search (stop-long, arith)
 
-sub-if5 : tie.Need-sub-if5
-sub-if5 c = search needs
-
 returns-5 : tie.Need-returns-5
 returns-5 c = search (stop-far, arith)
-
-add-behind : tie.Need-add-behind
-add-behind c = search needs
-
-stores-len-requires : tie.Need-stores-len-requires
-stores-len-requires c κs = search needs
 
 returns-6 : tie.Need-returns-6
 returns-6 c = search (stop-made, arith)
 
 offset-requires : tie.Need-offset-requires
 offset-requires c κs = made-within _ _ _ _ (c .before .stores-len .ensures) (omega arith)
-
-add-t14 : tie.Need-add-t14
-add-t14 c = search needs
 
 returns-7 : tie.Need-returns-7
 returns-7 c = search (stores-on, arith)
@@ -53,14 +35,14 @@ next-store-spec =
     returns
     returns-2
     returns-3
-    groups-len-requires
-    add-len
+    (λ c κs. search needs)
+    (λ c. search needs)
     returns-4
-    sub-if5
+    (λ c. search needs)
     returns-5
-    add-behind
-    stores-len-requires
+    (λ c. search needs)
+    (λ c κs. search needs)
     returns-6
     offset-requires
-    add-t14
+    (λ c. search needs)
     returns-7)
