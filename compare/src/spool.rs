@@ -268,7 +268,7 @@ fn lengths(tally: &mut Tally) {
                 area.resize(old.len() + size, behind);
                 area[old.len()] = 0;
                 tally.open(&area);
-                if length < 1_000 || size == room {
+                if length < 1_000 || (size == room && old.is_empty()) {
                     tally.add(&area, &sheet, sheet.len());
                 } else {
                     tally.whole(&area, &sheet);
