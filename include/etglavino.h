@@ -37,10 +37,15 @@
  *   etg_hint_records      33,616
  *   etg_data              33,584
  *   etg_data_records      33,616
+ *   etg_spool_open            864
+ *   etg_spool_add_start       928
+ *   etg_spool_add_step         40
+ *   etg_spool_add_commits       8
+ *   etg_spool_add             944
  *
- * Refusals. Every function but those that find a hint or data returns one of
- * these numbers. In a refusal the values given out are 0, and every lent
- * buffer holds what it held.
+ * Refusals. Every function but those that find a hint or data, or that go on
+ * with an addition to a spool, returns one of these numbers. In a refusal the
+ * values given out are 0, and every lent buffer holds what it held.
  */
 #ifndef ETGLAVINO_H
 #define ETGLAVINO_H
@@ -70,7 +75,8 @@ enum {
     ETG_NOT_OWN = 7,    /* not the canonical form of one tree that fits, or the
                            table is not its own, or a length or count is
                            beyond what is lent */
-    ETG_NO_NODE = 8     /* there is no node of that number */
+    ETG_NO_NODE = 8,    /* there is no node of that number */
+    ETG_DAMAGED = 10    /* the area of a spool is damaged */
 };
 
 /* The most that a source, a canonical form, a table and an output can take. */
@@ -177,6 +183,60 @@ uint32_t etg_data_records(const uint8_t *canonical, size_t canonical_room, size_
                           const struct etg_record *records, size_t record_room,
                           size_t nodes, size_t node,
                           size_t *start, size_t *end);
+
+/* A spool: sheets that wait in a lent area.
+ *
+ * An entry is the sheet's length in groups of seven bits, lowest group first,
+ * top bit set on all but the last, and then the sheet. An octet 0 where a length
+ * would start, or the area's end, ends the spool: an area of zeros is empty.
+ * What lies behind the end may be anything. An area is damaged if, before its
+ * spool ends, a length has more groups than it needs or runs past the area, or
+ * an entry is not one sheet.
+ *
+ * Opens an area. Refusal: 10. On acceptance `*count` tells how many entries
+ * there are, and [*start, *end) of `area` is the sheet of the one with this
+ * number from 0; where there is none such, both are 0. */
+uint32_t etg_spool_open(const uint8_t *area, size_t area_size, size_t number,
+                        size_t *count, size_t *start, size_t *end);
+
+/* An addition under way. The numbers are the library's own business; any may
+ * stand there. */
+struct etg_spool_state {
+    uint64_t opaque[4];
+};
+
+/* Starts to add the sheet in the first `length` octets of `sheet`: only the
+ * checks are made. Refusals: 10, 7, and 6 where the entry is longer than what
+ * follows the old entries. A refused start gives out a state that is done. */
+uint32_t etg_spool_add_start(const uint8_t *area, size_t area_size,
+                             const uint8_t *sheet, size_t sheet_size, size_t length,
+                             struct etg_spool_state *state);
+
+/* Stores one octet of an addition; returns 1 with the last one, and else 0. A
+ * state that is done stores nothing and returns 1. An addition takes at most one
+ * store more than its entry has octets. After a cut between any two, opening
+ * shows the old entries, or those and the new one, and nothing else.
+ *
+ * `area` and `sheet` are those of the start. With others, or with other numbers
+ * in the state, a call stores nothing or one octet inside `area`. */
+uint32_t etg_spool_add_step(struct etg_spool_state *state,
+                            uint8_t *area, size_t area_size,
+                            const uint8_t *sheet, size_t sheet_size);
+
+/* Whether the next step makes the last store, which shows the entry: 1 or 0. An
+ * area that lies on a disk is synced before it, and after it. The stores before
+ * it may reach the disk in any order. */
+uint32_t etg_spool_add_commits(const struct etg_spool_state *state,
+                               const uint8_t *area, size_t area_size,
+                               const uint8_t *sheet, size_t sheet_size);
+
+/* A whole addition: the start and all its steps.
+ *
+ * Refusals: as etg_spool_add_start; the area then holds what it held. On
+ * acceptance the octet behind the new entry is 0, if the area has one; octets
+ * past it stay as they were. */
+uint32_t etg_spool_add(uint8_t *area, size_t area_size,
+                       const uint8_t *sheet, size_t sheet_size, size_t length);
 
 #ifdef __cplusplus
 }

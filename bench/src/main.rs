@@ -11,6 +11,7 @@ mod entries;
 mod lengths;
 mod readers;
 mod records;
+mod spool;
 
 use std::env;
 use std::process::ExitCode;
@@ -50,4 +51,5 @@ fn tables() {
     readers::table(gcrypt.as_ref());
     entries::table();
     records::table();
+    spool::table();
 }

@@ -1,9 +1,10 @@
 //! `compare SEED COUNT`: the fixed cases and COUNT random ones of the seed, each
 //! answered by the library and by the reference program. Answers and all lent
-//! buffers must be the same. What differs is shown whole; the exit status is 1
-//! where anything does.
+//! buffers must be the same. Spools come after them, as many. What differs is
+//! shown whole; the exit status is 1 where anything does.
 
 mod library;
+mod spool;
 
 use std::collections::BTreeMap;
 use std::env;
@@ -51,6 +52,7 @@ fn compare(seed: u64, count: u64) -> ExitCode {
         "{} cases, {differences} differences",
         tally.values().sum::<u64>()
     );
+    differences += spool::compare(seed, count);
     ExitCode::from(u8::from(differences > 0))
 }
 

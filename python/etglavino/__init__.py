@@ -13,6 +13,15 @@ of a tree, with a record for each of its nodes.
     >>> sheet.replace(Form.ADVANCED, b'"hi"', 1).write(Form.ADVANCED)
     b'(hi [x]"")'
 
+Sheets wait in a spool, which stands a power cut: `SpoolFile` keeps one in a
+file, and `spool_open`, `spool_add` and `Adding` work in octets of the caller's.
+
+    >>> from etglavino import spool_add, spool_open
+    >>> area = bytearray(32)
+    >>> spool_add(area, sheet.canonical)
+    >>> spool_open(area, 0)
+    Opened(count=1, start=1, end=15)
+
 Whatever is bad raises `Refusal`, which has a number and a sentence.
 
 The library is found in this repository's target folder and built by `rt` where
@@ -24,8 +33,11 @@ from ._entries import MAX_CANONICAL, MAX_DEPTH, MAX_NODES, MAX_SOURCE
 from ._entries import Form, Octets, Refusal
 from ._library import LibraryMissing
 from ._sheet import Node, Sheet, read, replace, same, write
+from ._spool import Adding, Opened, spool_add, spool_open, spool_shown
+from ._spool_file import SpoolFile, SpoolInUse
 
 __all__ = [
+    "Adding",
     "MAX_CANONICAL",
     "MAX_DEPTH",
     "MAX_NODES",
@@ -34,10 +46,16 @@ __all__ = [
     "LibraryMissing",
     "Node",
     "Octets",
+    "Opened",
     "Refusal",
     "Sheet",
+    "SpoolFile",
+    "SpoolInUse",
     "read",
     "replace",
     "same",
+    "spool_add",
+    "spool_open",
+    "spool_shown",
     "write",
 ]

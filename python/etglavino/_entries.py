@@ -41,7 +41,7 @@ class Form(IntEnum):
 
 class Refusal(Exception):
     """Something was refused. `number` is the one that every interface of the
-    library gives it, 1 to 8; `sentence` says what is wrong."""
+    library gives it, 1 to 8 and 10; `sentence` says what is wrong."""
 
     SENTENCES: ClassVar[dict[int, str]] = {
         1: "the form is not 1, 2 or 3",
@@ -49,9 +49,10 @@ class Refusal(Exception):
         3: "the source is not in the form's language",
         4: "lists nest over 32 deep",
         5: "over 4,096 nodes",
-        6: "over 16,384 canonical octets",
+        6: "over 16,384 canonical octets, or over the room that there is",
         7: "not one tree's canonical form with its own table",
         8: "there is no node of that number",
+        10: "the area of the spool is damaged",
     }
     """Sentences by number."""
 
@@ -84,7 +85,7 @@ def read(form: int, source: bytes) -> tuple[bytes, Table]:
         _form(form), source, len(source), canonical, len(canonical),
         table, len(table), length, nodes,
     )  # fmt: skip
-    _check(number)
+    check(number)
     return _taken(canonical, length, table, nodes)
 
 
@@ -96,7 +97,7 @@ def write(form: int, canonical: bytes) -> bytes:
     number = load().etg_write(
         _form(form), canonical, len(canonical), len(canonical), out, len(out), written
     )
-    _check(number)
+    check(number)
     return out.raw[: written.value]
 
 
@@ -110,9 +111,9 @@ def replace(
     length, nodes = ctypes.c_size_t(), ctypes.c_size_t()
     number = load().etg_replace(
         _form(form), text, len(text), octets, len(octets), numbers, len(numbers),
-        len(canonical), len(table) // RECORD, _count(node), length, nodes,
+        len(canonical), len(table) // RECORD, count_of(node), length, nodes,
     )  # fmt: skip
-    _check(number)
+    check(number)
     return _taken(octets, length, numbers, nodes)
 
 
@@ -122,7 +123,7 @@ def same(a: bytes, b: bytes, default_hint: bytes) -> bool:
     number = load().etg_same(
         a, len(a), len(a), b, len(b), len(b), default_hint, len(default_hint), answer
     )
-    _check(number)
+    check(number)
     return answer.value == 1
 
 
@@ -140,7 +141,7 @@ def _part(look: Any, canonical: bytes, table: Table, node: int) -> bytes | None:
     start, end = ctypes.c_size_t(), ctypes.c_size_t()
     found = look(
         canonical, len(canonical), len(canonical), table, len(table),
-        len(table) // RECORD, _count(node), start, end,
+        len(table) // RECORD, count_of(node), start, end,
     )  # fmt: skip
     return canonical[start.value : end.value] if found else None
 
@@ -161,7 +162,8 @@ def _taken(canonical: Any, length: Any, table: Any, nodes: Any) -> tuple[bytes, 
     return canonical.raw[: length.value], records
 
 
-def _check(number: int) -> None:
+def check(number: int) -> None:
+    """Raises what a number refuses."""
     if number != 0:
         raise Refusal(number)
 
@@ -171,7 +173,7 @@ def _form(form: int) -> int:
     return form if form in (1, 2, 3) else 0
 
 
-def _count(node: int) -> int:
-    """What the C type can't hold is the number of no node."""
+def count_of(node: int) -> int:
+    """What the C type can't hold is the number of no node, and of no entry."""
     most: int = ctypes.c_size_t(-1).value
     return node if 0 <= node <= most else most

@@ -162,15 +162,15 @@ class Looks(Case):
 
 class Words(Case):
     def test_refusals(self) -> None:
-        for number in range(1, 9):
+        for number in (*range(1, 9), 10):
             refusal = Refusal(number)
             self.assertEqual(str(refusal), f"refused {number}: {refusal.sentence}")
             self.assertEqual(pickle.loads(pickle.dumps(refusal)).number, number)
-        self.assertEqual(len(set(Refusal.SENTENCES.values())), 8)
+        self.assertEqual(len(set(Refusal.SENTENCES.values())), 9)
 
     def test_the_documentations_examples(self) -> None:
         tried = doctest.testmod(etglavino)
-        self.assertEqual((tried.failed, tried.attempted), (0, 5))
+        self.assertEqual((tried.failed, tried.attempted), (0, 9))
 
 
 if __name__ == "__main__":

@@ -215,7 +215,7 @@ fn placed(tree: &Tree, room: usize, records: usize) -> Result<Layout, u32> {
 
 /// Row 7 without a table: the tree of a lent canonical form that fits the
 /// fixed limits.
-fn tree_of_canonical(canonical: &[u8], length: usize) -> Result<Tree, u32> {
+pub(crate) fn tree_of_canonical(canonical: &[u8], length: usize) -> Result<Tree, u32> {
     let octets = canonical.get(..length).ok_or(NOT_OWN)?;
     let tree = canonical::parse(octets).ok_or(NOT_OWN)?;
     placed(&tree, MAX_CANONICAL, MAX_NODES).map_err(|_| NOT_OWN)?;

@@ -16,4 +16,5 @@ pub mod entries;
 pub mod lexeme;
 pub mod limits;
 pub mod output;
+pub mod spool;
 pub mod tree;

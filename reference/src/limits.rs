@@ -37,3 +37,5 @@ pub const TOO_LARGE: u32 = 6;
 pub const NOT_OWN: u32 = 7;
 /// Refusal: the node number names no node.
 pub const NO_SUCH_NODE: u32 = 8;
+/// Refusal: the area of a spool is damaged.
+pub const DAMAGED: u32 = 10;

@@ -168,4 +168,46 @@ extern "C" {
         start: *mut usize,
         end: *mut usize,
     ) -> u32;
+
+    pub fn etg_spool_open(
+        area: *const u8,
+        area_size: usize,
+        number: usize,
+        count: *mut usize,
+        start: *mut usize,
+        end: *mut usize,
+    ) -> u32;
+
+    pub fn etg_spool_add_start(
+        area: *const u8,
+        area_size: usize,
+        sheet: *const u8,
+        sheet_size: usize,
+        length: usize,
+        state: *mut [u64; 4],
+    ) -> u32;
+
+    pub fn etg_spool_add_step(
+        state: *mut [u64; 4],
+        area: *mut u8,
+        area_size: usize,
+        sheet: *const u8,
+        sheet_size: usize,
+    ) -> u32;
+
+    pub fn etg_spool_add_commits(
+        state: *const [u64; 4],
+        area: *const u8,
+        area_size: usize,
+        sheet: *const u8,
+        sheet_size: usize,
+    ) -> u32;
+
+    pub fn etg_spool_add(
+        area: *mut u8,
+        area_size: usize,
+        sheet: *const u8,
+        sheet_size: usize,
+        length: usize,
+    ) -> u32;
 }

@@ -25,6 +25,9 @@ mod ffi;
 mod form;
 mod records;
 mod refusal;
+mod spool;
+#[cfg(target_os = "linux")]
+mod spool_file;
 mod table;
 
 pub use form::Form;
@@ -33,6 +36,9 @@ pub use records::{
     read_records_form, replace_records, replace_records_form, Record,
 };
 pub use refusal::Refusal;
+pub use spool::{spool_add, spool_open, spool_shown, Adding, Opened};
+#[cfg(target_os = "linux")]
+pub use spool_file::{SpoolError, SpoolFile};
 
 /// Most octets of a source.
 pub const MAX_SOURCE: usize = 32_768;

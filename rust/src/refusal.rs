@@ -24,6 +24,8 @@ pub enum Refusal {
     NotOwn = 7,
     /// 8: there is no node of that number.
     NoNode = 8,
+    /// 10: the area of a spool is damaged.
+    Damaged = 10,
 }
 
 impl Refusal {
@@ -43,6 +45,7 @@ impl Refusal {
             Refusal::Size => "over 16,384 canonical octets, or a result over the lent room",
             Refusal::NotOwn => "not one tree's canonical form with its own table",
             Refusal::NoNode => "there is no node of that number",
+            Refusal::Damaged => "the area of the spool is damaged",
         }
     }
 
@@ -57,6 +60,7 @@ impl Refusal {
             6 => Refusal::Size,
             7 => Refusal::NotOwn,
             8 => Refusal::NoNode,
+            10 => Refusal::Damaged,
             _ => unreachable!("the library gives no other number"),
         })
     }

@@ -10,7 +10,7 @@ use std::process::Command;
 use std::thread;
 
 use common::{empties, nested, padded, verbatim, NUMBER, OCTET};
-use etglavino::{Extent, Record, Refusal, MAX_CANONICAL, MAX_NODES, MAX_SOURCE, RECORD};
+use etglavino::{Adding, Extent, Record, Refusal, MAX_CANONICAL, MAX_NODES, MAX_SOURCE, RECORD};
 
 /// What a thread has: enough for any entry, and for the thread itself.
 const STACK: usize = 192 * 1024;
@@ -534,4 +534,41 @@ fn etg_data_records() {
     alone("etg_data_records", || {
         looking(etglavino::data_records_part, DATA, Some(FULL_DATA))
     });
+}
+
+/// Areas of the largest sheets, and one sheet more; in the last there is no
+/// room, and after it damage.
+fn spooling() {
+    let sheet = FULL.canonical();
+    let mut area = vec![0; 4 * (sheet.len() + 3) - 1];
+    for added in [Ok(()), Ok(()), Ok(()), Err(Refusal::Size)] {
+        let before = area.clone();
+        let mut stepped = area.clone();
+        let started = tight("start", || {
+            Adding::start(&before, &sheet, sheet.len()).map(|mut adding| loop {
+                let last = adding.commits(&stepped, &sheet);
+                let done = adding.step(&mut stepped, &sheet);
+                assert_eq!(last, done);
+                if done {
+                    break;
+                }
+            })
+        });
+        assert_eq!(started, added);
+        let answer = tight("add", || {
+            etglavino::spool_add(&mut area, &sheet, sheet.len())
+        });
+        assert_eq!(answer, added);
+        assert!(area == stepped);
+    }
+    let opened = tight("open", || etglavino::spool_open(&area, 2));
+    assert_eq!(opened.map(|opened| opened.count), Ok(3));
+    area[3] = b')';
+    let opened = tight("open", || etglavino::spool_open(&area, 2));
+    assert_eq!(opened, Err(Refusal::Damaged));
+}
+
+#[test]
+fn etg_spool() {
+    alone("etg_spool", spooling);
 }

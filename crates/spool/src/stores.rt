@@ -1,0 +1,88 @@
+// The stores of an addition: how many, and which octet each is.
+ghost use mathlib.Core.Path.{_≡_};
+ghost use Prim.Native.Nat.{_≤_};
+ghost use Rattle.spool.specs.Stores.{offsetOf, storesOfLen, NextOf};
+use super::lengths::groups_len;
+use crate::Adding;
+
+// The next store: the octet of the entry at an offset, how many groups its length has, and whether it is the last store; or none. The
+// octet past the entry is 0.
+pub enum Next {
+    Octet {
+        offset: usize,
+        groups: usize,
+        last: bool,
+    },
+    Nothing,
+}
+
+// Which octet of an entry is stored: the one behind it first, if the area has one, and the entry's first one last.
+fn offset(behind: bool, len: usize, made: usize) -> usize
+    requires { ⌜ made ≤ len ⌝ }
+    ensures { λ r. ⌜ r ≡ offsetOf behind len made ⌝ }
+{
+    if behind {
+        if made == 0 {
+            return len;
+        }
+        if made < len {
+            return made;
+        }
+        return 0;
+    }
+    if made >= len {
+        return 0;
+    }
+    if made + 1 < len {
+        return made + 1;
+    }
+    0
+}
+
+// How many stores an addition has.
+fn stores_len(behind: bool, len: usize) -> usize
+    requires { ⌜ len ≤ 20000 ⌝ }
+    ensures { λ r. ⌜ r ≡ storesOfLen behind len ⌝ }
+{
+    if behind {
+        return len + 1;
+    }
+    len
+}
+
+// The next store of an addition. A state that no start and no step handed back may have none.
+pub fn next_store(adding: Adding, area: &[u8], sheet: &[u8]) -> Next
+    ensures { λ r. ⌜ NextOf adding (now (area .entry)) (now (sheet .entry)) r ⌝ }
+{
+    let at = adding.at;
+    let octets = adding.octets;
+    let made = adding.made;
+    if adding.done {
+        return Next::Nothing;
+    }
+    if octets > sheet.len() {
+        return Next::Nothing;
+    }
+    if octets > limits::CANONICAL {
+        return Next::Nothing;
+    }
+    let groups = groups_len(octets);
+    let len = groups + octets;
+    if len > area.len() {
+        return Next::Nothing;
+    }
+    if at > area.len() - len {
+        return Next::Nothing;
+    }
+    let behind = at + len < area.len();
+    let total = stores_len(behind, len);
+    if made >= total {
+        return Next::Nothing;
+    }
+    let i = offset(behind, len, made);
+    Next::Octet {
+        offset: i,
+        groups,
+        last: made + 1 >= total,
+    }
+}
