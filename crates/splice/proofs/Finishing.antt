@@ -3,14 +3,12 @@ use Prim.Native.Nat.{ℕ, _+_, _*_, _-_, _≤_, _<_, max}
 use native.Mathlib.Omega.{arith}
 use mathlib.Core.Path.{_≡_, refl, sym, ap, ap₂, _∙_, subst}
 use mathlib.Core.Bool.{Bool, true, false}
-use mathlib.Core.Option.{some}
 use mathlib.Core.List.{List}
 use lib.ListN.{length, take, drop, replicate}
 use lib.Seq.{sets, length-take-le}
 use lib.Dec.{eqb}
 use borrow.Author.Tests.{eqb-true}
 use Rattle.base.proofs.Cases.{some-same, untrue}
-use Rattle.model.specs.Decode.{decode₁}
 use Rattle.model.specs.Limits.{maxSource}
 use Rattle.model.specs.Table.{width, tableOf}
 use Rattle.model.specs.Edit.{replace}
