@@ -8,7 +8,7 @@ use Rattle.model.specs.Answers.{unchanged, replaced, replacingChecks, replacing
 use Rattle.model.specs.Decode.{decode}
 use Rattle.texts.specs.Texts.{textVerdict}
 use Rattle.texts.proofs.Rows.{text-refused, text-taken}
-use Rattle.answers.specs.Cases.{outcome, Refuses}
+use Rattle.answers.specs.Cases.{Refuses}
 use Rattle.plan.specs.Planned.{treeChecks, replaceTree}
 use Rattle.answers.specs.declared.Reading.{Reading}
 use Rattle.answers.specs.declared.Reading.the-variants as reading

@@ -9,11 +9,10 @@ use lib.ListN.{length, take, drop, getD, replicate, length-take}
 use lib.Seq.{sets, length-sets}
 use Rattle.base.specs.Choice.{isNone}
 use Rattle.base.proofs.Cases.{differ, some-same}
-use Rattle.model.specs.Answers.{the, settled, Outcome, unchanged, filled}
+use Rattle.model.specs.Answers.{the, Outcome, unchanged, filled}
 use Rattle.model.specs.Decode.{decode₁, decode}
 use Rattle.model.specs.Edit.{replace}
 use Rattle.model.specs.Limits.{Accepted, maxCanonical}
-use Rattle.model.specs.Table.{width, tableOf}
 use Rattle.model.specs.Tree.{Tree, canon, nodes, depth}
 use Rattle.model.proofs.Exact.{canon-complete}
 use Rattle.model.proofs.Laws.{canonical-unique, nodes-within-half}
@@ -30,7 +29,7 @@ use Rattle.lookup.proofs.Sheets as good
 use Rattle.sheets.specs.Told.{Holds}
 use Rattle.sheets.proofs.Keeping.{noted-length}
 use Rattle.lookup.specs.Noted.{Sheet}
-use Rattle.plan.specs.Planned.{Known, Lends, treeChecks, replaceTree, AtNode, Taking, Fitting, Misfitting, Plans}
+use Rattle.plan.specs.Planned.{Known, treeChecks, replaceTree, AtNode, Taking, Fitting, Misfitting, Plans}
 use Rattle.editor.specs.Given.{Noteable, Gives, GivesTree}
 use Rattle.editor.specs.Placed.{Standing, Placeable, Placed}
 use Rattle.plan.proofs.Resizing.{depth-few, ordered}

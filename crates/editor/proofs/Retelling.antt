@@ -1,28 +1,22 @@
 -- The table as numbers: told by the new notes, it is the one that the answer speaks of.
-use Prim.Native.Nat.{ℕ, _*_, _/_, _≤_}
+use Prim.Native.Nat.{ℕ, _/_}
 use native.Mathlib.Omega.{arith}
-use mathlib.Core.Path.{_≡_, refl, sym, ap, _∙_, subst}
+use mathlib.Core.Path.{_≡_, sym, ap, _∙_, subst}
 use mathlib.Core.Bool.{Bool}
 use mathlib.Core.List.{List}
 use lib.ListN.{length}
 use Rattle.model.specs.Answers.{replacing}
-use Rattle.model.specs.Table.{width, records}
-use Rattle.lookup.specs.Noted.{Notes, Owned}
-use Rattle.plan.specs.Planned.{Known, Lends}
+use Rattle.model.specs.Table.{width}
+use Rattle.lookup.specs.Noted.{Owned}
+use Rattle.plan.specs.Planned.{Lends}
 use Rattle.splice.specs.Rewritten.{Retellable, Retold}
 use Rattle.answers.specs.Cases.{outcome}
 use Rattle.answers.specs.declared.Refusal.{Refusal}
 use Rattle.answers.specs.declared.Reading.{Reading}
 use Rattle.answers.specs.declared.Reading.the-variants as reading
-use Rattle.editor.specs.Given.{Noteable, Giving, Gives, GivesText}
-
-pub numbers-notes : (count more room : ℕ) → Noteable count more room → Notes count room
-numbers-notes count more room h = record { enough = omega (arith, h .enough) }
+use Rattle.editor.specs.Given.{Giving, Gives, GivesText}
 
 module _ (form : ℕ) (text canonical : List ℕ) (len count : ℕ) (table notes : List ℕ) (node : ℕ) (own : Bool) (o : Owned canonical len table count notes own) (n : ℕ) (z : n ≡ length table / width) where
-  pub numbers-known : Known canonical len count n notes own
-  numbers-known = record { sheet = λ y. rw z (o .sheet y) }
-
   lends : Lends canonical len count n own table
   lends = record { recorded = sym z; tells = o .tells }
 

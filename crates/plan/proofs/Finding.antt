@@ -9,19 +9,19 @@ use lib.ListN.{length, getD}
 use lib.Dec.{leb}
 use borrow.Author.Tests.{le-leb, lt-leb}
 use Rattle.model.specs.Table.{Row, records, numbers, rowOf}
-use Rattle.base.specs.Choice.{not, isNone}
+use Rattle.base.specs.Choice.{isNone}
 use Rattle.model.specs.Answers.{verdict, the, roomChecks, ownTree, unchanged, filled}
 use Rattle.model.specs.Edit.{replace}
 use Rattle.model.specs.Tree.{Tree, canon, nodes, depth}
 use Rattle.model.proofs.Judging.{judged-accepted, judged-refused, verdict-here, verdict-past}
 use Rattle.sheets.specs.Rows.{rowList, RowIs}
-use Rattle.sheets.specs.Told.{rowAt, Readable, Holds}
+use Rattle.sheets.specs.Told.{rowAt, Readable}
 use Rattle.sheets.specs.declared.rows.Row as coded
 use Rattle.sheets.proofs.Telling.{holds-row, holds-readable, holds-long}
 use Rattle.reader.specs.Stored.{roomVerdict}
 use Rattle.reader.proofs.Rooms.{rooms}
 use Rattle.lookup.proofs.Sheets.{tree-of, none-of}
-use Rattle.plan.specs.Planned.{treeChecks, replaceTree, Recorded, Levels, Spot, Kept, Findable, Finds}
+use Rattle.plan.specs.Planned.{treeChecks, replaceTree, Recorded, Levels, Kept, Findable, Finds}
 use Rattle.plan.specs.declared.Found.the-variants.{Node, Unfound}
 use Rattle.plan.proofs.Levelling.{levels-holders}
 

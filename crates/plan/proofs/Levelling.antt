@@ -13,7 +13,7 @@ use borrow.Author.Tests.{lt-ltb, le-ltb}
 use Rattle.base.specs.Choice.{pick}
 use Rattle.base.proofs.Cases.{by-le, picked, unpicked}
 use Rattle.model.specs.Table.{Row, plainRow, rows, rowOf}
-use Rattle.model.specs.Tree.{Tree, nodes}
+use Rattle.model.specs.Tree.{Tree}
 use Rattle.walk.proofs.Tabled.{rows-length}
 use Rattle.sheets.specs.Told.{rowAt, Countable, Holds}
 use Rattle.sheets.proofs.Telling.{holds-row}

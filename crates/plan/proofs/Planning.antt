@@ -1,19 +1,18 @@
 -- The plan: what is found, resized and judged.
-use Prim.Native.Nat.{ℕ, _+_, _-_, _≤_, _<_}
+use Prim.Native.Nat.{ℕ, _-_, _≤_, _<_}
 use native.Mathlib.Omega.{arith}
 use mathlib.Core.Path.{_≡_, refl, sym, ap, _∙_, subst}
-use mathlib.Core.Bool.{Bool, true}
-use mathlib.Core.Option.{Option, some}
+use mathlib.Core.Bool.{Bool}
+use mathlib.Core.Option.{some}
 use mathlib.Core.List.{List}
 use lib.ListN.{length}
 use lib.Dec.{ltb}
 use borrow.Author.Tests.{le-ltb, ltb-false}
 use Rattle.base.proofs.Cases.{some-same}
-use Rattle.base.specs.Choice.{chain}
 use Rattle.model.specs.Limits.{maxDepth}
 use Rattle.model.specs.Edit.{replace}
 use Rattle.model.specs.Table.{records}
-use Rattle.model.specs.Answers.{sheetTree, ownTree}
+use Rattle.model.specs.Answers.{ownTree}
 use Rattle.model.specs.Tree.{Tree, canon, nodes, depth}
 use Rattle.reader.specs.Stored.{roomVerdict}
 use Rattle.reader.proofs.Rooms.{Lodged, roomy}
@@ -22,7 +21,7 @@ use Rattle.lookup.proofs.Sheets.{tree-of, sheet-of, Own, own-of}
 use Rattle.lookup.proofs.Sheets as good
 use Rattle.plan.specs.Planned.{Known, Lends, Sized, Small, Findable, Finding, Refusing, Finds, AtNode, Resizable, resized, Plans}
 use Rattle.plan.proofs.Finding.{node-refused, node-accepted}
-use Rattle.plan.proofs.Resizing.{resizable, long-is, nodes-are, deep-where, ordered}
+use Rattle.plan.proofs.Resizing.{resizable, long-is, nodes-are, deep-where}
 use Rattle.plan.specs.declared.Sizes.{Sizes}
 use Rattle.plan.specs.declared.Found.{Found}
 use Rattle.plan.specs.declared.Found.the-variants.{Node, Unfound}

@@ -4,7 +4,7 @@ use native.Mathlib.Omega.{arith}
 use mathlib.Core.Path.{_≡_, sym, ap₂, _∙_}
 use lib.ListN.{length}
 use lib.Dec.{ltb}
-use Rattle.model.specs.Limits.{maxDepth, maxNodes}
+use Rattle.model.specs.Limits.{maxDepth}
 use Rattle.model.specs.Edit.{replace}
 use Rattle.model.specs.Tree.{Tree, plain, hinted, list, Forest, nil, cons, canon, nodes, nodess, depth, depths}
 use Rattle.edits.proofs.Demand.{entry-in, replace-length, replace-nodes}

@@ -3,22 +3,22 @@ use mathlib.Core.Path.{_≡_, refl, sym, _∙_, ap, subst}
 use mathlib.Core.Bool.{Bool, true, false}
 use mathlib.Core.Option.{Option, none, some}
 use mathlib.Core.List.{List, [], _∷_}
-use Prim.Native.Nat.{ℕ, zero, suc, _+_, _*_, _≤_, _<_}
+use Prim.Native.Nat.{ℕ, zero, suc, _*_, _≤_, _<_}
 use native.Mathlib.Omega.{arith}
 use native.Mathlib.Numerals.{add-one}
 use lib.Dec.{eqb}
 use lib.ListN.{length, take, getD}
 use borrow.Author.Tests.{eq-eqb, ne-eqb}
-use Rattle.base.specs.Choice.{pick, both, not, equal, chain, isNone}
+use Rattle.base.specs.Choice.{pick, not, equal, chain, isNone}
 use Rattle.base.proofs.Cases.{by-bool, by-eq, differ, picked, unpicked, some-same, none-some}
 use Rattle.base.proofs.Lists.{equal-true, same-equal}
 use Rattle.model.specs.Tree.{Tree, nodes}
 use Rattle.model.specs.Table.{Row, width, tableOf}
 use Rattle.model.specs.Table as table
-use Rattle.model.specs.Answers.{sheetTree, owns, ownTree}
+use Rattle.model.specs.Answers.{owns, ownTree}
 use Rattle.walk.specs.Events.{recordAt}
 use Rattle.sheets.specs.Rows.{rowList, RowIs}
-use Rattle.sheets.specs.Told.{rowAt, Readable, Holds, Fillable, Compared}
+use Rattle.sheets.specs.Told.{rowAt, Holds, Fillable, Compared}
 use Rattle.sheets.specs.declared.rows.Row as coded
 use Rattle.sheets.proofs.Filling.{Comparing, compare-start, compare-on, compare-off, compare-end}
 use Rattle.sheets.proofs.Telling.{holds-readable}

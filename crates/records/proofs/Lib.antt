@@ -11,3 +11,5 @@ pub mod Placing
 pub mod Counting
 pub mod Retelling
 pub mod Holding
+pub mod SheetNoting
+pub mod Correcting

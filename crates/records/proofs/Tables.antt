@@ -2,10 +2,10 @@
 use mathlib.Core.Path.{_≡_, refl, sym, _∙_, ap}
 use mathlib.Core.List.{List, [], _∷_, _++_, head-eq-of-cons-eq, tail-eq-of-cons-eq, cons-ne-nil, append-assoc}
 use Prim.Native.Nat.{ℕ, zero, suc, _+_, _*_, _<_, _≤_}
-use native.Mathlib.Nat.{add-zero, zero-add, suc-add, add-suc}
+use native.Mathlib.Nat.{zero-add, suc-add, add-suc}
 use native.Mathlib.Omega.{arith}
 use lib.ListN.{length, take, drop, getD, set, length-drop}
-use lib.Seq.{sets, drop-drop, take-add, getD-drop, length-take-le}
+use lib.Seq.{sets, drop-drop, take-add, length-take-le}
 use Rattle.base.proofs.Stores.{sets-all}
 use Rattle.records.specs.declared.Record.{Record}
 use Rattle.records.specs.Numbers.{eight, numbers}

@@ -1,15 +1,14 @@
 -- The records that notes tell are those of the table whose notes they are, and zeros past it.
-use mathlib.Core.Path.{_≡_, refl, sym, _∙_, ap, subst}
+use mathlib.Core.Path.{_≡_, refl, sym, _∙_, ap}
 use mathlib.Core.List.{List, [], _∷_, _++_, append-assoc, head-eq-of-cons-eq, tail-eq-of-cons-eq}
 use Prim.Native.Nat.{ℕ, zero, suc, _+_, _*_, _-_, _<_, _≤_, max}
 use native.Mathlib.Omega.{arith}
-use lib.Dec.{ltb}
 use borrow.Author.Tests.{lt-ltb, le-ltb}
-use lib.ListN.{length, take, drop, getD, set, replicate, length-set, length-append, length-replicate}
+use lib.ListN.{length, take, drop, getD, replicate, length-set, length-append, length-replicate}
 use lib.Seq.{sets, drop-drop, drop-at, take-all}
 use Rattle.base.proofs.Cases.{by-le, picked, unpicked}
 use Rattle.model.specs.Tree.{Tree, nodes}
-use Rattle.model.specs.Table.{Row, rows, rowOf, plainRow, flat, tableOf}
+use Rattle.model.specs.Table.{Row, rows, plainRow, flat, tableOf}
 use Rattle.model.specs.Table as table
 use Rattle.model.specs.Answers.{Outcome, settled}
 use Rattle.walk.proofs.Tabled.{table-length, rows-length}
@@ -17,7 +16,7 @@ use Rattle.sheets.specs.Rows.{rowList, RowIs}
 use Rattle.sheets.specs.Told.{rowAt, Readable, Holds}
 use Rattle.sheets.specs.declared.rows.Row as coded
 use Rattle.sheets.proofs.Telling.{holds-row, holds-readable}
-use Rattle.reader.specs.Stored.{Accepting, Puts}
+use Rattle.reader.specs.Stored.{Puts}
 use Rattle.reader.proofs.Rooms.{settled-front}
 use Rattle.editor.specs.Given.{Gives}
 use Rattle.answers.specs.Cases.{outcome}

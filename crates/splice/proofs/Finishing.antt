@@ -3,14 +3,12 @@ use Prim.Native.Nat.{ℕ, _+_, _*_, _-_, _≤_, _<_, max}
 use native.Mathlib.Omega.{arith}
 use mathlib.Core.Path.{_≡_, refl, sym, ap, ap₂, _∙_, subst}
 use mathlib.Core.Bool.{Bool, true, false}
-use mathlib.Core.Option.{some}
 use mathlib.Core.List.{List}
 use lib.ListN.{length, take, drop, replicate}
 use lib.Seq.{sets, length-take-le}
 use lib.Dec.{eqb}
 use borrow.Author.Tests.{eqb-true}
 use Rattle.base.proofs.Cases.{some-same, untrue}
-use Rattle.model.specs.Decode.{decode₁}
 use Rattle.model.specs.Limits.{maxSource}
 use Rattle.model.specs.Table.{width, tableOf}
 use Rattle.model.specs.Edit.{replace}
@@ -20,10 +18,11 @@ use Rattle.walk.proofs.Tabled.{table-length}
 use Rattle.sheets.specs.Notes.{Notable, Noted}
 use Rattle.sheets.specs.Told.{Holds, Filled}
 use Rattle.sheets.proofs.Held.{note-holds}
-use Rattle.splice.specs.Rewritten.{Movable, Rewritable, Reworkable, Alone, Workable, Rewritten, Retellable, Retold}
+use Rattle.splice.specs.Rewritten.{Movable, Ended, Rewritable, Reworkable, Alone, Workable, Rewritten, Retellable, Retold}
 use Rattle.splice.specs.Moved.{Renotable, Renoted}
 use Rattle.splice.proofs.Renoting.{renotable, renoted-holds}
 use Rattle.splice.proofs.Spliced.{zeroed}
+use Rattle.answers.specs.declared.Reading.{Reading}
 use Rattle.answers.specs.declared.Reading.the-variants as reading
 
 -- ---- gap
@@ -33,6 +32,12 @@ module _ (c c′ : List ℕ) (start end len n : ℕ) (g : Movable (length c) sta
 
   pub lowered : n ≤ end - start → c′ ≡ sets c (end - ((end - start) - n)) (take (len - end) (drop end c)) → c′ ≡ sets c (start + n) (take (len - end) (drop end c))
   lowered h e = let z : end - ((end - start) - n) ≡ start + n = omega (arith, g .ordered) in e ∙ ap (λ (m : ℕ). sets c m (take (len - end) (drop end c))) z
+
+-- ---- end
+pub ended : (canonical : List ℕ) (old len count m : ℕ) → m ≡ max old len → (canonical′ : List ℕ) → canonical′ ≡ sets canonical len (replicate (m - len) 0) → Ended canonical old len count canonical′ (reading.Accepted len count)
+ended canonical old len count m e canonical′ z =
+    let a : m - len ≡ old - len = omega arith in
+    record { octets = z ∙ ap (λ (n : ℕ). sets canonical len (replicate n 0)) a; tells = refl }
 
 -- ---- finish
 module _ (canonical notes : List ℕ) (old len count : ℕ) (g : Rewritable canonical (length notes) old len count) where
@@ -45,17 +50,16 @@ module _ (canonical notes : List ℕ) (old len count : ℕ) (g : Rewritable cano
   abbrev notable : Notable (take len canonical) (length notes)
   notable = record { tree = g .tree; is = g .is; deep = g .deep; fits = omega (arith, g .counted, g .noted) }
 
-  module _ (notes′ : List ℕ) (x : Extent) (v : Noted (take len canonical) notes notes′ x) (m : ℕ) (e : m ≡ max old len) (canonical′ : List ℕ) (z : canonical′ ≡ sets canonical len (replicate (m - len) 0)) where
+  module _ (notes′ : List ℕ) (x : Extent) (v : Noted (take len canonical) notes notes′ x) (canonical′ : List ℕ) (r : Reading) (z : Ended canonical old len count canonical′ r) where
     mine : Holds notes′ count (g .tree)
     mine = subst (λ (n : ℕ). Holds notes′ n (g .tree)) (sym (g .counted)) (note-holds (take len canonical) notes notes′ x v finish-short notable)
 
-    pub finished : Rewritten canonical old len count canonical′ notes′ (reading.Accepted len count)
+    pub finished : Rewritten canonical old len count canonical′ notes′ r
     finished =
-        let a : m - len ≡ old - len = omega arith in
         record {
-          octets = z ∙ ap (λ (n : ℕ). sets canonical len (replicate n 0)) a;
+          octets = z .octets;
           held = λ t i. subst (Holds notes′ count) (some-same (λ (u : Tree). g .tree ≡ u) (sym (g .is) ∙ i) refl) mine;
-          tells = refl;
+          tells = z .tells;
         }
 
 -- ---- refinish
@@ -68,19 +72,18 @@ module _ (canonical notes : List ℕ) (old len count node start note : ℕ) (g :
       rw (g .starts, g .oldLong, g .long)
       (renotable (g .tree) node (g .inside) (g .text) (g .single) (g .same) notes count (g .held) note (g .entry) short (g .few) (omega (arith, g .oldLong, g .oldShort)))
 
-  module _ (notes′ : List ℕ) (w : Renoted notes node count start old len note notes′) (m : ℕ) (e : m ≡ max old len) (canonical′ : List ℕ) (z : canonical′ ≡ sets canonical len (replicate (m - len) 0)) where
+  module _ (notes′ : List ℕ) (w : Renoted notes node count start old len note notes′) (canonical′ : List ℕ) (r : Reading) (z : Ended canonical old len count canonical′ r) where
     its : Holds notes′ count (replace (g .tree) node (g .text))
     its =
         renoted-holds (g .tree) node (g .inside) (g .text) (g .single) (g .same) notes count (g .held) note (g .entry) short notes′
         (rw (sym (g .starts), sym (g .oldLong), sym (g .long)) w)
 
-    pub refinished : Rewritten canonical old len count canonical′ notes′ (reading.Accepted len count)
+    pub refinished : Rewritten canonical old len count canonical′ notes′ r
     refinished =
-        let a : m - len ≡ old - len = omega arith in
         record {
-          octets = z ∙ ap (λ (n : ℕ). sets canonical len (replicate n 0)) a;
+          octets = z .octets;
           held = λ t i. subst (Holds notes′ count) (some-same (λ (u : Tree). replace (g .tree) node (g .text) ≡ u) (sym (g .is) ∙ i) refl) its;
-          tells = refl;
+          tells = z .tells;
         }
 
 -- ---- settle

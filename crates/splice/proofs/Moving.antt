@@ -6,10 +6,9 @@ use mathlib.Core.Bool.{Bool, true, false}
 use mathlib.Core.List.{List}
 use lib.ListN.{length, getD, set, length-set}
 use lib.Seq.{getD-set-same, getD-set-other}
-use lib.Dec.{eqb, ltb}
+use lib.Dec.{ltb}
 use borrow.Author.Tests.{lt-ltb, le-ltb, eq-eqb, ne-eqb}
-use Rattle.base.specs.Choice.{pick}
-use Rattle.base.proofs.Cases.{by-eq, by-le, picked, unpicked}
+use Rattle.base.proofs.Cases.{by-eq, picked, unpicked}
 use Rattle.model.specs.Limits.{maxNodes}
 use Rattle.sheets.specs.Notes.{listMark}
 use Rattle.sheets.specs.Told.{rowBy, rowAt, startPart, endPart, thirdPart, Countable}

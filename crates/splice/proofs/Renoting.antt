@@ -3,28 +3,27 @@ use Prim.Native.Nat.{ℕ, zero, suc, _+_, _*_, _-_, _≤_, _<_}
 use native.Mathlib.Omega.{arith}
 use native.Mathlib.Nat.{add-zero}
 use mathlib.Core.Path.{_≡_, refl, sym, ap, ap₂, _∙_, subst}
-use mathlib.Core.Bool.{Bool, true, false}
+use mathlib.Core.Bool.{true}
 use mathlib.Core.List.{List, [], _∷_}
 use lib.ListN.{length, take, getD}
 use lib.Seq.{getD-take, length-take-le}
-use lib.Dec.{eqb, ltb}
+use lib.Dec.{ltb}
 use borrow.Author.Tests.{lt-ltb, le-ltb, eq-eqb, ne-eqb}
-use Rattle.base.specs.Choice.{pick, both}
 use Rattle.base.proofs.Cases.{by-bool, by-eq, by-le, picked, unpicked, differ}
 use Rattle.model.specs.Edit.{replace}
 use Rattle.model.specs.Limits.{maxNodes, maxSource}
 use Rattle.model.specs.Table.{Row, plainRow, rows, rowOf}
-use Rattle.model.specs.Tree.{Tree, plain, hinted, list, Forest, canon, nodes, digits, verbatim}
+use Rattle.model.specs.Tree.{Tree, plain, hinted, list, Forest, canon, nodes}
 use Rattle.walk.proofs.Tabled.{rows-length}
 use Rattle.sheets.specs.Notes.{listMark, thirdOf, noteOf, notesOf, noted}
 use Rattle.sheets.specs.Places.{shift}
-use Rattle.sheets.specs.Told.{rowBy, rowAt, startPart, endPart, thirdPart, Holds}
+use Rattle.sheets.specs.Told.{rowBy, startPart, endPart, thirdPart, Holds}
 use Rattle.sheets.proofs.Telling.{holds-row, holds-long}
 use Rattle.sheets.proofs.Keeping.{noted-length}
 use Rattle.edits.specs.Moves.{Grows, Shifts}
 use Rattle.edits.specs.Node as node
-use Rattle.edits.proofs.Demand.{entry-in, lists-around-lists, replace-length, replace-nodes, record-stays, record-grows, record-entry, record-shifts}
-use Rattle.splice.specs.Moved.{span, hinting, movedNote, grownNote, Moving, Growing, holds, Renotable, Renoted}
+use Rattle.edits.proofs.Demand.{entry-in, lists-around-lists, replace-nodes, record-stays, record-grows, record-entry, record-shifts}
+use Rattle.splice.specs.Moved.{span, hinting, movedNote, grownNote, holds, Renotable, Renoted}
 use Rattle.splice.proofs.Moving.{moved-plain, moved-hinted, moved-list, grown-held, grown-aside}
 
 -- ---- a note and its row

@@ -23,6 +23,15 @@ pub record Movable (room start end len n : ℕ) : Type 0 where
   pub lent : len ≤ room
   pub fits : start + n + (len - end) ≤ room
 
+-- old octets and new are lent
+pub record Ending (room old len : ℕ) : Type 0 where
+  pub lent : len ≤ room
+  pub oldLent : old ≤ room
+
+pub record Ended (canonical : List ℕ) (old len count : ℕ) (canonical′ : List ℕ) (r : Reading) : Type 0 where
+  pub octets : canonical′ ≡ sets canonical len (replicate (old - len) 0)
+  pub tells : r ≡ reading.Accepted len count
+
 -- the first len octets are a fitting tree's canonical form and its notes have room, where a sheet of old octets stood
 pub record Rewritable (canonical : List ℕ) (room old len count : ℕ) : Type 0 where
   pub tree : Tree

@@ -6,7 +6,7 @@ ghost use mathlib.Core.Path.{_≡_};
 ghost use Prim.Native.Nat.{_+_, _-_};
 ghost use lib.ListN.{length, take, drop};
 ghost use lib.Seq.{sets};
-ghost use Rattle.splice.specs.Rewritten.{Movable, Rewritable, Reworkable, Alone, Workable, Rewritten, Retellable, Retold};
+ghost use Rattle.splice.specs.Rewritten.{Movable, Ending, Ended, Rewritable, Reworkable, Alone, Workable, Rewritten, Retellable, Retold};
 use answers::Reading;
 
 // The octets after a node moved, so that `len` octets have room from `start` on.
@@ -19,6 +19,18 @@ pub fn gap(canonical: &mut [u8], start: usize, end: usize, whole: usize, len: us
         moves::move_up(canonical, end, whole, len - old);
     } else {
         moves::move_down(canonical, end, whole, old - len);
+    }
+}
+
+// Zeros from the `len` octets that stand there up to a larger old length, and the answer.
+fn end(canonical: &mut [u8], old: usize, len: usize, count: usize) -> Reading
+    requires { ⌜ Ending (length (now canonical)) old len ⌝ }
+    ensures { λ r. ⌜ Ended (now (canonical .entry)) old len count (now (canonical .exit)) r ⌝ }
+{
+    moves::zero(canonical, len, walk::larger(old, len));
+    Reading::Accepted {
+        length: len,
+        nodes: count,
     }
 }
 
@@ -35,11 +47,7 @@ fn finish(
 {
     let part = &canonical[..len];
     sheets::note(part, notes);
-    moves::zero(canonical, len, walk::larger(old, len));
-    Reading::Accepted {
-        length: len,
-        nodes: count,
-    }
+    end(canonical, old, len, count)
 }
 
 // The same, where a string gave way to a string: the notes move, and the node's own is that of the text, moved to where the node
@@ -58,11 +66,7 @@ fn refinish(
     ensures { λ r. ⌜ Rewritten (now (canonical .entry)) old len count (now (canonical .exit)) (now (notes .exit)) r ⌝ }
 {
     notes::renote(notes, node, count, start, old, len, note);
-    moves::zero(canonical, len, walk::larger(old, len));
-    Reading::Accepted {
-        length: len,
-        nodes: count,
-    }
+    end(canonical, old, len, count)
 }
 
 // Whether a string gives way to a string: what comes has one node, and as many are there as were.

@@ -1,6 +1,6 @@
 -- `records::data` meets its contract: a walk of its MIR, by hand, of two calls. The sheet goes to `shown`, and what that returns is returned.
 -- All that the proof knows of `place` and `shown` is that each meets its contract.
-use mathlib.Core.Path.{_≡_, refl, _∙_, ap}
+use mathlib.Core.Path.{refl, _∙_, ap}
 use Prim.Native.Nat.{ℕ, _<_, _^_}
 use mathlib.Core.Bool.{false}
 use mathlib.Core.List.{[], _∷_, List}

@@ -54,11 +54,11 @@ use Rattle.records.specs.Told.{Comparable}
 use Rattle.records.proofs.Facts.{is-bool}
 use Rattle.records.proofs.Spelled.{word, placeTy, bytes, recs, Notes, notesTy, toNotes}
 use Rattle.records.proofs.Noted.{zeros, zeros-typed, zeroed, at-local, lends-mut, mut-back, lends-const, const-back, dies}
+use Rattle.records.proofs.SheetNoting.{Noting, to-note, goes-note, NotedNext, NoteLast}
 use Rattle.records.proofs.Holding.{Holding, to-hold, goes-hold, HeldNext, Agreed, said-hold}
 use Rattle.records.proofs.Comparing.{sheet-comparable, sheet-owning, sheet-readables}
 use Rattle.records.proofs.Showing.{place-noted}
 use Rattle.records.proofs.Record as T
-use Rattle.lookup.proofs.noted.note_sheet as noting
 use Rattle.lookup.proofs.noted.note_sheet.Symbol as noting-def
 use Rattle.lookup.proofs.noted.note_sheet.Symbol.{name as #note-sheet}
 use Rattle.lookup.proofs.noted.note_sheet.Met as noting-thm
@@ -80,9 +80,6 @@ stayed = (stay-dropped (shrSliceOf (0 ∷ []) tt (plain (λ _. u8))) yes, (stay-
 
 -- the contracts that the proof cites
 module _ {M : Type 1} (𝓤 : URA M) (H : Heap 𝓤) (A : Atoms 𝓤) (mem : Memory → SProp 𝓤) (run : Routine → Fun 𝓤) where
-  abbrev Noting : Contract 𝓤
-  Noting = tripleOf 𝓤 H A noting.signature (noting.spec 𝓤 H A mem run)
-
   abbrev Core : Contract 𝓤
   Core = tripleOf 𝓤 H A core.signature (core.spec 𝓤 H A mem run)
 
@@ -121,28 +118,10 @@ module _ {M : Type 1} (𝓤 : URA M) (H : Heap 𝓤) (A : Atoms 𝓤) (W : Given
   abbrev Post : Val → SProp 𝓤
   Post = walkOf 𝓤 H A place.ended stayed (place.clauses 𝓤 H A mem run) .post ((κs, (q₀, (q₁, tt)), tt, a, vals), tt)
 
-  -- what `lookup::note_sheet`'s triple binds outside, what it asks, and what it says
-  abbrev to-note : ℕ → ℕ → GName → Noting 𝓤 H A mem run .Ghost
-  to-note l ν ε = (((κ₀, (ν ∷ [], tt)), (q₀, (fullShare, tt)), tt, (can, (len, (at-local l ε zeros, (room, (nodes, tt))))), (sc ∷ [], (vint w64 len ∷ [], (vptr l 0 ∷ [], (vint w64 room ∷ [], (vint w64 nodes ∷ [], tt)))))), tt)
-
-  abbrev Passed : ℕ → ℕ → GName → List (Item 𝓤)
-  Passed l ν ε = (‵ (flft κ₀ q₀) ⊛ ‵ (flft (ν ∷ []) fullShare)) ∷ (‵ Can ⊛ ‵ (MutRef (named 1) (ν ∷ []) Notes .own (at-local l ε zeros) (vptr l 0 ∷ []))) ∷ []
-
-  goes-note : (l ν : ℕ) (ε : GName) → ent 𝓤 (⋆ 𝓤 H A (Passed l ν ε)) (Noting 𝓤 H A mem run .pre (to-note l ν ε))
-  goes-note l ν ε =
-      qed W (Passed l ν ε) ∵ split ! $ nothing ! $ move ! (2 ∷ 0 ∷ []) $ join ! $ move ! (1 ∷ 0 ∷ []) $ join ! $ move ! (1 ∷ []) $ split ! $
-      nothing ! $ owned ! usize (Is usize) (uint-makes 𝓤 H A W w64) nodes _ (refl, nodes-fits) $ fjoin ! $ owned ! usize (Is usize) (uint-makes 𝓤 H A W w64) room _ (refl, room₁ .0) $ fjoin ! $ move ! (2 ∷ 0 ∷ []) $ fjoin ! $ owned ! usize (Is usize) (uint-makes 𝓤 H A W w64) len _ (refl, len-fits) $ fjoin ! $ move ! (1 ∷ 0 ∷ []) $ fjoin ! $ move ! (1 ∷ 0 ∷ []) $ join ! $ frame ! $ done !
-
   abbrev Said₁ : Bool → List ℕ → Type 0
   Said₁ noted f′ = Sheeted (can .now) len nodes room f′ noted
 
-  abbrev NotedNext : ℕ → ℕ → GName → Val → Item 𝓤
-  NotedNext l ν ε u = later (some (λ (b : Bool). ((‵ (flft κ₀ q₀) ⊛ ‵ (flft (ν ∷ []) fullShare) ⊛ ‵ ftrue) ⊛ ‵ (bool .own b (u ∷ []))) ⊛ raw (ensured 𝓤 H A noting.ended (noting.clauses 𝓤 H A mem run) (κ₀, (ν ∷ [], tt)) (can, (len, (at-local l ε zeros, (room, (nodes, tt))))) tt b)))
-
-  abbrev NoteLast : ℕ → ℕ → GName → Bool → Item 𝓤
-  NoteLast l ν ε b = some (λ (ws : Unit {0} × (Unit {0} × (List ℕ × (Unit {0} × (Unit {0} × Unit {0}))))). ‵ (lasts noting.ended (κ₀, (ν ∷ [], tt)) (can, (len, (at-local l ε zeros, (room, (nodes, tt))))) ws) ⊛ raw (fact 𝓤 (Said₁ b (ws .1 .1 .0))))
-
-  -- the same of `lookup::place_by`
+  -- what `lookup::place_by`'s triple binds outside, what it asks, and what it says
   module _ (l ν : ℕ) (ε : GName) (f′ : List ℕ) (own : Bool) where
     abbrev to-core : Core 𝓤 H A mem run .Ghost
     to-core = (((ν ∷ [], tt), (fullShare, tt), tt, (at-local l ε f′, (nodes, (node, (own, (hinted, tt))))), (vptr l 0 ∷ [], (vint w64 nodes ∷ [], (vint w64 node ∷ [], (vbool own ∷ [], (vbool hinted ∷ [], tt)))))), tt)
@@ -221,9 +200,9 @@ module _ {M : Type 1} (𝓤 : URA M) (H : Heap 𝓤) (A : Atoms 𝓤) (W : Given
       notes-it =
           assigns ! (addr ! (from ! (stop !))) (from ! (stop !)) (init ! 10 refl (tt, tt)) $
           assigns ! (of-opd ! (load ! (from ! (fld ! refl (stop !))) (look-in ! 24 (sub ! 1 refl (whole !))))) (from ! (stop !)) (init ! 8 refl (tt, record { fits = room₁ .0 })) $
-          lft-new ! tt (λ ν. move ! (17 ∷ []) $ lends-mut ! tt (named 1) ν l₇ zeros (λ ε. move ! (3 ∷ 0 ∷ []) $ join ! $ move ! (4 ∷ 2 ∷ []) $ join ! $ use2 W (raw (Noting 𝓤 H A mem run .pre (to-note l₇ ν ε))) (goes-note l₇ ν ε) $
-          calls-at ! (fmOf 𝓤 H (W .laws) 𝓣) (Noting 𝓤 H A mem run) known-note (to-note l₇ ν ε) (and-then ! (load ! (from ! (stop !)) (look ! 27 refl)) (and-then ! (load ! (from ! (stop !)) (look ! 25 refl)) (and-then ! (load ! (from ! (stop !)) (look ! 10 refl)) (and-then ! (load ! (from ! (stop !)) (look ! 8 refl)) (and-then ! (load ! (from ! (stop !)) (look ! 21 refl)) (no-more !)))))) (λ u.
-          use1 W (NotedNext l₇ ν ε u) (id⊢ 𝓤 _) $ await ! tt $ pick ! (λ noted. split ! $ move ! (1 ∷ []) $ use1 W (NoteLast l₇ ν ε noted) (id⊢ 𝓤 _) $ pick ! (λ ws. split ! $ move ! (1 ∷ []) $ heard ! (Said₁ noted (ws .1 .1 .0)) (λ said. fsplit ! $ move ! (1 ∷ []) $ fsplit ! $ move ! (1 ∷ []) $ fsplit ! $ move ! (4 ∷ []) $ split ! $ move ! (1 ∷ []) $
+          lft-new ! tt (λ ν. move ! (17 ∷ []) $ lends-mut ! tt (named 1) ν l₇ zeros (λ ε. move ! (3 ∷ 0 ∷ []) $ join ! $ move ! (4 ∷ 2 ∷ []) $ join ! $ use2 W (raw (Noting 𝓤 H A mem run .pre (to-note 𝓤 H A W mem run len room nodes len-fits (room₁ .0) nodes-fits κ₀ q₀ can l₇ ν ε))) (goes-note 𝓤 H A W mem run len room nodes len-fits (room₁ .0) nodes-fits κ₀ q₀ can l₇ ν ε) $
+          calls-at ! (fmOf 𝓤 H (W .laws) 𝓣) (Noting 𝓤 H A mem run) known-note (to-note 𝓤 H A W mem run len room nodes len-fits (room₁ .0) nodes-fits κ₀ q₀ can l₇ ν ε) (and-then ! (load ! (from ! (stop !)) (look ! 27 refl)) (and-then ! (load ! (from ! (stop !)) (look ! 25 refl)) (and-then ! (load ! (from ! (stop !)) (look ! 10 refl)) (and-then ! (load ! (from ! (stop !)) (look ! 8 refl)) (and-then ! (load ! (from ! (stop !)) (look ! 21 refl)) (no-more !)))))) (λ u.
+          use1 W (NotedNext 𝓤 H A W mem run len room nodes len-fits (room₁ .0) nodes-fits κ₀ q₀ can l₇ ν ε u) (id⊢ 𝓤 _) $ await ! tt $ pick ! (λ noted. split ! $ move ! (1 ∷ []) $ use1 W (NoteLast 𝓤 H A W mem run len room nodes len-fits (room₁ .0) nodes-fits κ₀ q₀ can l₇ ν ε noted) (id⊢ 𝓤 _) $ pick ! (λ ws. split ! $ move ! (1 ∷ []) $ heard ! (Said₁ noted (ws .1 .1 .0)) (λ said. fsplit ! $ move ! (1 ∷ []) $ fsplit ! $ move ! (1 ∷ []) $ fsplit ! $ move ! (4 ∷ []) $ split ! $ move ! (1 ∷ []) $
           peeks ! bool (Is bool) (shows 𝓤 H A bool) noted (u ∷ []) (λ is. drop ! $ land ! (from ! (stop !)) (init ! 18 refl (is-bool u noted is)) $ rewrite ! 18 (λ (v : Val). ‵ (fat fullShare tyBool l₈ 0 v)) (ap only is) refl $
           split ! $ move ! (1 ∷ []) $ split ! $ move ! (0 ∷ 7 ∷ 3 ∷ []) $ mut-back ! tt ν l₇ ε (ws .1 .1 .0) $ forget ! 14 refl $ forget ! 12 refl $ keep ! (6 ∷ 2 ∷ 7 ∷ 8 ∷ 9 ∷ 10 ∷ 11 ∷ 12 ∷ 13 ∷ 14 ∷ 15 ∷ 16 ∷ 17 ∷ 18 ∷ 19 ∷ 0 ∷ 20 ∷ 21 ∷ 22 ∷ 23 ∷ 24 ∷ 25 ∷ 26 ∷ 27 ∷ 28 ∷ 29 ∷ 30 ∷ 31 ∷ 32 ∷ 33 ∷ 34 ∷ []) $
           compares noted (ws .1 .1 .0) said)))))))

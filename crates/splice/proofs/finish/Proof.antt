@@ -21,7 +21,6 @@ finish-spec =
     slice-aggregate-part
     note-requires
     (λ c κs. search needs)
-    (λ c κs. search needs)
     (λ c. search needs)
     (λ c. search needs)
     returns)

@@ -16,7 +16,6 @@ refinish-spec =
     (tie.spec
     renote-requires
     (λ c κs. search needs)
-    (λ c κs. search needs)
     (λ c. search needs)
     (λ c. search needs)
     returns)

@@ -1,5 +1,5 @@
 use mathlib.Core.Path.{refl}
-use Rattle.editor.proofs.Retelling.{numbers-notes, numbers-known, numbers-retellable, numbers-accepted, numbers-refused}
+use Rattle.editor.proofs.Retelling.{numbers-retellable, numbers-accepted, numbers-refused}
 use native.Mathlib.Omega.{arith}
 use borrow.Author.Needs.{needs}
 use Rattle.editor.proofs.numbers.replace_in.Statement.{statement}

@@ -1,5 +1,4 @@
 use Rattle.texts.proofs.Sizes.{long-takes}
-use native.Mathlib.Omega.{arith}
 use borrow.Author.Needs.{needs}
 use Rattle.editor.proofs.tiers.replace_long.Statement.{statement}
 use Rattle.editor.proofs.tiers.replace_long.Tie as tie
