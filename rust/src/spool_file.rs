@@ -65,8 +65,8 @@ pub struct SpoolFile {
 }
 
 impl SpoolFile {
-    /// Makes a file of that many octets, an empty spool. Whether its name is on
-    /// the disk too is told by the folder's own sync, which is made.
+    /// Makes a file of that many octets, an empty spool. When this returns, the
+    /// file and its name are on the disk.
     ///
     /// # Errors
     ///

@@ -31,19 +31,14 @@ fn areas(area: &[u8], sheet: &[u8]) -> Vec<Vec<u8>> {
 
 #[test]
 fn lengths_of_one_two_and_three_groups() {
-    for (length, groups) in [
-        (2, &[0x02][..]),
-        (127, &[0x7f]),
-        (128, &[0x80, 0x01]),
-        (16_383, &[0xff, 0x7f]),
-        (16_384, &[0x80, 0x80, 0x01]),
+    for (data, length, groups) in [
+        (0, 2, &[0x02][..]),
+        (123, 127, &[0x7f]),
+        (124, 128, &[0x80, 0x01]),
+        (16_377, 16_383, &[0xff, 0x7f]),
+        (16_378, 16_384, &[0x80, 0x80, 0x01]),
     ] {
-        let digits = if length < 10 {
-            1
-        } else {
-            (length as f64).log10() as usize + 1
-        };
-        let sheet = verbatim(length - digits - 1);
+        let sheet = verbatim(data);
         assert_eq!(sheet.len(), length);
         let entry = [groups, &sheet].concat();
         let mut area = vec![0; entry.len()];
