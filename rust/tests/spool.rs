@@ -4,13 +4,17 @@
 mod common;
 
 use common::verbatim;
-use etglavino::{spool_add, spool_open, spool_shown, Adding, Opened, Refusal};
+use etglavino::{spool_add, spool_open, spool_sheets, spool_shown, Adding, Opened, Refusal};
 
 /// The sheets that an area shows, or nothing if it is damaged.
 fn sheets(area: &[u8]) -> Option<Vec<Vec<u8>>> {
     let count = spool_open(area, 0).ok()?.count;
     assert_eq!(spool_shown(area, count), b"");
-    Some((0..count).map(|n| spool_shown(area, n).to_vec()).collect())
+    let shown: Vec<Vec<u8>> = (0..count).map(|n| spool_shown(area, n).to_vec()).collect();
+    let all = spool_sheets(area).expect("no damage");
+    assert_eq!(all.len(), count);
+    assert!(all.eq(shown.iter()));
+    Some(shown)
 }
 
 /// All areas of an addition: before the first store, and after each.
@@ -72,6 +76,7 @@ fn opening() {
     ] {
         assert_eq!(spool_open(damaged, 0), Err(Refusal::Damaged));
         assert_eq!(spool_shown(damaged, 0), b"");
+        assert_eq!(spool_sheets(damaged).err(), Some(Refusal::Damaged));
     }
 }
 

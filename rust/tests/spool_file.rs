@@ -30,8 +30,14 @@ fn alone() -> MutexGuard<'static, ()> {
 }
 
 fn sheets(file: &SpoolFile) -> Vec<Vec<u8>> {
-    let count = file.count().expect("no damage");
-    (0..count).map(|n| file.sheet(n).to_vec()).collect()
+    let sheets: Vec<Vec<u8>> = file.sheets().expect("no damage").map(Vec::from).collect();
+    assert_eq!(file.count(), Ok(sheets.len()));
+    let last = sheets.len().saturating_sub(1);
+    assert_eq!(
+        file.sheet(last),
+        sheets.last().map_or(&b""[..], |sheet| sheet)
+    );
+    sheets
 }
 
 #[test]
