@@ -319,7 +319,7 @@ fn random(tally: &mut Tally, seed: u64, count: u64) {
         } else {
             sheet.len()
         };
-        sheet.extend(std::iter::repeat(b'x').take(rng.below(3)));
+        sheet.resize(sheet.len() + rng.below(3), b'x');
         tally.add(&area, &sheet, length);
         let mut number = || match rng.below(4) {
             0 => rng.below(4) as u64,
