@@ -10,7 +10,7 @@ ghost use Rattle.groups.specs.Places.{SheetAt};
 ghost use Rattle.groups.specs.Octets.{Entried, Long};
 use answers::Place;
 use lengths::Length;
-use lengths::group_at;
+pub use lengths::group_at;
 pub use lengths::groups_len;
 use lengths::length_at;
 
