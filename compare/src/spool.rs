@@ -5,7 +5,7 @@
 
 use std::collections::BTreeMap;
 
-use etglavino::{spool_add, spool_open, spool_shown, Adding, Opened, Refusal};
+use etglavino::{spool_add, spool_open, spool_sheets, spool_shown, Adding, Opened, Refusal};
 use reference::corpus::rng::Rng;
 use reference::spool::{added, entry, open, parse, Opening};
 
@@ -58,6 +58,9 @@ impl Tally {
         let area: Box<[u8]> = area.into();
         let expected = open(&area, 0);
         *self.opened.entry(expected.answer).or_default() += 1;
+        let all = spool_sheets(&area).map(|all| all.map(Vec::from).collect());
+        let same = all.ok() == sheets(&area);
+        self.hold(same, "all sheets", &area, b"");
         for number in (0..expected.count + 2).chain([usize::MAX]) {
             let Opening {
                 answer,
@@ -316,7 +319,7 @@ fn random(tally: &mut Tally, seed: u64, count: u64) {
         } else {
             sheet.len()
         };
-        sheet.extend(std::iter::repeat(b'x').take(rng.below(3)));
+        sheet.resize(sheet.len() + rng.below(3), b'x');
         tally.add(&area, &sheet, length);
         let mut number = || match rng.below(4) {
             0 => rng.below(4) as u64,

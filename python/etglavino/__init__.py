@@ -33,7 +33,7 @@ from ._entries import MAX_CANONICAL, MAX_DEPTH, MAX_NODES, MAX_SOURCE
 from ._entries import Form, Octets, Refusal
 from ._library import LibraryMissing
 from ._sheet import Node, Sheet, read, replace, same, write
-from ._spool import Adding, Opened, spool_add, spool_open, spool_shown
+from ._spool import Adding, Opened, spool_add, spool_open, spool_sheets, spool_shown
 from ._spool_file import SpoolFile, SpoolInUse
 
 __all__ = [
@@ -56,6 +56,7 @@ __all__ = [
     "same",
     "spool_add",
     "spool_open",
+    "spool_sheets",
     "spool_shown",
     "write",
 ]

@@ -46,6 +46,20 @@ def spool_shown(area: Octets | Area, number: int) -> bytes:
     return bytes(area[opened.start : opened.end])
 
 
+def spool_sheets(area: Octets | Area) -> list[bytes]:
+    """All sheets of an area, in order. The area is opened once, which judges every
+    entry; what is left is to go from one to the next."""
+    sheets, at = [], 0
+    for _ in range(spool_open(area).count):
+        length, bits = 0, 0
+        while area[at] >= 128:
+            length, bits, at = length | (area[at] - 128) << bits, bits + 7, at + 1
+        length, at = length | area[at] << bits, at + 1
+        sheets.append(bytes(area[at : at + length]))
+        at += length
+    return sheets
+
+
 def spool_add(area: Area, sheet: Octets) -> None:
     """Adds a sheet, in place. Raises `Refusal` 10, 7 or 6, the first that
     applies; the area then holds what it held."""

@@ -17,7 +17,7 @@ from pathlib import Path
 from typing import Union
 
 from ._entries import Octets
-from ._spool import Adding, spool_open, spool_shown
+from ._spool import Adding, spool_open, spool_sheets, spool_shown
 
 Name = Union[str, "os.PathLike[str]"]
 
@@ -106,8 +106,8 @@ class SpoolFile:
         return spool_open(self._area).count
 
     def __iter__(self) -> Iterator[bytes]:
-        """The sheets, in order; the area is opened once for each."""
-        return (spool_shown(self._area, number) for number in range(len(self)))
+        """The sheets, in order."""
+        return iter(spool_sheets(self._area))
 
     def sheet(self, number: int) -> bytes:
         """The sheet of a number from 0: no octets if there is none such."""

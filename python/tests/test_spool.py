@@ -10,7 +10,7 @@ import unittest
 from pathlib import Path
 
 from etglavino import Adding, Opened, Refusal, SpoolFile, SpoolInUse
-from etglavino import spool_add, spool_open, spool_shown
+from etglavino import spool_add, spool_open, spool_sheets, spool_shown
 
 from . import verbatim
 
@@ -39,6 +39,7 @@ class Spool(unittest.TestCase):
             area = bytearray(len(groups) + len(sheet))
             spool_add(area, sheet)
             self.assertEqual(area, groups + sheet)
+            self.assertEqual(spool_sheets(area + b"\x02()\0"), [sheet, b"()"])
             self.refused(6, bytes(len(area) - 1), sheet)
 
     def test_opening(self) -> None:
@@ -47,6 +48,7 @@ class Spool(unittest.TestCase):
         for number in (2, -1, 2**64, 2**64 + 1):
             self.assertEqual(spool_open(area, number), Opened(2, 0, 0))
         self.assertEqual(sheets(memoryview(area)), [b"()", b"0:"])
+        self.assertEqual(spool_sheets(area), [b"()", b"0:"])
         self.assertEqual(spool_open(b"", 0), Opened(0, 0, 0))
         for damaged in (b"\x82\0()", b"\x80\0", b"\x82", b"\x02(", b"\x02((\0"):
             with self.assertRaises(Refusal) as caught:

@@ -36,7 +36,7 @@ pub use records::{
     read_records_form, replace_records, replace_records_form, Record,
 };
 pub use refusal::Refusal;
-pub use spool::{spool_add, spool_open, spool_shown, Adding, Opened};
+pub use spool::{spool_add, spool_open, spool_sheets, spool_shown, Adding, Opened, Sheets};
 #[cfg(target_os = "linux")]
 pub use spool_file::{SpoolError, SpoolFile};
 

@@ -43,6 +43,47 @@ pub fn spool_shown(area: &[u8], number: usize) -> &[u8] {
     &area[opened.start..opened.end]
 }
 
+/// All sheets of an area, in order. The area is opened once, which judges every
+/// entry; what is left is to go from one to the next.
+///
+/// # Errors
+///
+/// [`Refusal::Damaged`].
+pub fn spool_sheets(area: &[u8]) -> Result<Sheets<'_>, Refusal> {
+    let left = spool_open(area, 0)?.count;
+    Ok(Sheets { area, left })
+}
+
+/// The sheets of an area that are still to come.
+#[derive(Clone, Debug)]
+pub struct Sheets<'a> {
+    area: &'a [u8],
+    left: usize,
+}
+
+impl<'a> Iterator for Sheets<'a> {
+    type Item = &'a [u8];
+
+    fn next(&mut self) -> Option<&'a [u8]> {
+        self.left = self.left.checked_sub(1)?;
+        let last = self.area.iter().position(|octet| *octet < 128)?;
+        let (groups, rest) = self.area.split_at(last + 1);
+        let length = groups
+            .iter()
+            .rev()
+            .fold(0, |length, group| length * 128 + usize::from(group % 128));
+        let (sheet, rest) = rest.split_at(length);
+        self.area = rest;
+        Some(sheet)
+    }
+
+    fn size_hint(&self) -> (usize, Option<usize>) {
+        (self.left, Some(self.left))
+    }
+}
+
+impl ExactSizeIterator for Sheets<'_> {}
+
 /// Adds the sheet in the first `length` octets of `sheet`: all stores of an
 /// [`Adding`], one after the other. The octet behind the new entry becomes 0, if
 /// the area has one; those past it stay.

@@ -15,7 +15,7 @@ use std::os::fd::AsRawFd;
 use std::path::Path;
 use std::{fmt, fs, ptr, slice};
 
-use crate::{spool_open, spool_shown, Adding, Refusal};
+use crate::{spool_open, spool_sheets, spool_shown, Adding, Refusal, Sheets};
 
 /// Why a spool file could not be used.
 #[derive(Debug)]
@@ -65,8 +65,8 @@ pub struct SpoolFile {
 }
 
 impl SpoolFile {
-    /// Makes a file of that many octets, an empty spool. Whether its name is on
-    /// the disk too is told by the folder's own sync, which is made.
+    /// Makes a file of that many octets, an empty spool. When this returns, the
+    /// file and its name are on the disk.
     ///
     /// # Errors
     ///
@@ -128,6 +128,15 @@ impl SpoolFile {
     /// file is damaged.
     pub fn sheet(&self, number: usize) -> &[u8] {
         spool_shown(self.area(), number)
+    }
+
+    /// All sheets, in order.
+    ///
+    /// # Errors
+    ///
+    /// [`Refusal::Damaged`].
+    pub fn sheets(&self) -> Result<Sheets<'_>, Refusal> {
+        spool_sheets(self.area())
     }
 
     /// Adds a sheet. When this returns, the entry is on the disk.

@@ -4,13 +4,17 @@
 mod common;
 
 use common::verbatim;
-use etglavino::{spool_add, spool_open, spool_shown, Adding, Opened, Refusal};
+use etglavino::{spool_add, spool_open, spool_sheets, spool_shown, Adding, Opened, Refusal};
 
 /// The sheets that an area shows, or nothing if it is damaged.
 fn sheets(area: &[u8]) -> Option<Vec<Vec<u8>>> {
     let count = spool_open(area, 0).ok()?.count;
     assert_eq!(spool_shown(area, count), b"");
-    Some((0..count).map(|n| spool_shown(area, n).to_vec()).collect())
+    let shown: Vec<Vec<u8>> = (0..count).map(|n| spool_shown(area, n).to_vec()).collect();
+    let all = spool_sheets(area).expect("no damage");
+    assert_eq!(all.len(), count);
+    assert!(all.eq(shown.iter()));
+    Some(shown)
 }
 
 /// All areas of an addition: before the first store, and after each.
@@ -31,19 +35,14 @@ fn areas(area: &[u8], sheet: &[u8]) -> Vec<Vec<u8>> {
 
 #[test]
 fn lengths_of_one_two_and_three_groups() {
-    for (length, groups) in [
-        (2, &[0x02][..]),
-        (127, &[0x7f]),
-        (128, &[0x80, 0x01]),
-        (16_383, &[0xff, 0x7f]),
-        (16_384, &[0x80, 0x80, 0x01]),
+    for (data, length, groups) in [
+        (0, 2, &[0x02][..]),
+        (123, 127, &[0x7f]),
+        (124, 128, &[0x80, 0x01]),
+        (16_377, 16_383, &[0xff, 0x7f]),
+        (16_378, 16_384, &[0x80, 0x80, 0x01]),
     ] {
-        let digits = if length < 10 {
-            1
-        } else {
-            (length as f64).log10() as usize + 1
-        };
-        let sheet = verbatim(length - digits - 1);
+        let sheet = verbatim(data);
         assert_eq!(sheet.len(), length);
         let entry = [groups, &sheet].concat();
         let mut area = vec![0; entry.len()];
@@ -77,6 +76,7 @@ fn opening() {
     ] {
         assert_eq!(spool_open(damaged, 0), Err(Refusal::Damaged));
         assert_eq!(spool_shown(damaged, 0), b"");
+        assert_eq!(spool_sheets(damaged).err(), Some(Refusal::Damaged));
     }
 }
 

@@ -9,7 +9,7 @@ use std::os::unix::process::ExitStatusExt;
 use std::path::{Path, PathBuf};
 use std::process::{Command, Stdio};
 use std::sync::{Mutex, MutexGuard};
-use std::time::Duration;
+use std::time::{Duration, Instant};
 use std::{env, fs, process, thread};
 
 use common::verbatim;
@@ -30,8 +30,14 @@ fn alone() -> MutexGuard<'static, ()> {
 }
 
 fn sheets(file: &SpoolFile) -> Vec<Vec<u8>> {
-    let count = file.count().expect("no damage");
-    (0..count).map(|n| file.sheet(n).to_vec()).collect()
+    let sheets: Vec<Vec<u8>> = file.sheets().expect("no damage").map(Vec::from).collect();
+    assert_eq!(file.count(), Ok(sheets.len()));
+    let last = sheets.len().saturating_sub(1);
+    assert_eq!(
+        file.sheet(last),
+        sheets.last().map_or(&b""[..], |sheet| sheet)
+    );
+    sheets
 }
 
 #[test]
@@ -265,7 +271,8 @@ fn killed_at_a_store() {
     fs::remove_file(path).expect("removed");
 }
 
-/// A child is killed from outside, at any moment, a hundred times.
+/// A child is killed from outside, at any moment, a hundred times: half of them
+/// once an entry is there.
 #[test]
 fn killed_at_any_moment() {
     if let Some(told) = told() {
@@ -273,7 +280,7 @@ fn killed_at_any_moment() {
     }
     let _alone = alone();
     let path = path("moment");
-    let (mut random, mut seen) = (Random(7), 0);
+    let mut random = Random(7);
     for cut in 0..100 {
         drop(SpoolFile::create(&path, 1 << 16).expect("a file"));
         let seed = random.below(1 << 20) as u64;
@@ -281,17 +288,20 @@ fn killed_at_any_moment() {
         let mut running = child("killed_at_any_moment", &told)
             .spawn()
             .expect("a child");
-        thread::sleep(Duration::from_micros(random.below(12_000) as u64));
+        let started = Instant::now();
+        while cut % 2 == 0 && fs::read(&path).expect("octets")[0] == 0 {
+            assert!(started.elapsed() < Duration::from_secs(60), "cut {cut}");
+        }
+        thread::sleep(Duration::from_micros(random.below(6_000) as u64));
         running.kill().expect("killed");
         running.wait().expect("ended");
         let file = SpoolFile::open(&path).expect("the file");
-        let mut child = Random(seed);
-        for (number, sheet) in sheets(&file).into_iter().enumerate() {
+        let (mut child, shown) = (Random(seed), sheets(&file));
+        assert!(cut % 2 == 1 || !shown.is_empty(), "cut {cut}");
+        for (number, sheet) in shown.into_iter().enumerate() {
             assert!(sheet == child.sheet(), "cut {cut}, sheet {number}");
-            seen += 1;
         }
         drop(file);
         fs::remove_file(&path).expect("removed");
     }
-    assert!(seen > 0, "no child lived long enough");
 }

@@ -20,7 +20,7 @@ use Rattle.spools.proofs.Placed.{part-octets}
 use Rattle.answers.specs.Shown.{shownAt}
 use Rattle.spool.proofs.Storing.{entry-long}
 use Rattle.spool.specs.Cases.{opened, startOf, RefusesStart}
-use Rattle.spool.specs.Octets.{Long}
+use Rattle.groups.specs.Octets.{Long}
 use Rattle.spool.specs.Opens.{Found, Surveys}
 use Rattle.spool.specs.declared.Opening.the-variants as opening
 use Rattle.spool.specs.declared.Starting.{Starting}

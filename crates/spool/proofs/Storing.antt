@@ -18,7 +18,7 @@ use Rattle.spools.proofs.Stored.{stores-length}
 use Rattle.spools.proofs.Three.{groups-three}
 use Rattle.spools.proofs.Order.{stores-behind, stores-at-end, lastly-length, lastly-rest, lastly-first}
 use Rattle.spool.specs.Cases.{stateOf}
-use Rattle.spool.specs.Octets.{Wide, Long}
+use Rattle.groups.specs.Octets.{Wide, Long}
 use Rattle.spool.specs.Stores.{offsetOf, storesOfLen, nextOf, NextOf}
 use Rattle.spool.specs.declared.Adding.{Adding}
 use Rattle.spool.specs.declared.stores.Next.the-variants.{Octet, Nothing}

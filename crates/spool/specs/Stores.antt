@@ -9,7 +9,7 @@ use Rattle.base.specs.Choice.{pick}
 use Rattle.spools.specs.Adding.{Store, store, storesOf, going}
 use Rattle.spools.specs.Spool.{entry}
 use Rattle.spool.specs.Cases.{stateOf}
-use Rattle.spool.specs.Octets.{Entried}
+use Rattle.groups.specs.Octets.{Entried}
 use Rattle.spool.specs.declared.Adding.{Adding}
 use Rattle.spool.specs.declared.stores.Next.{Next}
 use Rattle.spool.specs.declared.stores.Next.the-variants.{Octet, Nothing}

@@ -2,8 +2,8 @@
 ghost use mathlib.Core.Path.{_≡_};
 ghost use Prim.Native.Nat.{_≤_};
 ghost use Rattle.spool.specs.Stores.{offsetOf, storesOfLen, NextOf};
-use super::lengths::groups_len;
 use crate::Adding;
+use groups::groups_len;
 
 // The next store: the octet of the entry at an offset, how many groups its length has, and whether it is the last store; or none. The
 // octet past the entry is 0.

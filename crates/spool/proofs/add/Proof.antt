@@ -1,8 +1,11 @@
-use Rattle.spool.proofs.Finishing.{add-whole, add-refused}
+use Rattle.spool.proofs.Adds.{add-room, add-whole, add-refused}
 use native.Mathlib.Omega.{arith}
 use borrow.Author.Needs.{needs}
 use Rattle.spool.proofs.add.Statement.{statement}
 use Rattle.spool.proofs.add.Tie as tie
+
+put-entry-requires : tie.Need-put-entry-requires
+put-entry-requires c κs = search (add-room, arith)
 
 returns : tie.Need-returns
 returns c = search (add-whole, arith)
@@ -16,7 +19,7 @@ add-spec =
     (tie.spec
     (λ c κs. search needs)
     (λ c. search needs)
-    (λ c κs. search needs)
+    put-entry-requires
     (λ c. search needs)
     (λ c. search needs)
     returns

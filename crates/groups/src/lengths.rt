@@ -4,8 +4,8 @@ ghost use Prim.Native.Nat.{_≤_, _<_};
 ghost use lib.ListN.{length, getD};
 ghost use Rattle.model.specs.Limits.{maxCanonical};
 ghost use Rattle.spools.specs.Groups.{groups};
-ghost use Rattle.spool.specs.Opens.{Lengths};
-ghost use Rattle.spool.specs.Octets.{Wide};
+ghost use Rattle.groups.specs.Places.{Lengths};
+ghost use Rattle.groups.specs.Octets.{Wide};
 
 // A length and the place after it. A length of more than three groups is none: no sheet is as long.
 pub enum Length {

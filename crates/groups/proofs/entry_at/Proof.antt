@@ -1,8 +1,8 @@
-use Rattle.spool.proofs.Octets.{entry-group, entry-data, entry-behind}
+use Rattle.groups.proofs.Octets.{entry-group, entry-data, entry-behind}
 use native.Mathlib.Omega.{arith}
 use borrow.Author.Needs.{needs}
-use Rattle.spool.proofs.entries.entry_at.Statement.{statement}
-use Rattle.spool.proofs.entries.entry_at.Tie as tie
+use Rattle.groups.proofs.entry_at.Statement.{statement}
+use Rattle.groups.proofs.entry_at.Tie as tie
 
 returns : tie.Need-returns
 returns c = search (entry-group, arith)

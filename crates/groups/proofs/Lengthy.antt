@@ -18,9 +18,9 @@ use Rattle.spools.proofs.Damaged.{no-length}
 use Rattle.spools.proofs.Groups.{read-last, read-more, read-needless, read-past}
 use Rattle.spools.proofs.Three.{three-groups}
 use Rattle.answers.specs.declared.Place.the-variants.{Part, NoPart}
-use Rattle.spool.specs.Opens.{Lengthy, Lengths, SheetAt}
-use Rattle.spool.specs.declared.lengths.Length.{Length}
-use Rattle.spool.specs.declared.lengths.Length.the-variants.{Is, NoLength}
+use Rattle.groups.specs.Places.{Lengthy, Lengths, SheetAt}
+use Rattle.groups.specs.declared.lengths.Length.{Length}
+use Rattle.groups.specs.declared.lengths.Length.the-variants.{Is, NoLength}
 
 -- the octets at a place
 abbrev at₀ : List ℕ → ℕ → ℕ

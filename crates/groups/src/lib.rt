@@ -1,16 +1,18 @@
-// Entries: the sheet of the one at a place, and the octets of one that is to be added.
+// Lengths in groups of seven bits; the sheet of the entry at a place, and the octets of one that is to be added.
+mod lengths; // lengths.rt: lengths, read and told
+
 ghost use mathlib.Core.Path.{_≡_};
 ghost use Prim.Native.Nat.{_≤_, _<_};
 ghost use lib.ListN.{length, getD, take};
 ghost use Rattle.model.specs.Limits.{maxCanonical};
 ghost use Rattle.spools.specs.Spool.{entry};
-ghost use Rattle.spool.specs.Opens.{SheetAt};
-ghost use Rattle.spool.specs.Octets.{Entried, Long};
-use super::lengths::Length;
-use super::lengths::group_at;
-use super::lengths::groups_len;
-use super::lengths::length_at;
+ghost use Rattle.groups.specs.Places.{SheetAt};
+ghost use Rattle.groups.specs.Octets.{Entried, Long};
 use answers::Place;
+use lengths::Length;
+pub use lengths::group_at;
+pub use lengths::groups_len;
+use lengths::length_at;
 
 // The sheet of the entry at a place.
 pub fn sheet_at(area: &[u8], at: usize) -> Place

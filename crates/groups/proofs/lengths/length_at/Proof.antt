@@ -1,8 +1,8 @@
-use Rattle.spool.proofs.Lengthy.{one-group, no-second, second-zero, two-groups, no-third, third-zero, three-read, third-more}
+use Rattle.groups.proofs.Lengthy.{one-group, no-second, second-zero, two-groups, no-third, third-zero, three-read, third-more}
 use native.Mathlib.Omega.{arith}
 use borrow.Author.Needs.{needs}
-use Rattle.spool.proofs.lengths.length_at.Statement.{statement}
-use Rattle.spool.proofs.lengths.length_at.Tie as tie
+use Rattle.groups.proofs.lengths.length_at.Statement.{statement}
+use Rattle.groups.proofs.lengths.length_at.Tie as tie
 
 returns : tie.Need-returns
 returns c = search (one-group, arith)

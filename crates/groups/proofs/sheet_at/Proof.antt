@@ -1,8 +1,8 @@
-use Rattle.spool.proofs.Lengthy.{length-within, runs-past, part-within, a-sheet, not-sheet, no-sheet}
+use Rattle.groups.proofs.Lengthy.{length-within, runs-past, part-within, a-sheet, not-sheet, no-sheet}
 use native.Mathlib.Omega.{arith}
 use borrow.Author.Needs.{needs}
-use Rattle.spool.proofs.entries.sheet_at.Statement.{statement}
-use Rattle.spool.proofs.entries.sheet_at.Tie as tie
+use Rattle.groups.proofs.sheet_at.Statement.{statement}
+use Rattle.groups.proofs.sheet_at.Tie as tie
 
 sub-if1 : tie.Need-sub-if1
 sub-if1 c = search (length-within, arith)

@@ -1,8 +1,8 @@
-use Rattle.spool.proofs.Octets.{group-one, group-low, group-two, group-middle, group-three}
+use Rattle.groups.proofs.Octets.{group-one, group-low, group-two, group-middle, group-three}
 use native.Mathlib.Omega.{arith}
 use borrow.Author.Needs.{needs}
-use Rattle.spool.proofs.lengths.group_at.Statement.{statement}
-use Rattle.spool.proofs.lengths.group_at.Tie as tie
+use Rattle.groups.proofs.lengths.group_at.Statement.{statement}
+use Rattle.groups.proofs.lengths.group_at.Tie as tie
 
 returns : tie.Need-returns
 returns c = search (group-one, arith)
