@@ -59,12 +59,17 @@ abbrev pub quartersIn : Option Line → Count
 quartersIn none = NoCount
 quartersIn (some h) = quartersOf h
 
--- 02, "Each is 0 to 24 in whole quarters": a line of which there is a count
-unfoldable pub lineAt : List ℕ → Tree → ℕ → Option Line
-lineAt c t k = elim (quartersIn (hoursAt c t k)) [ Quarters n ↦ hoursAt c t k | NoCount ↦ none ]
-
+-- the quarters of a node's line
 unfoldable pub lineCount : List ℕ → Tree → ℕ → Count
 lineCount c t k = quartersIn (hoursAt c t k)
+
+abbrev pub keptIf : Option Line → Count → Option Line
+keptIf o (Quarters n) = o
+keptIf o NoCount = none
+
+-- 02, "Each is 0 to 24 in whole quarters": a line is kept where there is a count
+unfoldable pub lineAt : List ℕ → Tree → ℕ → Option Line
+lineAt c t k = keptIf (hoursAt c t k) (lineCount c t k)
 
 -- ---- a list of lines
 
