@@ -8,8 +8,8 @@ ghost use Rattle.shifts.specs.Known.{KnownIf, Values, HasLine, Sums};
 use lines::Added;
 use lines::Found;
 pub use numbers::line;
-pub use numbers::sum;
 pub use numbers::value;
+pub use numbers::week;
 use typed::Count;
 use typed::Lining;
 use typed::Summing;
@@ -74,7 +74,7 @@ pub fn line_by(
 }
 
 // The sum of a list of lines.
-pub fn sum_by(
+pub fn week_by(
     canonical: &[u8],
     notes: &[usize; limits::NODES],
     nodes: usize,

@@ -4,8 +4,8 @@ ghost use Rattle.typed.specs.Cases.{valued, lined, summed};
 ghost use Rattle.typed.specs.Asked.{valuing, lining, summing};
 ghost use Rattle.shifts.specs.Known.{Owns};
 use super::line_by;
-use super::sum_by;
 use super::value_by;
+use super::week_by;
 use typed::Lining;
 use typed::Summing;
 use typed::Valuing;
@@ -45,10 +45,10 @@ pub fn line(canonical: &[u8], length: usize, table: &[u32], nodes: usize, node: 
 }
 
 // The sum of a list of lines.
-pub fn sum(canonical: &[u8], length: usize, table: &[u32], nodes: usize, node: usize) -> Summing
+pub fn week(canonical: &[u8], length: usize, table: &[u32], nodes: usize, node: usize) -> Summing
     ensures { λ r. ⌜ summed r ≡ summing (now (canonical .entry)) length (now (table .entry)) nodes node ⌝ }
 {
     let mut notes: [usize; limits::NODES] = [0; limits::NODES];
     let own = own_notes(canonical, length, table, nodes, &mut notes);
-    sum_by(canonical, &notes, nodes, node, own)
+    week_by(canonical, &notes, nodes, node, own)
 }

@@ -1,14 +1,14 @@
 use Rattle.shifts.proofs.Answered.{owns-known, owns-sum}
 use native.Mathlib.Omega.{arith}
 use borrow.Author.Needs.{needs}
-use Rattle.shifts.proofs.numbers.sum.Statement.{statement}
-use Rattle.shifts.proofs.numbers.sum.Tie as tie
+use Rattle.shifts.proofs.numbers.week.Statement.{statement}
+use Rattle.shifts.proofs.numbers.week.Tie as tie
 
 returns : tie.Need-returns
 returns c = search (owns-sum, arith)
 
-pub sum-spec : {M : Type 1} → statement M
-sum-spec =
+pub week-spec : {M : Type 1} → statement M
+week-spec =
     tie.close
     (tie.spec
     (λ c κs. search needs)

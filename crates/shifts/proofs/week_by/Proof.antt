@@ -1,8 +1,8 @@
 use Rattle.shifts.proofs.Answered.{in-sheet, sum-unowned, sum-beyond, sum-given, sum-refused}
 use native.Mathlib.Omega.{arith}
 use borrow.Author.Needs.{needs}
-use Rattle.shifts.proofs.sum_by.Statement.{statement}
-use Rattle.shifts.proofs.sum_by.Tie as tie
+use Rattle.shifts.proofs.week_by.Statement.{statement}
+use Rattle.shifts.proofs.week_by.Tie as tie
 
 returns : tie.Need-returns
 returns c = search (sum-beyond, arith)
@@ -19,8 +19,8 @@ returns-3 c = search (sum-refused, arith)
 returns-4 : tie.Need-returns-4
 returns-4 c = search (sum-unowned, arith)
 
-pub sum-by-spec : {M : Type 1} → statement M
-sum-by-spec =
+pub week-by-spec : {M : Type 1} → statement M
+week-by-spec =
     tie.close
     (tie.spec
     (λ c κs. search needs)
