@@ -29,13 +29,21 @@
  *   etg_read              84,896
  *   etg_read_records      84,000
  *   etg_write             33,552
- *   etg_replace          116,576
- *   etg_replace_records  247,696
+ *   etg_replace          116,528
+ *   etg_replace_records  247,648
  *   etg_same                 912
- *   etg_hint              33,616
+ *   etg_hint              33,568
  *   etg_hint_records      33,616
- *   etg_data              33,616
+ *   etg_data              33,568
  *   etg_data_records      33,616
+ *   etg_value             33,536
+ *   etg_value_records     33,504
+ *   etg_put_value             16
+ *   etg_line              33,536
+ *   etg_line_records      33,504
+ *   etg_total                 72
+ *   etg_week              33,536
+ *   etg_week_records      33,520
  *
  * Refusals. Every function but those that find a hint or data returns one of
  * these numbers. In a refusal the values given out are 0, and every lent
@@ -69,7 +77,21 @@ enum {
     ETG_NOT_OWN = 7,    /* not the canonical form of one tree that fits, or the
                            table is not its own, or a length or count is
                            beyond what is lent */
-    ETG_NO_NODE = 8     /* there is no node of that number */
+    ETG_NO_NODE = 8,    /* there is no node of that number */
+    ETG_NOT_TYPED = 11, /* the node is no value of its type: a list, octets of
+                           a wrong length, an int that is not the shortest, NaN
+                           or infinity */
+    ETG_NOT_LINE = 12   /* not a list of exactly three f64 strings, each 0 to 24
+                           hours in whole quarters with the sign clear */
+};
+
+/* Kinds of a value; 0 in a refusal. */
+enum {
+    ETG_SINGLE = 1, /* hint `f32`: four octets, IEEE 754 big-endian */
+    ETG_DOUBLE = 2, /* hint `f64`: eight */
+    ETG_WHOLE = 3,  /* hint `int`: the shortest big-endian two's complement of at
+                       most eight octets, zero being no octets */
+    ETG_RAW = 4     /* any other hint, or none */
 };
 
 /* The most that a source, a canonical form, a table and an output can take. */
@@ -176,6 +198,71 @@ uint32_t etg_data_records(const uint8_t *canonical, size_t canonical_room, size_
                           const struct etg_record *records, size_t record_room,
                           size_t nodes, size_t node,
                           size_t *start, size_t *end);
+
+/* Values with a type, and hours */
+
+/* A node's value, by its hint. `*kind` tells what it is; `*single`, `*number64`
+ * and `*whole` carry it, or [*start, *end) of `canonical` has a raw one's
+ * octets. What the kind doesn't use is 0.
+ *
+ * Refusals, the first that applies: 7, 8, 11. */
+uint32_t etg_value(const uint8_t *canonical, size_t canonical_room, size_t length,
+                   const uint32_t *table, size_t table_room, size_t nodes, size_t node,
+                   uint32_t *kind, float *single, double *number64, int64_t *whole,
+                   size_t *start, size_t *end);
+
+/* The data octets of a value, written to `out`; a raw one's are copied from
+ * [start, end) of `octets`. What the kind doesn't use is not looked at; any
+ * number but 1 to 3 is raw. `*written` tells how many octets were written;
+ * output past them stays as it was.
+ *
+ * Refusals: 7 where a raw place is not a part of `octets`, 11 for NaN and
+ * infinity, 6. */
+uint32_t etg_put_value(uint32_t kind, float single, double number64, int64_t whole,
+                       size_t start, size_t end,
+                       const uint8_t *octets, size_t octets_len,
+                       uint8_t *out, size_t out_room,
+                       size_t *written);
+
+/* A node's shift line: a list of exactly three `f64` strings, its ordinary,
+ * night and holiday hours, each 0 to 24 in whole quarters, with its total: the
+ * exact count of quarters, and the double that is exactly a quarter of it.
+ *
+ * Refusals: 7, 8, 12. */
+uint32_t etg_line(const uint8_t *canonical, size_t canonical_room, size_t length,
+                  const uint32_t *table, size_t table_room, size_t nodes, size_t node,
+                  double *ordinary, double *night, double *holiday,
+                  uint32_t *quarters, double *hours);
+
+/* The total of a line that the caller made up. Refusal: 12. */
+uint32_t etg_total(double ordinary, double night, double holiday,
+                   uint32_t *quarters, double *hours);
+
+/* A list of lines: how many there are, and the sum of their totals, exact.
+ *
+ * Refusals: 7, 8, 12. With 12 `*bad` is the first element that is no line, or
+ * the node itself where it is a string; else it is 0. */
+uint32_t etg_week(const uint8_t *canonical, size_t canonical_room, size_t length,
+                  const uint32_t *table, size_t table_room, size_t nodes, size_t node,
+                  size_t *lines, uint32_t *quarters, double *hours, size_t *bad);
+
+/* The same with the table lent as records; `record_room` counts records. */
+uint32_t etg_value_records(const uint8_t *canonical, size_t canonical_room, size_t length,
+                           const struct etg_record *records, size_t record_room,
+                           size_t nodes, size_t node,
+                           uint32_t *kind, float *single, double *number64, int64_t *whole,
+                           size_t *start, size_t *end);
+
+uint32_t etg_line_records(const uint8_t *canonical, size_t canonical_room, size_t length,
+                          const struct etg_record *records, size_t record_room,
+                          size_t nodes, size_t node,
+                          double *ordinary, double *night, double *holiday,
+                          uint32_t *quarters, double *hours);
+
+uint32_t etg_week_records(const uint8_t *canonical, size_t canonical_room, size_t length,
+                          const struct etg_record *records, size_t record_room,
+                          size_t nodes, size_t node,
+                          size_t *lines, uint32_t *quarters, double *hours, size_t *bad);
 
 #ifdef __cplusplus
 }

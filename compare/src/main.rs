@@ -1,9 +1,11 @@
 //! `compare SEED COUNT`: the fixed cases and COUNT random ones of the seed, each
 //! answered by the library and by the reference program. Answers and all lent
 //! buffers must be the same. What differs is shown whole; the exit status is 1
-//! where anything does.
+//! where anything does. Then the fixed sheets of values and hours, and a tenth
+//! as many random ones, node by node.
 
 mod library;
+mod values;
 
 use std::collections::BTreeMap;
 use std::env;
@@ -51,7 +53,12 @@ fn compare(seed: u64, count: u64) -> ExitCode {
         "{} cases, {differences} differences",
         tally.values().sum::<u64>()
     );
-    ExitCode::from(u8::from(differences > 0))
+    let typed = values::compare(seed, count.div_ceil(10));
+    println!(
+        "{} questions on values and hours, {} differences",
+        typed.asked, typed.different
+    );
+    ExitCode::from(u8::from(differences + typed.different > 0))
 }
 
 fn show(number: u64, case: &Case, way: &str, answered: &Outcome) {

@@ -17,3 +17,4 @@ pub mod lexeme;
 pub mod limits;
 pub mod output;
 pub mod tree;
+pub mod values;

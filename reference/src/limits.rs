@@ -37,3 +37,7 @@ pub const TOO_LARGE: u32 = 6;
 pub const NOT_OWN: u32 = 7;
 /// Refusal: the node number names no node.
 pub const NO_SUCH_NODE: u32 = 8;
+/// Refusal: the node is no value of its type.
+pub const NOT_TYPED: u32 = 11;
+/// Refusal: the node is no line of three hours in whole quarters.
+pub const NOT_LINE: u32 = 12;

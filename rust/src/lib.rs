@@ -26,6 +26,7 @@ mod form;
 mod records;
 mod refusal;
 mod table;
+mod value;
 
 pub use form::Form;
 pub use records::{
@@ -33,6 +34,10 @@ pub use records::{
     read_records_form, replace_records, replace_records_form, Record,
 };
 pub use refusal::Refusal;
+pub use value::{
+    line, line_records, put_value, total, value, value_records, week, week_records, Line, NoWeek,
+    Total, Value, Week,
+};
 
 /// Most octets of a source.
 pub const MAX_SOURCE: usize = 32_768;

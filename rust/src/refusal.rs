@@ -24,6 +24,12 @@ pub enum Refusal {
     NotOwn = 7,
     /// 8: there is no node of that number.
     NoNode = 8,
+    /// 11: the node is no value of its type: a list, octets of a wrong length,
+    /// an `int` that is not the shortest, NaN or infinity.
+    NotTyped = 11,
+    /// 12: not a list of exactly three `f64` strings, each 0 to 24 hours in
+    /// whole quarters with the sign clear.
+    NotLine = 12,
 }
 
 impl Refusal {
@@ -43,6 +49,8 @@ impl Refusal {
             Refusal::Size => "over 16,384 canonical octets, or a result over the lent room",
             Refusal::NotOwn => "not one tree's canonical form with its own table",
             Refusal::NoNode => "there is no node of that number",
+            Refusal::NotTyped => "not a value of its type",
+            Refusal::NotLine => "not a line of three hours in whole quarters",
         }
     }
 
@@ -57,6 +65,8 @@ impl Refusal {
             6 => Refusal::Size,
             7 => Refusal::NotOwn,
             8 => Refusal::NoNode,
+            11 => Refusal::NotTyped,
+            12 => Refusal::NotLine,
             _ => unreachable!("the library gives no other number"),
         })
     }
