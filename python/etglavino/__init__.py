@@ -24,6 +24,8 @@ from ._entries import MAX_CANONICAL, MAX_DEPTH, MAX_NODES, MAX_SOURCE
 from ._entries import Form, Octets, Refusal
 from ._library import LibraryMissing
 from ._sheet import Node, Sheet, read, replace, same, write
+from ._values import Line, NoLine, Total, Value, Week
+from ._values import line, line_total, octets, total, value, week
 
 __all__ = [
     "MAX_CANONICAL",
@@ -32,12 +34,23 @@ __all__ = [
     "MAX_SOURCE",
     "Form",
     "LibraryMissing",
+    "Line",
+    "NoLine",
     "Node",
     "Octets",
     "Refusal",
     "Sheet",
+    "Total",
+    "Value",
+    "Week",
+    "line",
+    "line_total",
+    "octets",
     "read",
     "replace",
     "same",
+    "total",
+    "value",
+    "week",
     "write",
 ]

@@ -41,7 +41,7 @@ class Form(IntEnum):
 
 class Refusal(Exception):
     """Something was refused. `number` is the one that every interface of the
-    library gives it, 1 to 8; `sentence` says what is wrong."""
+    library gives it, 1 to 8, 11 and 12; `sentence` says what is wrong."""
 
     SENTENCES: ClassVar[dict[int, str]] = {
         1: "the form is not 1, 2 or 3",
@@ -52,6 +52,8 @@ class Refusal(Exception):
         6: "over 16,384 canonical octets",
         7: "not one tree's canonical form with its own table",
         8: "there is no node of that number",
+        11: "not a value of its type",
+        12: "not a line of three hours in whole quarters",
     }
     """Sentences by number."""
 
@@ -110,7 +112,7 @@ def replace(
     length, nodes = ctypes.c_size_t(), ctypes.c_size_t()
     number = load().etg_replace(
         _form(form), text, len(text), octets, len(octets), numbers, len(numbers),
-        len(canonical), len(table) // RECORD, _count(node), length, nodes,
+        len(canonical), len(table) // RECORD, count_of(node), length, nodes,
     )  # fmt: skip
     _check(number)
     return _taken(octets, length, numbers, nodes)
@@ -140,7 +142,7 @@ def _part(look: Any, canonical: bytes, table: Table, node: int) -> bytes | None:
     start, end = ctypes.c_size_t(), ctypes.c_size_t()
     found = look(
         canonical, len(canonical), len(canonical), table, len(table),
-        len(table) // RECORD, _count(node), start, end,
+        len(table) // RECORD, count_of(node), start, end,
     )  # fmt: skip
     return canonical[start.value : end.value] if found else None
 
@@ -171,7 +173,7 @@ def _form(form: int) -> int:
     return form if form in (1, 2, 3) else 0
 
 
-def _count(node: int) -> int:
+def count_of(node: int) -> int:
     """What the C type can't hold is the number of no node."""
     most: int = ctypes.c_size_t(-1).value
     return node if 0 <= node <= most else most
