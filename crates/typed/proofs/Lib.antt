@@ -12,3 +12,4 @@ pub mod Exact
 pub mod Meaning
 pub mod Examples
 pub mod Roundtrip
+pub mod Injective
