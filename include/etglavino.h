@@ -42,6 +42,14 @@
  *   etg_spool_add_step         40
  *   etg_spool_add_commits       8
  *   etg_spool_add             944
+ *   etg_value             33,536
+ *   etg_value_records     33,504
+ *   etg_put_value             16
+ *   etg_line              33,536
+ *   etg_line_records      33,504
+ *   etg_total                 72
+ *   etg_week              33,536
+ *   etg_week_records      33,520
  *
  * Refusals. Every function but those that find a hint or data, or that go on
  * with an addition to a spool, returns one of these numbers. In a refusal the
@@ -76,7 +84,21 @@ enum {
                            table is not its own, or a length or count is
                            beyond what is lent */
     ETG_NO_NODE = 8,    /* there is no node of that number */
-    ETG_DAMAGED = 10    /* the area of a spool is damaged */
+    ETG_DAMAGED = 10,   /* the area of a spool is damaged */
+    ETG_NOT_TYPED = 11, /* the node is no value of its type: a list, octets of
+                           a wrong length, an int that is not the shortest, NaN
+                           or infinity */
+    ETG_NOT_LINE = 12   /* not a list of exactly three f64 strings, each 0 to 24
+                           hours in whole quarters with the sign clear */
+};
+
+/* Kinds of a value; 0 in a refusal. */
+enum {
+    ETG_SINGLE = 1, /* hint `f32`: four octets, IEEE 754 big-endian */
+    ETG_DOUBLE = 2, /* hint `f64`: eight */
+    ETG_WHOLE = 3,  /* hint `int`: the shortest big-endian two's complement of at
+                       most eight octets, zero being no octets */
+    ETG_RAW = 4     /* any other hint, or none */
 };
 
 /* The most that a source, a canonical form, a table and an output can take. */
@@ -237,6 +259,71 @@ uint32_t etg_spool_add_commits(const struct etg_spool_state *state,
  * past it stay as they were. */
 uint32_t etg_spool_add(uint8_t *area, size_t area_size,
                        const uint8_t *sheet, size_t sheet_size, size_t length);
+
+/* Values with a type, and hours */
+
+/* A node's value, by its hint. `*kind` tells what it is; `*single`, `*number64`
+ * and `*whole` carry it, or [*start, *end) of `canonical` has a raw one's
+ * octets. What the kind doesn't use is 0.
+ *
+ * Refusals, the first that applies: 7, 8, 11. */
+uint32_t etg_value(const uint8_t *canonical, size_t canonical_room, size_t length,
+                   const uint32_t *table, size_t table_room, size_t nodes, size_t node,
+                   uint32_t *kind, float *single, double *number64, int64_t *whole,
+                   size_t *start, size_t *end);
+
+/* The data octets of a value, written to `out`; a raw one's are copied from
+ * [start, end) of `octets`. What the kind doesn't use is not looked at; any
+ * number but 1 to 3 is raw. `*written` tells how many octets were written;
+ * output past them stays as it was.
+ *
+ * Refusals: 7 where a raw place is not a part of `octets`, 11 for NaN and
+ * infinity, 6. */
+uint32_t etg_put_value(uint32_t kind, float single, double number64, int64_t whole,
+                       size_t start, size_t end,
+                       const uint8_t *octets, size_t octets_len,
+                       uint8_t *out, size_t out_room,
+                       size_t *written);
+
+/* A node's shift line: a list of exactly three `f64` strings, its ordinary,
+ * night and holiday hours, each 0 to 24 in whole quarters, with its total: the
+ * exact count of quarters, and the double that is exactly a quarter of it.
+ *
+ * Refusals: 7, 8, 12. */
+uint32_t etg_line(const uint8_t *canonical, size_t canonical_room, size_t length,
+                  const uint32_t *table, size_t table_room, size_t nodes, size_t node,
+                  double *ordinary, double *night, double *holiday,
+                  uint32_t *quarters, double *hours);
+
+/* The total of a line that the caller made up. Refusal: 12. */
+uint32_t etg_total(double ordinary, double night, double holiday,
+                   uint32_t *quarters, double *hours);
+
+/* A list of lines: how many there are, and the sum of their totals, exact.
+ *
+ * Refusals: 7, 8, 12. With 12 `*bad` is the first element that is no line, or
+ * the node itself where it is a string; else it is 0. */
+uint32_t etg_week(const uint8_t *canonical, size_t canonical_room, size_t length,
+                  const uint32_t *table, size_t table_room, size_t nodes, size_t node,
+                  size_t *lines, uint32_t *quarters, double *hours, size_t *bad);
+
+/* The same with the table lent as records; `record_room` counts records. */
+uint32_t etg_value_records(const uint8_t *canonical, size_t canonical_room, size_t length,
+                           const struct etg_record *records, size_t record_room,
+                           size_t nodes, size_t node,
+                           uint32_t *kind, float *single, double *number64, int64_t *whole,
+                           size_t *start, size_t *end);
+
+uint32_t etg_line_records(const uint8_t *canonical, size_t canonical_room, size_t length,
+                          const struct etg_record *records, size_t record_room,
+                          size_t nodes, size_t node,
+                          double *ordinary, double *night, double *holiday,
+                          uint32_t *quarters, double *hours);
+
+uint32_t etg_week_records(const uint8_t *canonical, size_t canonical_room, size_t length,
+                          const struct etg_record *records, size_t record_room,
+                          size_t nodes, size_t node,
+                          size_t *lines, uint32_t *quarters, double *hours, size_t *bad);
 
 #ifdef __cplusplus
 }

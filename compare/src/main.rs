@@ -1,10 +1,12 @@
 //! `compare SEED COUNT`: the fixed cases and COUNT random ones of the seed, each
 //! answered by the library and by the reference program. Answers and all lent
-//! buffers must be the same. Spools come after them, as many. What differs is
-//! shown whole; the exit status is 1 where anything does.
+//! buffers must be the same. Spools come after them, as many; then the fixed
+//! sheets of values and hours, and a tenth as many random ones, node by node.
+//! What differs is shown; the exit status is 1 where anything does.
 
 mod library;
 mod spool;
+mod values;
 
 use std::collections::BTreeMap;
 use std::env;
@@ -53,7 +55,12 @@ fn compare(seed: u64, count: u64) -> ExitCode {
         tally.values().sum::<u64>()
     );
     differences += spool::compare(seed, count);
-    ExitCode::from(u8::from(differences > 0))
+    let typed = values::compare(seed, count.div_ceil(10));
+    println!(
+        "{} questions on values and hours, {} differences",
+        typed.asked, typed.different
+    );
+    ExitCode::from(u8::from(differences + typed.different > 0))
 }
 
 fn show(number: u64, case: &Case, way: &str, answered: &Outcome) {

@@ -35,6 +35,8 @@ from ._library import LibraryMissing
 from ._sheet import Node, Sheet, read, replace, same, write
 from ._spool import Adding, Opened, spool_add, spool_open, spool_sheets, spool_shown
 from ._spool_file import SpoolFile, SpoolInUse
+from ._values import Line, NoLine, Total, Value, Week
+from ._values import line, line_total, octets, total, value, week
 
 __all__ = [
     "Adding",
@@ -44,6 +46,8 @@ __all__ = [
     "MAX_SOURCE",
     "Form",
     "LibraryMissing",
+    "Line",
+    "NoLine",
     "Node",
     "Octets",
     "Opened",
@@ -58,5 +62,14 @@ __all__ = [
     "spool_open",
     "spool_sheets",
     "spool_shown",
+    "Total",
+    "Value",
+    "Week",
+    "line",
+    "line_total",
+    "octets",
+    "total",
+    "value",
+    "week",
     "write",
 ]

@@ -41,7 +41,7 @@ class Form(IntEnum):
 
 class Refusal(Exception):
     """Something was refused. `number` is the one that every interface of the
-    library gives it, 1 to 8 and 10; `sentence` says what is wrong."""
+    library gives it; `sentence` says what is wrong."""
 
     SENTENCES: ClassVar[dict[int, str]] = {
         1: "the form is not 1, 2 or 3",
@@ -53,6 +53,8 @@ class Refusal(Exception):
         7: "not one tree's canonical form with its own table",
         8: "there is no node of that number",
         10: "the area of the spool is damaged",
+        11: "not a value of its type",
+        12: "not a line of three hours in whole quarters",
     }
     """Sentences by number."""
 

@@ -18,3 +18,4 @@ pub mod limits;
 pub mod output;
 pub mod spool;
 pub mod tree;
+pub mod values;

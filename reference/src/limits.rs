@@ -39,3 +39,7 @@ pub const NOT_OWN: u32 = 7;
 pub const NO_SUCH_NODE: u32 = 8;
 /// Refusal: the area of a spool is damaged.
 pub const DAMAGED: u32 = 10;
+/// Refusal: the node is no value of its type.
+pub const NOT_TYPED: u32 = 11;
+/// Refusal: the node is no line of three hours in whole quarters.
+pub const NOT_LINE: u32 = 12;

@@ -29,6 +29,7 @@ mod spool;
 #[cfg(target_os = "linux")]
 mod spool_file;
 mod table;
+mod value;
 
 pub use form::Form;
 pub use records::{
@@ -39,6 +40,10 @@ pub use refusal::Refusal;
 pub use spool::{spool_add, spool_open, spool_sheets, spool_shown, Adding, Opened, Sheets};
 #[cfg(target_os = "linux")]
 pub use spool_file::{SpoolError, SpoolFile};
+pub use value::{
+    line, line_records, put_value, total, value, value_records, week, week_records, Line, NoWeek,
+    Total, Value, Week,
+};
 
 /// Most octets of a source.
 pub const MAX_SOURCE: usize = 32_768;

@@ -26,6 +26,12 @@ pub enum Refusal {
     NoNode = 8,
     /// 10: the area of a spool is damaged.
     Damaged = 10,
+    /// 11: the node is no value of its type: a list, octets of a wrong length,
+    /// an `int` that is not the shortest, NaN or infinity.
+    NotTyped = 11,
+    /// 12: not a list of exactly three `f64` strings, each 0 to 24 hours in
+    /// whole quarters with the sign clear.
+    NotLine = 12,
 }
 
 impl Refusal {
@@ -46,6 +52,8 @@ impl Refusal {
             Refusal::NotOwn => "not one tree's canonical form with its own table",
             Refusal::NoNode => "there is no node of that number",
             Refusal::Damaged => "the area of the spool is damaged",
+            Refusal::NotTyped => "not a value of its type",
+            Refusal::NotLine => "not a line of three hours in whole quarters",
         }
     }
 
@@ -61,6 +69,8 @@ impl Refusal {
             7 => Refusal::NotOwn,
             8 => Refusal::NoNode,
             10 => Refusal::Damaged,
+            11 => Refusal::NotTyped,
+            12 => Refusal::NotLine,
             _ => unreachable!("the library gives no other number"),
         })
     }

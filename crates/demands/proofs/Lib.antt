@@ -12,3 +12,5 @@ pub mod Lent
 pub mod Space
 pub mod Stray
 pub mod Escapes
+pub mod Typed
+pub mod Lined

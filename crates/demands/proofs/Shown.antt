@@ -22,7 +22,7 @@ use Rattle.edits.specs.Place.{before, after, trail}
 use Rattle.edits.proofs.Whole.{canons-one, octets-at, row-first, locate}
 
 -- a part of a sheet, by what stands before and after it
-between : (canonical pre mid post : List ℕ) (len s e : ℕ) → take len canonical ≡ pre ++ (mid ++ post) → s ≡ length pre → e ≡ length pre + length mid → octetsAt canonical (part s e) ≡ mid
+pub between : (canonical pre mid post : List ℕ) (len s e : ℕ) → take len canonical ≡ pre ++ (mid ++ post) → s ≡ length pre → e ≡ length pre + length mid → octetsAt canonical (part s e) ≡ mid
 unfolding octetsAt
 between canonical pre mid post len s e q a b =
     let whole : canonical ≡ pre ++ (mid ++ (post ++ drop len canonical))
@@ -62,14 +62,14 @@ module _ (canonical : List ℕ) (len : ℕ) (table : List ℕ) (count node : ℕ
       unfolding shownRow chain
       row-there = rw o (picked _ _ (lt-ltb node (nodes t) h))
 
-      abbrev front : List ℕ
+      abbrev pub front : List ℕ
       front = before ((locate t node h) .place)
 
-      abbrev back : List ℕ
+      abbrev pub back : List ℕ
       back = after ((locate t node h) .place)
 
       -- the sheet and the node's record, by the node
-      sheet-by : (x : Tree) → nodeAt t node ≡ x → take len canonical ≡ front ++ (canon x ++ back)
+      pub sheet-by : (x : Tree) → nodeAt t node ≡ x → take len canonical ≡ front ++ (canon x ++ back)
       sheet-by x q =
           let a = locate t node h in
           let y : a .node ≡ x = sym (a .isNode) ∙ q in
@@ -94,7 +94,7 @@ module _ (canonical : List ℕ) (len : ℕ) (table : List ℕ) (count node : ℕ
 
       -- a string without a hint
       module _ (d : List ℕ) (q : nodeAt t node ≡ plain d) where
-        plain-row : rowOf t node ≡ plainRow (length front) (bodyStart (length front) d) (bodyEnd (length front) d)
+        pub plain-row : rowOf t node ≡ plainRow (length front) (bodyStart (length front) d) (bodyEnd (length front) d)
         unfolding rows
         plain-row = row-by (plain d) q _ (λ rest. refl)
 
@@ -113,10 +113,10 @@ module _ (canonical : List ℕ) (len : ℕ) (table : List ℕ) (count node : ℕ
 
       -- a string with a hint
       module _ (g d : List ℕ) (q : nodeAt t node ≡ hinted g d) where
-        abbrev at : ℕ
+        abbrev pub at : ℕ
         at = length front
 
-        hinted-row : rowOf t node ≡ hintedRow at (bodyStart (at + 1) g) (bodyEnd (at + 1) g) (bodyStart (bodyEnd (at + 1) g + 1) d) (bodyEnd (bodyEnd (at + 1) g + 1) d)
+        pub hinted-row : rowOf t node ≡ hintedRow at (bodyStart (at + 1) g) (bodyEnd (at + 1) g) (bodyStart (bodyEnd (at + 1) g + 1) d) (bodyEnd (bodyEnd (at + 1) g + 1) d)
         unfolding rows
         hinted-row = row-by (hinted g d) q _ (λ rest. refl)
 
@@ -140,7 +140,7 @@ module _ (canonical : List ℕ) (len : ℕ) (table : List ℕ) (count node : ℕ
 
       -- a list: "A list's data is what stands between its parentheses"
       module _ (f : Forest) (q : nodeAt t node ≡ list f) where
-        list-row : rowOf t node ≡ listRow (length front) (length front + length (canon (list f))) (nodes (list f))
+        pub list-row : rowOf t node ≡ listRow (length front) (length front + length (canon (list f))) (nodes (list f))
         unfolding rows
         list-row = row-by (list f) q _ (λ rest. refl)
 

@@ -1,6 +1,7 @@
 // The library's entries: nothing else is a user's business. Each answers and ends whatever it is given, and each promise is an
-// equation with one definition of crate model, which settles the answer and every lent octet and number afterwards.
+// equation with one definition of crates model, spools or typed, which settles the answer and every lent octet and number afterwards.
 mod spooling; // spooling.rt: a spool of sheets
+mod typing; // typing.rt: values with a type, and hours
 
 ghost use mathlib.Core.Path.{_≡_};
 ghost use Rattle.model.specs.Answers.{reading, replacing, writing, comparing, hintPart, dataPart, hintShown, dataShown};
@@ -16,6 +17,11 @@ pub use spooling::spool_add_start;
 pub use spooling::spool_add_step;
 pub use spooling::spool_open;
 pub use spooling::spool_shown;
+pub use typing::line;
+pub use typing::put_value;
+pub use typing::total;
+pub use typing::value;
+pub use typing::week;
 
 // A text of the form named (1 canonical, 2 basic, 3 advanced) into canonical octets and the node table, eight numbers to a
 // node. In a refusal both lent buffers hold what they held; in an acceptance what lies past the octets and the records stays.

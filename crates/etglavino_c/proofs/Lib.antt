@@ -4,3 +4,4 @@ pub mod PlaceHanding
 pub mod PlaceWalk
 pub mod ReadingHanding
 pub mod Spooled
+pub mod ValueHanded

@@ -42,7 +42,7 @@ fn tell(records: &mut [Record], notes: &[usize; limits::NODES], r: Reading, old:
 }
 
 // Whether the records in use are those that notes tell.
-fn holds(records: &[Record], notes: &[usize; limits::NODES], noted: bool, nodes: usize) -> bool
+pub fn holds(records: &[Record], notes: &[usize; limits::NODES], noted: bool, nodes: usize) -> bool
     requires { ⌜ Comparable (now notes) noted nodes (length (now records)) ⌝ }
     ensures { λ b. ⌜ b ≡ agreed (now (records .entry)) (now (notes .entry)) noted (looked noted nodes) ⌝ }
 {

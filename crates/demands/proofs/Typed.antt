@@ -1,0 +1,108 @@
+-- 02, Ask 8, of a node of a sheet with its own table: its value by its hint, and that the value writes back to its data octets.
+use Prim.Native.Nat.{ℕ, _+_, _≤_, _<_}
+use native.Mathlib.Omega.{arith}
+use mathlib.Core.Path.{_≡_, refl, sym, ap, ap₂, _∙_, subst}
+use mathlib.Core.Bool.{Bool, true, false}
+use mathlib.Core.Option.{Option, none, some}
+use mathlib.Core.List.{List, [], _∷_, _++_, append-assoc}
+use lib.Dec.{T, eqb}
+use lib.ListN.{length, take, length-append}
+use lib.Seq.{slice}
+use Rattle.base.specs.Choice.{pick}
+use Rattle.base.proofs.Cases.{pick-cases, some-same, none-some}
+use Rattle.model.specs.Answers.{the, ownTree, part, octetsAt}
+use Rattle.model.specs.Table.{Row, plainRow, hintedRow, listRow, bodyStart, bodyEnd, rowOf}
+use Rattle.model.specs.Tree.{Tree, plain, hinted, list, Forest, digits, verbatim, canon, nodes}
+use Rattle.lookup.proofs.Sheets.{Own, own-of}
+use Rattle.lookup.proofs.Shown.{Inside, rows-inside}
+use Rattle.edits.specs.Node.{nodeAt}
+use Rattle.typed.specs.Octets.{octets}
+use Rattle.typed.specs.Typed.{kindOf, singleOf, doubleOf, wholeOf, valueAt}
+use Rattle.typed.specs.Coding.{coding}
+use Rattle.typed.specs.Lines.{rowKind, typedRow}
+use Rattle.typed.specs.Asked.{valueIn, nodeValue}
+use Rattle.typed.specs.declared.Value.{Value}
+use Rattle.typed.specs.declared.Value.the-variants.{Raw}
+use Rattle.typed.specs.declared.Typing.{Typing}
+use Rattle.typed.specs.declared.Typing.the-variants.{Is, Untyped}
+use Rattle.typed.proofs.Roundtrip.{written-back}
+use Rattle.values.proofs.Laying.{part-slice}
+use Rattle.demands.proofs.Shown.{between, front, back, sheet-by, plain-row, hinted-row, list-row}
+
+is-value : (r : Typing) (v : Value) → valueIn r ≡ some v → r ≡ Is v
+is-value (Is u) v e = some-same (λ (x : Value). Is u ≡ Is x) e refl
+is-value Untyped v e = none-some e
+
+-- the value of the octets d with the hint g: of its type, or raw where the hint tells none
+abbrev pub hintedAs : List ℕ → List ℕ → Typing → Typing
+hintedAs g d raw = pick (eqb (kindOf g) 1) (singleOf d) (pick (eqb (kindOf g) 2) (doubleOf d) (pick (eqb (kindOf g) 3) (wholeOf d) raw))
+
+-- a string with a hint, wherever it stands in a sheet
+module _ (canonical : List ℕ) (len : ℕ) (pre post g d : List ℕ) (e : take len canonical ≡ pre ++ (canon (hinted g d) ++ post)) (at : ℕ) (l : at ≡ length pre) where
+  abbrev pub hintRow : Row
+  hintRow = hintedRow at (bodyStart (at + 1) g) (bodyEnd (at + 1) g) (bodyStart (bodyEnd (at + 1) g + 1) d) (bodyEnd (bodyEnd (at + 1) g + 1) d)
+
+  hint-is : slice (hintRow .hintStart) (hintRow .hintEnd) canonical ≡ g
+  unfolding octetsAt canon verbatim
+  hint-is =
+      sym (part-slice (hintRow .hintStart) (hintRow .hintEnd) canonical)
+      ∙ between canonical (pre ++ (91 ∷ (digits (length g) ++ (58 ∷ [])))) g (93 ∷ (verbatim d ++ post)) len (hintRow .hintStart) (hintRow .hintEnd)
+      (e ∙ simp append-assoc)
+      (simp length-append (omega arith))
+      (simp length-append (omega arith))
+
+  data-is : slice (hintRow .dataStart) (hintRow .dataEnd) canonical ≡ d
+  unfolding octetsAt canon verbatim
+  data-is =
+      sym (part-slice (hintRow .dataStart) (hintRow .dataEnd) canonical)
+      ∙ between canonical (pre ++ (91 ∷ (verbatim g ++ (93 ∷ (digits (length d) ++ (58 ∷ [])))))) d post len (hintRow .dataStart) (hintRow .dataEnd)
+      (e ∙ simp append-assoc)
+      (simp length-append (omega arith))
+      (simp length-append (omega arith))
+
+  by-kind : valueAt (kindOf g) canonical (hintRow .dataStart) (hintRow .dataEnd) ≡ hintedAs g d (Is (Raw (hintRow .dataStart) (hintRow .dataEnd)))
+  unfolding valueAt
+  by-kind = ap (λ (x : List ℕ). hintedAs g x (Is (Raw (hintRow .dataStart) (hintRow .dataEnd)))) data-is
+
+  pub typed-hinted : typedRow canonical hintRow ≡ hintedAs g d (Is (Raw (hintRow .dataStart) (hintRow .dataEnd)))
+  unfolding typedRow rowKind
+  typed-hinted = ap (λ (x : List ℕ). valueAt (kindOf x) canonical (hintRow .dataStart) (hintRow .dataEnd)) hint-is ∙ by-kind
+
+module _ (canonical : List ℕ) (len : ℕ) (table : List ℕ) (count node : ℕ) (t : Tree) (o : ownTree canonical len table count ≡ some t) where
+  value-by : nodeValue canonical len table count node ≡ valueIn (typedRow canonical (rowOf t node))
+  unfolding nodeValue the
+  value-by = ap (λ (x : Option Tree). valueIn (typedRow canonical (rowOf (the x) node))) o
+
+  -- 02, "every accepted value writes back to the same data octets, a raw one copied from its place in the octets lent"
+  pub value-back : T (octets canonical) → (v : Value) → nodeValue canonical len table count node ≡ some v
+      → coding canonical v ≡ some (slice (rowOf t node .dataStart) (rowOf t node .dataEnd) canonical)
+  unfolding typedRow
+  value-back all v e =
+      let w : Own canonical len table count t = own-of canonical len table count t o in
+      let i : Inside (rowOf t node) (0 + length (canon t)) = rows-inside t 0 node in
+      let is : typedRow canonical (rowOf t node) ≡ Is v = is-value _ v (sym value-by ∙ e) in
+      pick-cases (eqb (rowOf t node .kind) 2) Untyped (valueAt (rowKind canonical (rowOf t node)) canonical (rowOf t node .dataStart) (rowOf t node .dataEnd)) is
+      (λ p q. none-some (ap valueIn q))
+      (λ p q. written-back (rowKind canonical (rowOf t node)) canonical (rowOf t node .dataStart) (rowOf t node .dataEnd) v all (i .octets) (omega (arith, i .ended, w .sheet .size, w .sheet .lent)) q)
+
+  module _ (h : node < nodes t) where
+    -- 02, "A list .. refuse[s] with 11"
+    pub value-of-list : (f : Forest) → nodeAt t node ≡ list f → nodeValue canonical len table count node ≡ none
+    unfolding typedRow
+    value-of-list f q = value-by ∙ ap (λ (r : Row). valueIn (typedRow canonical r)) (list-row canonical len table count node t o h f q)
+
+    -- 02, "Any other hint, or none, is raw"
+    pub value-of-plain : (d : List ℕ) → nodeAt t node ≡ plain d → nodeValue canonical len table count node ≡ some (Raw (rowOf t node .dataStart) (rowOf t node .dataEnd))
+    unfolding typedRow rowKind valueAt
+    value-of-plain d q =
+        let r = plain-row canonical len table count node t o h d q in
+        value-by ∙ ap (λ (x : Row). valueIn (typedRow canonical x)) r ∙ ap (λ (x : Row). some (Raw (x .dataStart) (x .dataEnd))) (sym r)
+
+    -- 02, "Strings now carry numbers, told by hint"
+    pub value-of-hinted : (g d : List ℕ) → nodeAt t node ≡ hinted g d
+        → nodeValue canonical len table count node ≡ valueIn (hintedAs g d (Is (Raw (rowOf t node .dataStart) (rowOf t node .dataEnd))))
+    value-of-hinted g d q =
+        let r = hinted-row canonical len table count node t o h g d q in
+        value-by ∙ ap (λ (x : Row). valueIn (typedRow canonical x)) r
+        ∙ ap valueIn (typed-hinted canonical len (front canonical len table count node t o h) (back canonical len table count node t o h) g d (sheet-by canonical len table count node t o h (hinted g d) q) _ refl)
+        ∙ ap (λ (x : Row). valueIn (hintedAs g d (Is (Raw (x .dataStart) (x .dataEnd))))) (sym r)

@@ -1,0 +1,276 @@
+-- What is answered of a node: rows 7 and 8, and then by its tree.
+use Prim.Native.Nat.{ℕ, _/_, _*_, _≤_, _<_}
+use native.Mathlib.Omega.{arith}
+use mathlib.Core.Path.{_≡_, refl, sym, ap, _∙_, subst}
+use mathlib.Core.Bool.{Bool, true, false}
+use mathlib.Core.Option.{Option, none, some}
+use mathlib.Core.List.{List, [], _∷_}
+use lib.ListN.{length}
+use lib.Dec.{leb, eqb}
+use borrow.Author.Tests.{le-leb, lt-leb, eq-eqb}
+use Rattle.base.specs.Choice.{pick, not, chain, isNone, equal, both}
+use Rattle.base.proofs.Cases.{differ, picked, unpicked, some-same, none-some}
+use Rattle.model.specs.Limits.{Accepted, maxNodes}
+use Rattle.model.specs.Answers.{Check, when, verdict, judged, the, sheetTree, owns, ownTree}
+use Rattle.model.specs.Table.{width, records, rowOf, tableOf}
+use Rattle.model.specs.Tree.{Tree, canon, nodes}
+use Rattle.sheets.specs.Told.{Holds, Fillable, Compared}
+use Rattle.lookup.specs.Noted.{Sheet, Sheeted, Owning}
+use Rattle.lookup.proofs.Sheets.{tree-of, none-of, sheet-of}
+use Rattle.lookup.proofs.Sheets as lookup
+use Rattle.typed.specs.Coding.{NotTyped, NotLine}
+use Rattle.typed.specs.Quarters.{quartersOf, totalBy, totalFor}
+use Rattle.typed.specs.Lines.{typedRow, hoursAt, quartersIn, keptIf, lineAt, lineCount, Sum, lines, bad, sumAt}
+use Rattle.typed.specs.Cases.{Valued, unvalued, valued, Lined, unlined, lined, Summed, unsummed, summed}
+use Rattle.typed.specs.Asked.{nodeChecks, valueIn, nodeValue, valuing, nodeLine, lining, nodeSum, summedBy, summing}
+use Rattle.typed.specs.declared.Value.{Value}
+use Rattle.typed.specs.declared.Line.{Line}
+use Rattle.typed.specs.declared.Total.{Total}
+use Rattle.typed.specs.declared.Typing.{Typing}
+use Rattle.typed.specs.declared.Typing.the-variants.{Is, Untyped}
+use Rattle.typed.specs.declared.Count.{Count}
+use Rattle.typed.specs.declared.Count.the-variants.{Quarters, NoCount}
+use Rattle.typed.specs.declared.Valuing.{Valuing}
+use Rattle.typed.specs.declared.Valuing.the-variants as valuings
+use Rattle.typed.specs.declared.Lining.{Lining}
+use Rattle.typed.specs.declared.Lining.the-variants as linings
+use Rattle.typed.specs.declared.Summing.{Summing}
+use Rattle.typed.specs.declared.Summing.the-variants as summings
+use Rattle.shifts.specs.declared.lines.Found.{Found}
+use Rattle.shifts.specs.declared.lines.Found.the-variants.{Hours, NoHours}
+use Rattle.shifts.specs.declared.lines.Added.{Added}
+use Rattle.shifts.specs.declared.lines.Added.the-variants.{Lines, Bad}
+use Rattle.shifts.specs.Known.{Known, KnownAt, KnownIf, TypedAt, hoursOf, HoursAt, sumFor, SumAt, Values, HasLine, Sums, Owns}
+
+pub in-sheet : (c notes : List ℕ) (count node : ℕ) (own : Bool) → KnownIf c notes count own → own ≡ true → node < count → KnownAt c notes count node
+in-sheet c notes count node own k y h = record { known = k .known y; inside = h }
+
+-- ---- rows 7 and 8, whatever is asked
+
+module _ {A : Type 0} (c : List ℕ) (len : ℕ) (table : List ℕ) (count node : ℕ) (rest : List Check) (accepted : A) (refused : ℕ → A) where
+  not-own : ownTree c len table count ≡ none → judged (nodeChecks c len table count node rest) accepted refused ≡ refused 7
+  unfolding judged nodeChecks verdict isNone
+  not-own e = rw e
+
+  module _ (t : Tree) (e : ownTree c len table count ≡ some t) where
+    no-node : count ≤ node → judged (nodeChecks c len table count node rest) accepted refused ≡ refused 8
+    unfolding judged nodeChecks verdict isNone
+    no-node h = rw (e, le-leb count node h)
+
+    a-node : node < count → judged (nodeChecks c len table count node rest) accepted refused ≡ judged rest accepted refused
+    unfolding judged nodeChecks verdict isNone
+    a-node h = rw (e, lt-leb count node h)
+
+-- ---- row 11 or 12, by what there is
+
+value-some : (o : Option Value) (x : Value) → o ≡ some x → judged (when NotTyped (isNone o) ∷ []) (record { accepted = true; number = Accepted; value = o }) (λ n. unvalued n) ≡ valued (valuings.Accepted x)
+unfolding judged verdict isNone valued
+value-some o x e = rw e
+
+value-none : (o : Option Value) → o ≡ none → judged (when NotTyped (isNone o) ∷ []) (record { accepted = true; number = Accepted; value = o }) (λ n. unvalued n) ≡ unvalued 11
+unfolding judged verdict isNone
+value-none o e = rw e
+
+line-some : (o : Option Line) (s : Option Total) (l : Line) (u : Total) → o ≡ some l → s ≡ some u → judged (when NotLine (isNone o) ∷ []) (record { accepted = true; number = Accepted; line = o; total = s }) (λ n. unlined n) ≡ lined (linings.Accepted l u)
+unfolding judged verdict isNone lined
+line-some o s l u e f = rw (e, f)
+
+line-none : (o : Option Line) (s : Option Total) → o ≡ none → judged (when NotLine (isNone o) ∷ []) (record { accepted = true; number = Accepted; line = o; total = s }) (λ n. unlined n) ≡ unlined 12
+unfolding judged verdict isNone
+line-none o s e = rw e
+
+no-checks : {A : Type 0} (a : A) (f : ℕ → A) → judged [] a f ≡ a
+unfolding judged verdict
+no-checks a f = refl
+
+module _ (c notes : List ℕ) (count node : ℕ) (own : Bool) where
+  -- the tree of a table that is told to be the sheet's own
+  the-tree : {G : Type 0} → own ≡ true → (len : ℕ) (table : List ℕ) → Owning c len table count notes own → ((t : Tree) → ownTree c len table count ≡ some t → Holds notes count t → G) → G
+  the-tree y len table o g = tree-of (ownTree c len table count) (sym y ∙ o .tells) (λ t e. g t e (o .held t e))
+
+  no-tree : own ≡ false → (len : ℕ) (table : List ℕ) → Owning c len table count notes own → ownTree c len table count ≡ none
+  no-tree y len table o = none-of (ownTree c len table count) (sym y ∙ o .tells)
+
+  -- ---- a value
+
+  pub value-unowned : own ≡ false → (r : Valuing) → valued r ≡ unvalued 7 → Values c notes count node own r
+  unfolding valuing
+  value-unowned y r w = record { is = λ len table o. w ∙ sym (not-own c len table count node _ _ _ (no-tree y len table o)) }
+
+  module _ (y : own ≡ true) where
+    pub value-beyond : count ≤ node → (r : Valuing) → valued r ≡ unvalued 8 → Values c notes count node own r
+    unfolding valuing
+    value-beyond h r w = record { is = λ len table o. w ∙ the-tree y len table o (λ t e g. sym (no-node c len table count node _ _ _ t e h)) }
+
+    module _ (h : node < count) (r : Typing) (v : TypedAt c notes count node r) where
+      value-is : (len : ℕ) (table : List ℕ) (t : Tree) → ownTree c len table count ≡ some t → Holds notes count t → nodeValue c len table count node ≡ valueIn r
+      unfolding nodeValue the
+      value-is len table t e g = ap (λ (x : Option Tree). valueIn (typedRow c (rowOf (the x) node))) e ∙ ap valueIn (sym (v .is t g))
+
+      pub value-given : (x : Value) → r ≡ Is x → Values c notes count node own (valuings.Accepted x)
+      unfolding valuing
+      value-given x q =
+          record {
+            is = λ len table o.
+                the-tree y len table o (λ t e g. sym (a-node c len table count node _ _ _ t e h ∙ value-some (nodeValue c len table count node) x (value-is len table t e g ∙ ap valueIn q)));
+          }
+
+      pub value-refused : r ≡ Untyped → (a : Valuing) → valued a ≡ unvalued 11 → Values c notes count node own a
+      unfolding valuing
+      value-refused q a w =
+          record {
+            is = λ len table o.
+                the-tree y len table o (λ t e g. w ∙ sym (a-node c len table count node _ _ _ t e h ∙ value-none (nodeValue c len table count node) (value-is len table t e g ∙ ap valueIn q)));
+          }
+
+  -- ---- a line
+
+  pub line-unowned : own ≡ false → (r : Lining) → lined r ≡ unlined 7 → HasLine c notes count node own r
+  unfolding lining
+  line-unowned y r w = record { is = λ len table o. w ∙ sym (not-own c len table count node _ _ _ (no-tree y len table o)) }
+
+  module _ (y : own ≡ true) where
+    pub line-beyond : count ≤ node → (r : Lining) → lined r ≡ unlined 8 → HasLine c notes count node own r
+    unfolding lining
+    line-beyond h r w = record { is = λ len table o. w ∙ the-tree y len table o (λ t e g. sym (no-node c len table count node _ _ _ t e h)) }
+
+    module _ (h : node < count) (r : Found) (v : HoursAt c notes count node r) where
+      line-is : (len : ℕ) (table : List ℕ) (t : Tree) → ownTree c len table count ≡ some t → nodeLine c len table count node ≡ lineAt c t node
+      unfolding nodeLine the
+      line-is len table t e = ap (λ (x : Option Tree). lineAt c (the x) node) e
+
+      tree-is : (len : ℕ) (table : List ℕ) (t : Tree) → ownTree c len table count ≡ some t → the (ownTree c len table count) ≡ t
+      unfolding the
+      tree-is len table t e = ap the e
+
+      none-line : (t : Tree) → quartersIn (hoursAt c t node) ≡ NoCount → lineAt c t node ≡ none
+      unfolding lineAt lineCount
+      none-line t e = ap (keptIf (hoursAt c t node)) e
+
+      some-line : (t : Tree) (l : Line) (n : ℕ) → hoursAt c t node ≡ some l → quartersOf l ≡ Quarters n → lineAt c t node ≡ some l
+      unfolding lineAt lineCount
+      some-line t l n e z = ap (keptIf (hoursAt c t node)) (ap quartersIn e ∙ z) ∙ e
+
+      refused-by : ((t : Tree) → Holds notes count t → quartersIn (hoursAt c t node) ≡ NoCount) → (a : Lining) → lined a ≡ unlined 12 → HasLine c notes count node own a
+      unfolding lining
+      refused-by f a w =
+          record {
+            is = λ len table o.
+                the-tree y len table o (λ t e g. w ∙ sym (a-node c len table count node _ _ _ t e h ∙ line-none (nodeLine c len table count node) _ (line-is len table t e ∙ none-line t (f t g))));
+          }
+
+      pub line-missing : r ≡ NoHours → (a : Lining) → lined a ≡ unlined 12 → HasLine c notes count node own a
+      unfolding hoursOf
+      line-missing q a w = refused-by (λ t g. ap quartersIn (sym (v .is t g) ∙ ap hoursOf q)) a w
+
+      module _ (l : Line) (q : r ≡ Hours l) (k : Count) (u : k ≡ quartersOf l) where
+        pub line-uncounted : k ≡ NoCount → (a : Lining) → lined a ≡ unlined 12 → HasLine c notes count node own a
+        unfolding hoursOf
+        line-uncounted z a w = refused-by (λ t g. ap quartersIn (sym (v .is t g) ∙ ap hoursOf q) ∙ sym u ∙ z) a w
+
+        pub line-given : (n : ℕ) → k ≡ Quarters n → (s : Total) → s ≡ totalBy n → HasLine c notes count node own (linings.Accepted l s)
+        unfolding lining hoursOf lineCount
+        line-given n z s m =
+            record {
+              is = λ len table o.
+                  the-tree y len table o (λ t e g.
+                  let b : quartersOf l ≡ Quarters n = sym u ∙ z in
+                  let f : hoursAt c t node ≡ some l = sym (v .is t g) ∙ ap hoursOf q in
+                  let d : nodeLine c len table count node ≡ some l = line-is len table t e ∙ some-line t l n f b in
+                  let i : quartersIn (hoursAt c (the (ownTree c len table count)) node) ≡ Quarters n = ap (λ (x : Tree). quartersIn (hoursAt c x node)) (tree-is len table t e) ∙ ap quartersIn f ∙ b in
+                  sym (a-node c len table count node _ _ _ t e h ∙ line-some (nodeLine c len table count node) _ l s d (ap totalFor i ∙ ap some (sym m))));
+            }
+
+  -- ---- a list of lines
+
+  pub sum-unowned : own ≡ false → (r : Summing) → summed r ≡ unsummed 7 0 → Sums c notes count node own r
+  unfolding summing
+  sum-unowned y r w = record { is = λ len table o. w ∙ sym (not-own c len table count node _ _ _ (no-tree y len table o)) }
+
+  module _ (y : own ≡ true) where
+    pub sum-beyond : count ≤ node → (r : Summing) → summed r ≡ unsummed 8 0 → Sums c notes count node own r
+    unfolding summing
+    sum-beyond h r w = record { is = λ len table o. w ∙ the-tree y len table o (λ t e g. sym (no-node c len table count node _ _ _ t e h)) }
+
+    module _ (h : node < count) (r : Added) (v : SumAt c notes count node r) where
+      node-sum : (len : ℕ) (table : List ℕ) (t : Tree) → ownTree c len table count ≡ some t → nodeSum c len table count node ≡ sumAt c t node
+      unfolding nodeSum the
+      node-sum len table t e = ap (λ (x : Option Tree). sumAt c (the x) node) e
+
+      sum-is : (a : Summing) → ((s : Sum) → sumFor r ≡ s → summed a ≡ summedBy s) → Sums c notes count node own a
+      unfolding summing
+      sum-is a f =
+          record {
+            is = λ len table o.
+                the-tree y len table o (λ t e g.
+                f (sumAt c t node) (v .is t g) ∙ sym (a-node c len table count node _ _ _ t e h ∙ no-checks _ _ ∙ ap summedBy (node-sum len table t e)));
+          }
+
+      pub sum-given : (n q : ℕ) → r ≡ Lines n q → (s : Total) → s ≡ totalBy q → Sums c notes count node own (summings.Accepted n s)
+      unfolding sumFor summedBy summed
+      sum-given n q z s m = sum-is _ (λ u i. ap (λ (x : Total). summed (summings.Accepted n x)) m ∙ ap summedBy (sym (ap sumFor z) ∙ i))
+
+      pub sum-refused : (k : ℕ) → r ≡ Bad k → (a : Summing) → summed a ≡ unsummed 12 k → Sums c notes count node own a
+      unfolding sumFor summedBy
+      sum-refused k z a w = sum-is a (λ u i. w ∙ ap summedBy (sym (ap sumFor z) ∙ i))
+
+-- ---- over a table of numbers
+
+module _ (c : List ℕ) (len : ℕ) (table : List ℕ) (count : ℕ) (notes : List ℕ) where
+  no-known : KnownIf c notes count false
+  no-known = record { known = λ y. differ y refl }
+
+  pub unnoted : (noted : Bool) → Sheeted c len count (length table / width) notes noted → noted ≡ false → Owns c len table count notes false
+  unfolding Sheeted isNone
+  unnoted noted s y =
+      let e : ownTree c len table count ≡ none = subst (Sheeted c len count (length table / width) notes) y s table refl in
+      record {
+        owning = record { tells = ap (λ (o : Option Tree). not (isNone o)) (sym e); held = λ t f. none-some (sym e ∙ f) };
+        known = no-known;
+      }
+
+  module _ (noted : Bool) (s : Sheeted c len count (length table / width) notes noted) (y : noted ≡ true) where
+    sheet : Sheet c len count (length table / width) notes
+    unfolding Sheeted
+    sheet = subst (Sheeted c len count (length table / width) notes) y s
+
+    pub noted-fillable : Fillable notes count (length table)
+    noted-fillable = record { tree = sheet .tree; held = sheet .held; fits = omega (arith, sheet .lent) }
+
+    told-some : (b : Bool) (t : Tree) → b ≡ not (isNone (pick b (some t) none))
+    unfolding isNone
+    told-some true t = refl
+    told-some false t = refl
+
+    some-tree : (b : Bool) (t u : Tree) → pick b (some t) none ≡ some u → t ≡ u
+    some-tree true t u e = some-same (λ (v : Tree). t ≡ v) e refl
+    some-tree false t u e = none-some e
+
+    pub noted-owns : (b : Bool) → Compared notes count table b → Owns c len table count notes b
+    unfolding ownTree owns chain
+    noted-owns b w =
+        let t : Tree = sheet .tree in
+        let e : ownTree c len table count ≡ pick b (some t) none =
+        ap (λ (o : Option Tree). chain o (owns table count)) (sheet .is)
+        ∙ ap (λ (x : Bool). pick x (some t) none) (picked _ _ (eq-eqb count (nodes t) (sheet .held .counted)) ∙ sym (w .tells t (sheet .held))) in
+        let l : lookup.Sheet c len t = sheet-of c len t (sheet .is) in
+        record {
+          owning = record {
+            tells = told-some b t ∙ ap (λ (o : Option Tree). not (isNone o)) (sym e);
+            held = λ u f. subst (Holds notes count) (some-tree b t u (sym e ∙ f)) (sheet .held);
+          };
+          known = record { known = λ z. record { tree = t; held = sheet .held; within = omega (arith, l .size, l .lent); many = omega (arith, sheet .held .counted, l .fitting .many) } };
+        }
+
+module _ (c : List ℕ) (len : ℕ) (table : List ℕ) (count node : ℕ) (notes : List ℕ) (own : Bool) (o : Owns c len table count notes own) where
+  pub owns-known : KnownIf c notes count own
+  owns-known = o .known
+
+  pub owns-value : (r : Valuing) → Values c notes count node own r → valued r ≡ valuing c len table count node
+  owns-value r v = v .is len table (o .owning)
+
+  pub owns-line : (r : Lining) → HasLine c notes count node own r → lined r ≡ lining c len table count node
+  owns-line r v = v .is len table (o .owning)
+
+  pub owns-sum : (r : Summing) → Sums c notes count node own r → summed r ≡ summing c len table count node
+  owns-sum r v = v .is len table (o .owning)

@@ -1,0 +1,15 @@
+pub mod Base
+pub mod Wide
+pub mod Digits
+pub mod Floating
+pub mod Floats
+pub mod Shortly
+pub mod Wholly
+pub mod Shorten
+pub mod Unique
+pub mod Quarterly
+pub mod Exact
+pub mod Meaning
+pub mod Examples
+pub mod Roundtrip
+pub mod Injective
