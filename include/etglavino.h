@@ -252,7 +252,9 @@ uint32_t etg_spool_add_commits(const struct etg_spool_state *state,
                                const uint8_t *area, size_t area_size,
                                const uint8_t *sheet, size_t sheet_size);
 
-/* A whole addition: the start and all its steps.
+/* A whole addition: the start and all its steps, for an area that nobody sees
+ * meanwhile. Within one call a compiler is free to join stores and to change
+ * their order, so that an area which has to stand a cut is added to by steps.
  *
  * Refusals: as etg_spool_add_start; the area then holds what it held. On
  * acceptance the octet behind the new entry is 0, if the area has one; octets

@@ -61,8 +61,9 @@ def spool_sheets(area: Octets | Area) -> list[bytes]:
 
 
 def spool_add(area: Area, sheet: Octets) -> None:
-    """Adds a sheet, in place. Raises `Refusal` 10, 7 or 6, the first that
-    applies; the area then holds what it held."""
+    """Adds a sheet, in place, to an area that nobody sees meanwhile; one that has
+    to stand a cut is added to by `Adding`. Raises `Refusal` 10, 7 or 6, the
+    first that applies; the area then holds what it held."""
     canonical = octets_of(sheet)
     with _Lent(area) as octets:
         refusal = _library().etg_spool_add(

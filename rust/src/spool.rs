@@ -85,8 +85,9 @@ impl<'a> Iterator for Sheets<'a> {
 impl ExactSizeIterator for Sheets<'_> {}
 
 /// Adds the sheet in the first `length` octets of `sheet`: all stores of an
-/// [`Adding`], one after the other. The octet behind the new entry becomes 0, if
-/// the area has one; those past it stay.
+/// [`Adding`] in one call, for an area that nobody sees meanwhile. One that has
+/// to stand a cut is added to by an [`Adding`]'s steps. The octet behind the new
+/// entry becomes 0, if the area has one; those past it stay.
 ///
 /// # Errors
 ///
