@@ -5,6 +5,7 @@
 //! as many random ones, node by node.
 
 mod library;
+mod typed_sheets;
 mod values;
 
 use std::collections::BTreeMap;
