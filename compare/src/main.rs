@@ -6,6 +6,7 @@
 
 mod library;
 mod spool;
+mod typed_sheets;
 mod values;
 
 use std::collections::BTreeMap;

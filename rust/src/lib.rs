@@ -22,6 +22,7 @@
 //! ```
 
 mod ffi;
+mod ffi_value;
 mod form;
 mod records;
 mod refusal;
