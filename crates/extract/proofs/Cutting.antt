@@ -84,9 +84,9 @@ module _ (src rest : List ℕ) (at : ℕ) (rs : List Row) where
       let m : List ℕ = 40 ∷ (digits (length d) ++ (58 ∷ [])) in
       let t : List ℕ = (canons f ++ (41 ∷ [])) ++ rest in
       let w : drop at src ≡ m ++ (d ++ t)
-            = e ∙ ap (λ (x : List ℕ). 40 ∷ (((x ++ canons f) ++ (41 ∷ [])) ++ rest)) g
-            ∙ ap (λ (x : List ℕ). 40 ∷ (x ++ rest)) (append-assoc ((digits (length d) ++ (58 ∷ [])) ++ d) (canons f) (41 ∷ []))
-            ∙ ap (λ (x : List ℕ). 40 ∷ x) (append-assoc ((digits (length d) ++ (58 ∷ [])) ++ d) (canons f ++ (41 ∷ [])) rest ∙ append-assoc (digits (length d) ++ (58 ∷ [])) d t) in
+      = e ∙ ap (λ (x : List ℕ). 40 ∷ (((x ++ canons f) ++ (41 ∷ [])) ++ rest)) g
+      ∙ ap (λ (x : List ℕ). 40 ∷ (x ++ rest)) (append-assoc ((digits (length d) ++ (58 ∷ [])) ++ d) (canons f) (41 ∷ []))
+      ∙ ap (λ (x : List ℕ). 40 ∷ x) (append-assoc ((digits (length d) ++ (58 ∷ [])) ++ d) (canons f ++ (41 ∷ [])) rest ∙ append-assoc (digits (length d) ++ (58 ∷ [])) d t) in
       let l = length-append (digits (length d)) (58 ∷ []) in
       let v = drop-past src m (d ++ t) at (bodyStart (at + 1) d) w (omega arith) in
       ap (λ (x : List ℕ). equal x word) (part-at src d t (bodyStart (at + 1) d) (bodyEnd (at + 1) d) v (omega (arith, verbatim-length d)))

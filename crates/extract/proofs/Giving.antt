@@ -156,18 +156,15 @@ puts-as f h canonical n notes e (reading.Accepted len count) p =
     record { tree = p .tree; held = p .held; recorded = p .recorded; few = p .few; is = λ table z. p .is table z ∙ e table }
 puts-as f h canonical n notes e (reading.Refused x) p = λ table z. p table z ∙ e table
 
+pub show-part : (sheet : List ℕ) (len : ℕ) (notes : List ℕ) (n : ℕ) → Sheeted sheet len notes n → len ≡ length (take len sheet)
+show-part sheet len notes n s = sym (length-take-le len sheet (sheet-of sheet len (s .tree) (s .is) .lent))
+
 module _ (sheet : List ℕ) (len : ℕ) (notes : List ℕ) (n : ℕ) (scratch : List ℕ) (g : Sheeted sheet len notes n × (maxCanonical ≤ length scratch)) where
   abbrev tree : Tree
   tree = g .0 .tree
 
   sheet-is : Sheet sheet len tree
   sheet-is = sheet-of sheet len tree (g .0 .is)
-
-  pub show-lent : len ≤ length sheet
-  show-lent = sheet-is .lent
-
-  pub show-part : len ≡ length (take len sheet)
-  show-part = sym (length-take-le len sheet (sheet-is .lent))
 
   pub show-cuttable : cut.Cuttable (take len sheet) notes n (length scratch)
   show-cuttable =
@@ -236,15 +233,23 @@ module _ (sheet : List ℕ) (len : ℕ) (before : List ℕ) (n : ℕ) (own : Boo
 
 -- ---- the entries
 
-module _ (sheet : List ℕ) (len : ℕ) (before : List ℕ) (n : ℕ) (own : Bool) where
-  pub judged-by : (o : Option Tree) → Judges o sheet len before n own → Judged sheet len before n own
-  judged-by o j = record { found = o; judges = j }
-
 pub notes-given : (sheet : List ℕ) (len : ℕ) (before : List ℕ) (n : ℕ) (canonical canonical′ : List ℕ) (k : ℕ) (notes : List ℕ) (r : Reading)
     → Judges (sheetTree sheet len) sheet len before n (ltb 0 n) → Gives sheet len before n (ltb 0 n) canonical canonical′ k notes r → Puts (extracting sheet len canonical) canonical′ k notes r
 unfolding extracting
 notes-given sheet len before n canonical canonical′ k notes r j g = puts-as _ _ canonical′ k notes (λ table. refl) r (g .is (sheetTree sheet len) j)
 
-pub entry-tells : (answer : List ℕ → Outcome) (canonical : List ℕ) (notes : List ℕ) (table : List ℕ) (r : Reading) → Puts answer canonical (length table / width) notes r → Tellable notes (length table) r
-entry-tells answer canonical notes table r p = record { answer = answer; canonical = canonical; puts = p }
+pub extract-done : (sheet : List ℕ) (len : ℕ) (canonical canonical′ notes table table′ : List ℕ) (r : Reading)
+    → Puts (extracting sheet len canonical) canonical′ (length table / width) notes r → Tells notes r table table′ → outcome r canonical′ table′ ≡ extracting sheet len canonical table
+extract-done sheet len canonical canonical′ notes table table′ r p f = f .is (extracting sheet len canonical) canonical′ p
 
+module _ (sheet : List ℕ) (len : ℕ) (rows : List ℕ) (m : ℕ) (before : List ℕ) (own : Bool) (j : Judges (ownTree sheet len rows m) sheet len before m own) (canonical canonical′ notes table : List ℕ) (r : Reading)
+    (g : Gives sheet len before m own canonical canonical′ (length table / width) notes r) where
+  puts : Puts (extractOf (ownTree sheet len rows m) canonical) canonical′ (length table / width) notes r
+  puts = g .is (ownTree sheet len rows m) j
+
+  pub own-tells : Tellable notes (length table) r
+  own-tells = record { answer = extractOf (ownTree sheet len rows m) canonical; canonical = canonical′; puts = puts }
+
+  pub own-done : (table′ : List ℕ) → Tells notes r table table′ → outcome r canonical′ table′ ≡ extractingOwn sheet len rows m canonical table
+  unfolding extractingOwn
+  own-done table′ f = f .is (extractOf (ownTree sheet len rows m) canonical) canonical′ puts

@@ -72,6 +72,7 @@ module _ (n : ℕ) where
       row-laid at (listRow at (at + length (canon (list f))) (nodes (list f))) (rowss f (at + 1) ++ rs) (omega arith) (omega (arith, list-long f)) (omega arith) (counted f) (within f (at + 1) rs)
       (rw (hopped f (at + 1) rs) (laid-back (at + length (canon (list f))) _ rs (omega (arith, list-long f)) l))
       (laid-back (at + 1) at _ (omega arith) g)
+
   laid-nil : (at : ℕ) (rs : List Row) → Laid n (at + length (canons nil)) rs → Laid n at (rowss nil at ++ rs)
   unfolding rowss
   laid-nil at rs l = laid-back _ at rs (omega arith) l
