@@ -1,6 +1,7 @@
 // The node table as a lent slice of records. Reading and showing go by the notes of a sheet, in local space; replacing works over a
 // flat copy of the table, eight numbers to a record. The functions that take records are few and thin.
 mod flat; // flat.rt: the flat copy
+mod foremen; // foremen.rt: extracts
 mod told; // told.rt: the record that a note tells
 
 ghost use mathlib.Core.Path.{_≡_};
@@ -16,6 +17,8 @@ ghost use Rattle.records.specs.Told.{countOf, told, agreed, looked, Tell
 ghost use Rattle.records.specs.Flat.{spelled, written, filled, flattened, touched, held, Fills, Inside};
 use answers::Place;
 use answers::Reading;
+pub use foremen::extract;
+pub use foremen::extract_own;
 
 // A node's record: its eight numbers, in document 01's order.
 #[repr(C)]
