@@ -17,3 +17,4 @@ pub mod Flattening
 pub mod Filling
 pub mod Retelling
 pub mod Holding
+pub mod Judging
