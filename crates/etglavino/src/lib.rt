@@ -1,5 +1,7 @@
 // The library's entries: nothing else is a user's business. Each answers and ends whatever it is given, and each promise is an
-// equation with one definition of crate model, which settles the answer and every lent octet and number afterwards.
+// equation with one definition, of crate model or extracts, which settles the answer and every lent octet and number afterwards.
+mod foremen; // foremen.rt: extracts
+
 ghost use mathlib.Core.Path.{_≡_};
 ghost use Rattle.model.specs.Answers.{reading, replacing, writing, comparing, hintPart, dataPart, hintShown, dataShown};
 ghost use Rattle.answers.specs.Cases.{outcome, output, told, placed};
@@ -8,6 +10,8 @@ use answers::Comparing;
 use answers::Place;
 use answers::Reading;
 use answers::Writing;
+pub use foremen::extract;
+pub use foremen::extract_own;
 
 // A text of the form named (1 canonical, 2 basic, 3 advanced) into canonical octets and the node table, eight numbers to a
 // node. In a refusal both lent buffers hold what they held; in an acceptance what lies past the octets and the records stays.

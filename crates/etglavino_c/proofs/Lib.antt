@@ -3,3 +3,4 @@ pub mod Addresses
 pub mod PlaceHanding
 pub mod PlaceWalk
 pub mod ReadingHanding
+pub mod ExtractHanded

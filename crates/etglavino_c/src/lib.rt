@@ -1,5 +1,7 @@
 // The C interface: the public entries with 01's number as the return value. What is asked for goes out through pointers and is
 // 0 in a refusal. include/etglavino.h tells a C program how to call them.
+mod extract; // extract.rt: extracts for foremen
+
 ghost use mathlib.Core.Path.{_≡_};
 ghost use Rattle.model.specs.Answers.{reading, replacing, writing, comparing, hintPart, dataPart};
 ghost use Rattle.etglavino_c.specs.Pointers.{outcomeOf, HandsReading, outputOf, compared, comparedOf, shown, shownOf, HandsPlace};

@@ -9,12 +9,7 @@ use crate::tell;
 use answers::Reading;
 
 // The extract of a sheet, into the foreman's sheet and records.
-pub fn extract(
-    sheet: &[u8],
-    length: usize,
-    canonical: &mut [u8],
-    records: &mut [Record],
-) -> Reading
+pub fn extract(sheet: &[u8], length: usize, canonical: &mut [u8], records: &mut [Record]) -> Reading
     ensures { λ r. ⌜ outcome r (now (canonical .exit)) (numbers (now (records .exit))) ≡ extracting (now (sheet .entry)) length (now (canonical .entry)) (numbers (now (records .entry))) ⌝ }
 {
     let mut notes: [usize; limits::NODES] = [0; limits::NODES];
@@ -37,7 +32,15 @@ pub fn extract_own(
     let mut notes: [usize; limits::NODES] = [0; limits::NODES];
     let noted = lookup::note_sheet(sheet, length, &mut notes, rows.len(), nodes);
     let own = holds(rows, &notes, noted, nodes);
-    let r = extract::give(sheet, length, &mut notes, nodes, own, canonical, records.len());
+    let r = extract::give(
+        sheet,
+        length,
+        &mut notes,
+        nodes,
+        own,
+        canonical,
+        records.len(),
+    );
     tell(records, &notes, r, 0);
     r
 }

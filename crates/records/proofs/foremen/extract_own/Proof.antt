@@ -232,9 +232,9 @@ module _ {M : Type 1} (𝓤 : URA M) (H : Heap 𝓤) (A : Atoms 𝓤) (W : Given
           assigns ! (agg ! (and-then ! (load ! (from ! (stop !)) (look ! 10 refl)) (and-then ! (load ! (from ! (fld ! refl (stop !))) (look-in ! 34 (sub ! 1 refl (whole !)))) (no-more !)))) (from ! (stop !)) (init ! 8 refl (tt, (tt, (record { fits = room₃ .0 }, tt)))) $
           assigns ! (addr ! (from ! (stop !))) (from ! (stop !)) (init ! 6 refl (tt, tt)) $
           lft-new ! tt (λ ν. move ! (33 ∷ []) $ lends-const ! tt (named 1) ν l₇ f″ (λ ε. move ! (3 ∷ 0 ∷ []) $ join ! $ move ! (7 ∷ 2 ∷ []) $ join ! $ use2 W (raw (Telling 𝓤 H A mem run .pre (to-tell 𝓤 H A W mem run κ₃ q₃ rec 0 (lit< tt) l₇ ν ε f″ r u))) (goes-tell 𝓤 H A W mem run κ₃ q₃ rec 0 (lit< tt) l₇ ν ε f″ r u is fits) $
-          calls-at ! (fmOf 𝓤 H (W .laws) 𝓣) (Telling 𝓤 H A mem run) known-tell (to-tell 𝓤 H A W mem run κ₃ q₃ rec 0 (lit< tt) l₇ ν ε f″ r u) (and-then ! (load ! (from ! (stop !)) (look ! 8 refl)) (and-then ! (load ! (from ! (stop !)) (look ! 6 refl)) (and-then ! (load ! (from ! (stop !)) (look ! 26 refl)) (and-then ! (lit ! tt) (no-more !))))) (λ w. 
+          calls-at ! (fmOf 𝓤 H (W .laws) 𝓣) (Telling 𝓤 H A mem run) known-tell (to-tell 𝓤 H A W mem run κ₃ q₃ rec 0 (lit< tt) l₇ ν ε f″ r u) (and-then ! (load ! (from ! (stop !)) (look ! 8 refl)) (and-then ! (load ! (from ! (stop !)) (look ! 6 refl)) (and-then ! (load ! (from ! (stop !)) (look ! 26 refl)) (and-then ! (lit ! tt) (no-more !))))) (λ w.
           use1 W (Told 𝓤 H A W mem run κ₃ q₃ rec 0 (lit< tt) l₇ ν ε f″ r u w) (id⊢ 𝓤 _) $ await ! tt $ pick ! (λ z. split ! $ move ! (1 ∷ []) $ use1 W (TellLast 𝓤 H A W mem run κ₃ q₃ rec 0 (lit< tt) l₇ ν ε f″ r u) (id⊢ 𝓤 _) $ pick ! (λ ws. split ! $ move ! (1 ∷ []) $
-          heard ! (ws .0 ≡ told f″ (countOf r) (touched r 0) (rec .now)) (λ e. fsplit ! $ fsplit ! $ move ! (1 ∷ []) $ feqL ! (λ l. move ! (2 ∷ []) $ split ! $ move ! (1 ∷ []) $ feqL ! (λ one. 
+          heard ! (ws .0 ≡ told f″ (countOf r) (touched r 0) (rec .now)) (λ e. fsplit ! $ fsplit ! $ move ! (1 ∷ []) $ feqL ! (λ l. move ! (2 ∷ []) $ split ! $ move ! (1 ∷ []) $ feqL ! (λ one.
           land ! (from ! (stop !)) (init ! 14 refl (is-unit w one)) $
           split ! $ move ! (1 ∷ []) $ split ! $ move ! (0 ∷ 5 ∷ []) $ const-back ! tt ν l₇ f″ $ dies ! l₇ f″ (λ v. assigns ! (of-opd ! (load ! (from ! (stop !)) (look ! 29 refl))) (from ! (stop !)) (init ! 48 refl (EL.lawful R.the-type R′.the-laws 𝓤 H A W tt .typed r _ is .0)) $
           forget ! 15 refl $ forget ! 13 refl $ forget ! 11 refl $ forget ! 9 refl $ keep ! (3 ∷ 5 ∷ 6 ∷ 7 ∷ 8 ∷ 2 ∷ 9 ∷ 10 ∷ 11 ∷ 12 ∷ 13 ∷ 14 ∷ 15 ∷ 16 ∷ 17 ∷ 18 ∷ 19 ∷ 20 ∷ 21 ∷ 22 ∷ 23 ∷ 24 ∷ 25 ∷ 26 ∷ 27 ∷ 28 ∷ 29 ∷ 30 ∷ 31 ∷ 32 ∷ 33 ∷ 34 ∷ 0 ∷ 35 ∷ 36 ∷ 37 ∷ 38 ∷ 39 ∷ 40 ∷ 41 ∷ 42 ∷ 43 ∷ 44 ∷ 45 ∷ 46 ∷ 47 ∷ 48 ∷ 49 ∷ []) $
@@ -253,7 +253,7 @@ module _ {M : Type 1} (𝓤 : URA M) (H : Heap 𝓤) (A : Atoms 𝓤) (W : Given
           assigns ! (agg ! (and-then ! (load ! (from ! (stop !)) (look ! 17 refl)) (and-then ! (load ! (from ! (fld ! refl (stop !))) (look-in ! 37 (sub ! 1 refl (whole !)))) (no-more !)))) (from ! (stop !)) (init ! 15 refl (tt, (tt, (record { fits = room₂ .0 }, tt)))) $
           assigns ! (of-opd ! (load ! (from ! (fld ! refl (stop !))) (look-in ! 35 (sub ! 1 refl (whole !))))) (from ! (stop !)) (init ! 23 refl (tt, record { fits = room₃ .0 })) $
           lft-new ! tt (λ ν. move ! (34 ∷ []) $ lends-mut ! tt (named 1) ν l₇ f′ (λ ε. move ! (0 ∷ 4 ∷ []) $ join ! $ move ! (3 ∷ 0 ∷ []) $ join ! $ move ! (2 ∷ 6 ∷ []) $ join ! $ move ! (4 ∷ 0 ∷ []) $ join ! $ use2 W (raw (Giving 𝓤 H A mem run .pre (to-give l₇ ν ε f′ own))) (goes-give l₇ ν ε f′ own (own-judged (src .now) len (numbers (row .now)) nodes f′ own owning)) $
-          calls-at ! (fmOf 𝓤 H (W .laws) 𝓣) (Giving 𝓤 H A mem run) known-give (to-give l₇ ν ε f′ own) (and-then ! (load ! (from ! (stop !)) (look ! 42 refl)) (and-then ! (load ! (from ! (stop !)) (look ! 40 refl)) (and-then ! (load ! (from ! (stop !)) (look ! 17 refl)) (and-then ! (load ! (from ! (stop !)) (look ! 36 refl)) (and-then ! (load ! (from ! (stop !)) (look ! 27 refl)) (and-then ! (load ! (from ! (stop !)) (look ! 13 refl)) (and-then ! (load ! (from ! (stop !)) (look ! 21 refl)) (no-more !)))))))) (λ u. 
+          calls-at ! (fmOf 𝓤 H (W .laws) 𝓣) (Giving 𝓤 H A mem run) known-give (to-give l₇ ν ε f′ own) (and-then ! (load ! (from ! (stop !)) (look ! 42 refl)) (and-then ! (load ! (from ! (stop !)) (look ! 40 refl)) (and-then ! (load ! (from ! (stop !)) (look ! 17 refl)) (and-then ! (load ! (from ! (stop !)) (look ! 36 refl)) (and-then ! (load ! (from ! (stop !)) (look ! 27 refl)) (and-then ! (load ! (from ! (stop !)) (look ! 13 refl)) (and-then ! (load ! (from ! (stop !)) (look ! 21 refl)) (no-more !)))))))) (λ u.
           use1 W (GiveNext l₇ ν ε f′ own u) (id⊢ 𝓤 _) $ await ! tt $ pick ! (λ r. split ! $ move ! (1 ∷ []) $ use1 W (GiveLast l₇ ν ε f′ own r) (id⊢ 𝓤 _) $ pick ! (λ ws. split ! $ move ! (1 ∷ []) $
           heard ! (Said₂ f′ own r (ws .1 .1 .1 .1 .1 .0) (ws .1 .1 .0)) (λ said. fsplit ! $ move ! (1 ∷ []) $ fsplit ! $ move ! (1 ∷ []) $ fsplit ! $ move ! (1 ∷ []) $ fsplit ! $ move ! (1 ∷ []) $ fsplit ! $ move ! (1 ∷ []) $ fsplit ! $ fsplit ! $ move ! (1 ∷ []) $ feqL ! (λ lc. move ! (7 ∷ []) $ split ! $ move ! (1 ∷ []) $
           peeks ! R.the-row (Is R.the-row) (shows 𝓤 H A R.the-row) r (u ∷ []) (λ is. drop ! $ land ! (from ! (stop !)) (init ! 32 refl (EL.lawful R.the-type R′.the-laws 𝓤 H A W tt .typed r _ is .0)) $
@@ -265,7 +265,7 @@ module _ {M : Type 1} (𝓤 : URA M) (H : Heap 𝓤) (A : Atoms 𝓤) (W : Given
           let comparable : Comparable f′ noted nodes (length (row .now)) = sheet-comparable (src .now) len nodes (row .now) f′ noted said in
           assigns ! (addr ! (from ! (stop !))) (from ! (stop !)) (init ! 22 refl (tt, tt)) $
           lft-new ! tt (λ ν. move ! (35 ∷ []) $ lends-const ! tt (named 1) ν l₇ f′ (λ ε. move ! (4 ∷ 0 ∷ []) $ join ! $ move ! (7 ∷ 2 ∷ []) $ join ! $ use2 W (raw (Holding 𝓤 H A mem run .pre (to-hold 𝓤 H A W mem run κ₁ q₁ row nodes nodes-fits l₇ ν ε f′ noted))) (goes-hold 𝓤 H A W mem run κ₁ q₁ row nodes nodes-fits l₇ ν ε f′ noted comparable) $
-          calls-at ! (fmOf 𝓤 H (W .laws) 𝓣) (Holding 𝓤 H A mem run) known-hold (to-hold 𝓤 H A W mem run κ₁ q₁ row nodes nodes-fits l₇ ν ε f′ noted) (and-then ! (load ! (from ! (stop !)) (look ! 41 refl)) (and-then ! (load ! (from ! (stop !)) (look ! 22 refl)) (and-then ! (load ! (from ! (stop !)) (look ! 32 refl)) (and-then ! (load ! (from ! (stop !)) (look ! 39 refl)) (no-more !))))) (λ u. 
+          calls-at ! (fmOf 𝓤 H (W .laws) 𝓣) (Holding 𝓤 H A mem run) known-hold (to-hold 𝓤 H A W mem run κ₁ q₁ row nodes nodes-fits l₇ ν ε f′ noted) (and-then ! (load ! (from ! (stop !)) (look ! 41 refl)) (and-then ! (load ! (from ! (stop !)) (look ! 22 refl)) (and-then ! (load ! (from ! (stop !)) (look ! 32 refl)) (and-then ! (load ! (from ! (stop !)) (look ! 39 refl)) (no-more !))))) (λ u.
           use1 W (HeldNext 𝓤 H A W mem run κ₁ q₁ row nodes nodes-fits l₇ ν ε f′ noted u) (id⊢ 𝓤 _) $ await ! tt $ pick ! (λ own. split ! $ move ! (1 ∷ []) $ use1 W (raw (fact 𝓤 (Agreed (row .now) f′ noted nodes own))) (said-hold 𝓤 H A W mem run κ₁ q₁ row nodes nodes-fits l₇ ν ε f′ noted own) $ heard ! (Agreed (row .now) f′ noted nodes own) (λ said-own. split ! $ move ! (1 ∷ []) $
           peeks ! bool (Is bool) (shows 𝓤 H A bool) own (u ∷ []) (λ is. drop ! $ land ! (from ! (stop !)) (init ! 30 refl (is-bool u own is)) $ rewrite ! 30 (λ (v : Val). ‵ (fat fullShare tyBool l₉ 0 v)) (ap only is) refl $
           split ! $ move ! (1 ∷ []) $ split ! $ move ! (0 ∷ 3 ∷ []) $ const-back ! tt ν l₇ f′ $ forget ! 23 refl $ keep ! (3 ∷ 4 ∷ 5 ∷ 6 ∷ 2 ∷ 7 ∷ 8 ∷ 9 ∷ 10 ∷ 11 ∷ 12 ∷ 13 ∷ 14 ∷ 15 ∷ 16 ∷ 17 ∷ 18 ∷ 19 ∷ 20 ∷ 21 ∷ 22 ∷ 23 ∷ 24 ∷ 25 ∷ 26 ∷ 27 ∷ 28 ∷ 29 ∷ 30 ∷ 31 ∷ 32 ∷ 33 ∷ 34 ∷ 0 ∷ 35 ∷ 36 ∷ 37 ∷ 38 ∷ 39 ∷ 40 ∷ 41 ∷ 42 ∷ 43 ∷ 44 ∷ 45 ∷ 46 ∷ 47 ∷ 48 ∷ 49 ∷ []) $
@@ -276,7 +276,7 @@ module _ {M : Type 1} (𝓤 : URA M) (H : Heap 𝓤) (A : Atoms 𝓤) (W : Given
           assigns ! (addr ! (from ! (stop !))) (from ! (stop !)) (init ! 26 refl (tt, tt)) $
           assigns ! (of-opd ! (load ! (from ! (fld ! refl (stop !))) (look-in ! 42 (sub ! 1 refl (whole !))))) (from ! (stop !)) (init ! 24 refl (tt, record { fits = room₁ .0 })) $
           lft-new ! tt (λ ν. move ! (35 ∷ []) $ lends-mut ! tt (named 1) ν l₇ zeros (λ ε. move ! (3 ∷ []) $ use1 W (‵ Src ⊛ ‵ Src) (shr-slice-copy 𝓤 H A W (named 0) κ₀ u8 .twice src (ss ∷ [])) $ split ! $ move ! (1 ∷ 2 ∷ []) $ join ! $ move ! (7 ∷ 3 ∷ []) $ join ! $ use2 W (raw (Noting 𝓤 H A mem run .pre (to-note l₇ ν ε))) (goes-note l₇ ν ε) $
-          calls-at ! (fmOf 𝓤 H (W .laws) 𝓣) (Noting 𝓤 H A mem run) known-note (to-note l₇ ν ε) (and-then ! (load ! (from ! (stop !)) (look ! 46 refl)) (and-then ! (load ! (from ! (stop !)) (look ! 44 refl)) (and-then ! (load ! (from ! (stop !)) (look ! 27 refl)) (and-then ! (load ! (from ! (stop !)) (look ! 25 refl)) (and-then ! (load ! (from ! (stop !)) (look ! 40 refl)) (no-more !)))))) (λ u. 
+          calls-at ! (fmOf 𝓤 H (W .laws) 𝓣) (Noting 𝓤 H A mem run) known-note (to-note l₇ ν ε) (and-then ! (load ! (from ! (stop !)) (look ! 46 refl)) (and-then ! (load ! (from ! (stop !)) (look ! 44 refl)) (and-then ! (load ! (from ! (stop !)) (look ! 27 refl)) (and-then ! (load ! (from ! (stop !)) (look ! 25 refl)) (and-then ! (load ! (from ! (stop !)) (look ! 40 refl)) (no-more !)))))) (λ u.
           use1 W (NotedNext l₇ ν ε u) (id⊢ 𝓤 _) $ await ! tt $ pick ! (λ noted. split ! $ move ! (1 ∷ []) $ use1 W (NoteLast l₇ ν ε noted) (id⊢ 𝓤 _) $ pick ! (λ ws. split ! $ move ! (1 ∷ []) $ heard ! (Said₁ noted (ws .1 .1 .0)) (λ said. fsplit ! $ move ! (1 ∷ []) $ fsplit ! $ move ! (1 ∷ []) $ fsplit ! $ move ! (4 ∷ []) $ split ! $ move ! (1 ∷ []) $
           peeks ! bool (Is bool) (shows 𝓤 H A bool) noted (u ∷ []) (λ is. drop ! $ land ! (from ! (stop !)) (init ! 37 refl (is-bool u noted is)) $ rewrite ! 37 (λ (v : Val). ‵ (fat fullShare tyBool l₈ 0 v)) (ap only is) refl $
           split ! $ move ! (1 ∷ []) $ split ! $ move ! (0 ∷ 8 ∷ 3 ∷ []) $ mut-back ! tt ν l₇ ε (ws .1 .1 .0) $ forget ! 31 refl $ forget ! 29 refl $ keep ! (6 ∷ 7 ∷ 8 ∷ 9 ∷ 2 ∷ 10 ∷ 11 ∷ 12 ∷ 13 ∷ 14 ∷ 15 ∷ 16 ∷ 17 ∷ 18 ∷ 19 ∷ 20 ∷ 21 ∷ 22 ∷ 23 ∷ 24 ∷ 25 ∷ 26 ∷ 27 ∷ 28 ∷ 29 ∷ 30 ∷ 31 ∷ 32 ∷ 33 ∷ 34 ∷ 35 ∷ 36 ∷ 37 ∷ 38 ∷ 0 ∷ 39 ∷ 40 ∷ 41 ∷ 42 ∷ 43 ∷ 44 ∷ 45 ∷ 46 ∷ 47 ∷ 48 ∷ 49 ∷ 50 ∷ 51 ∷ 52 ∷ 53 ∷ []) $
