@@ -1,8 +1,9 @@
 //! `compare SEED COUNT`: the fixed cases and COUNT random ones of the seed, each
 //! answered by the library and by the reference program. Answers and all lent
-//! buffers must be the same. What differs is shown whole; the exit status is 1
-//! where anything does.
+//! buffers must be the same; so it is with extracts, a quarter as many. What
+//! differs is shown whole; the exit status is 1 where anything does.
 
+mod extract;
 mod library;
 
 use std::collections::BTreeMap;
@@ -47,9 +48,12 @@ fn compare(seed: u64, count: u64) -> ExitCode {
     for ((entry, answer), cases) in &tally {
         println!("{entry} {answer}: {cases} cases");
     }
+    let extracts = extract::compare(seed, count / 4);
+    println!("extract: {} calls", extracts.calls);
+    differences += extracts.differences;
     println!(
         "{} cases, {differences} differences",
-        tally.values().sum::<u64>()
+        tally.values().sum::<u64>() + extracts.calls
     );
     ExitCode::from(u8::from(differences > 0))
 }

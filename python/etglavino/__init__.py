@@ -22,6 +22,7 @@ ETGLAVINO_LIB names. A C compiler makes a shared object of it, once.
 
 from ._entries import MAX_CANONICAL, MAX_DEPTH, MAX_NODES, MAX_SOURCE
 from ._entries import Form, Octets, Refusal
+from ._extract import extract
 from ._library import LibraryMissing
 from ._sheet import Node, Sheet, read, replace, same, write
 
@@ -36,6 +37,7 @@ __all__ = [
     "Octets",
     "Refusal",
     "Sheet",
+    "extract",
     "read",
     "replace",
     "same",

@@ -21,12 +21,14 @@
 //! # Ok::<(), etglavino::Refusal>(())
 //! ```
 
+mod extract;
 mod ffi;
 mod form;
 mod records;
 mod refusal;
 mod table;
 
+pub use extract::{extract, extract_own, extract_own_records, extract_records};
 pub use form::Form;
 pub use records::{
     data_records, data_records_part, hint_records, hint_records_part, read_records,
