@@ -4,17 +4,8 @@ use borrow.Author.Needs.{needs}
 use Rattle.extract.proofs.fill.Statement.{statement}
 use Rattle.extract.proofs.fill.Tie as tie
 
-enum-known-answer : tie.Need-enum-known-answer
-enum-known-answer c = search needs
-
 fill-requires : tie.Need-fill-requires
 fill-requires c κs = search (fill-room, arith)
-
-enum-told : tie.Need-enum-told
-enum-told c = search needs
-
-same-length : tie.Need-same-length
-same-length c = search needs
 
 returns : tie.Need-returns
 returns c = search (fill-accepted, arith)
@@ -24,4 +15,11 @@ returns-2 c = search (fill-refused, arith)
 
 pub fill-spec : {M : Type 1} → statement M
 fill-spec =
-    tie.close (tie.spec enum-known-answer fill-requires enum-told same-length returns returns-2)
+    tie.close
+    (tie.spec
+    (λ c. search needs)
+    fill-requires
+    (λ c. search needs)
+    (λ c. search needs)
+    returns
+    returns-2)

@@ -4,20 +4,11 @@ use borrow.Author.Needs.{needs}
 use Rattle.extract.proofs.give.Statement.{statement}
 use Rattle.extract.proofs.give.Tie as tie
 
-slice-aggregate-show : tie.Need-slice-aggregate-show
-slice-aggregate-show c = search needs
-
 show-requires : tie.Need-show-requires
 show-requires c κs = (search (give-sheeted, arith), search needs)
 
-same-length : tie.Need-same-length
-same-length c = search needs
-
 returns : tie.Need-returns
 returns c = search (give-shown, arith)
-
-refused-requires : tie.Need-refused-requires
-refused-requires c κs = search needs
 
 returns-2 : tie.Need-returns-2
 returns-2 c = search (give-7, arith)
@@ -25,4 +16,10 @@ returns-2 c = search (give-7, arith)
 pub give-spec : {M : Type 1} → statement M
 give-spec =
     tie.close
-    (tie.spec slice-aggregate-show show-requires same-length returns refused-requires returns-2)
+    (tie.spec
+    (λ c. search needs)
+    show-requires
+    (λ c. search needs)
+    returns
+    (λ c κs. search needs)
+    returns-2)

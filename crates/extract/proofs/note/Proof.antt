@@ -18,17 +18,11 @@ slice-aggregate-part c = search (front-length, arith)
 note-requires : tie.Need-note-requires
 note-requires c κs = search (front-short, arith)
 
-enum-known-nodes : tie.Need-enum-known-nodes
-enum-known-nodes c = search needs
-
 returns-3 : tie.Need-returns-3
 returns-3 c = search (note-deep, arith)
 
 returns-4 : tie.Need-returns-4
 returns-4 c = search (note-many, arith)
-
-enum-told : tie.Need-enum-told
-enum-told c = search needs
 
 returns-5 : tie.Need-returns-5
 returns-5 c =
@@ -46,9 +40,9 @@ note-spec =
     returns-2
     slice-aggregate-part
     note-requires
-    enum-known-nodes
+    (λ c. search needs)
     returns-3
     returns-4
-    enum-told
+    (λ c. search needs)
     returns-5
     returns-6)

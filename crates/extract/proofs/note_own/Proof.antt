@@ -4,9 +4,6 @@ use borrow.Author.Needs.{needs}
 use Rattle.extract.proofs.note_own.Statement.{statement}
 use Rattle.extract.proofs.note_own.Tie as tie
 
-note-sheet-requires : tie.Need-note-sheet-requires
-note-sheet-requires c κs = search needs
-
 holds-requires : tie.Need-holds-requires
 holds-requires c κs = search (own-room, arith)
 
@@ -17,4 +14,10 @@ returns-2 : tie.Need-returns-2
 returns-2 c = search (own-unnoted, arith)
 
 pub note-own-spec : {M : Type 1} → statement M
-note-own-spec = tie.close (tie.spec note-sheet-requires holds-requires returns returns-2)
+note-own-spec =
+    tie.close
+    (tie.spec
+    (λ c κs. search needs)
+    holds-requires
+    returns
+    returns-2)

@@ -16,15 +16,6 @@ slice-reshare-prefix-text c = search (show-inside, arith)
 slice-aggregate-text : tie.Need-slice-aggregate-text
 slice-aggregate-text c = search (show-text, arith)
 
-read-notes-requires : tie.Need-read-notes-requires
-read-notes-requires c κs = search needs
-
-same-length : tie.Need-same-length
-same-length c = search needs
-
-same-length-2 : tie.Need-same-length-2
-same-length-2 c = search needs
-
 returns : tie.Need-returns
 returns c = search (show-read, arith)
 
@@ -36,7 +27,7 @@ show-spec =
     cut-requires
     slice-reshare-prefix-text
     slice-aggregate-text
-    read-notes-requires
-    same-length
-    same-length-2
+    (λ c κs. search needs)
+    (λ c. search needs)
+    (λ c. search needs)
     returns)

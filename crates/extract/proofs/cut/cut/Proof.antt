@@ -20,20 +20,11 @@ private-requires c κs = search (pass-node, arith)
 row-of-requires : tie.Need-row-of-requires Inv-loop μ-loop
 row-of-requires c κs = search (pass-readable, arith)
 
-cast-copy : tie.Need-cast-copy Inv-loop μ-loop
-cast-copy c = search needs
-
 sub-copy : tie.Need-sub-copy Inv-loop μ-loop
 sub-copy c = search (hop-from, arith)
 
 copy-requires : tie.Need-copy-requires Inv-loop μ-loop
 copy-requires c κs = (search (hop-source, arith), search (hop-room, arith))
-
-cast-from : tie.Need-cast-from Inv-loop μ-loop
-cast-from c = search needs
-
-cast-node : tie.Need-cast-node Inv-loop μ-loop
-cast-node c = search needs
 
 add-node : tie.Need-add-node Inv-loop μ-loop
 add-node c =
@@ -48,16 +39,10 @@ loop-again : tie.Need-loop-again Inv-loop μ-loop
 loop-again c = search (pass-hidden, arith)
 
 add-node-2 : tie.Need-add-node-2 Inv-loop μ-loop
-add-node-2 c = search (pass-few, arith)
-
-loop-less-2 : tie.Need-loop-less-2 Inv-loop μ-loop
-loop-less-2 c = omega arith
+add-node-2 c = omega (arith, pass-few _ _ _ _ _ _ _ _ (c .before .before .before .loop .inv))
 
 loop-again-2 : tie.Need-loop-again-2 Inv-loop μ-loop
 loop-again-2 c = search (pass-shown, arith)
-
-sub-copy-2 : tie.Need-sub-copy-2 Inv-loop μ-loop
-sub-copy-2 c = search needs
 
 copy-requires-2 : tie.Need-copy-requires-2 Inv-loop μ-loop
 copy-requires-2 c κs = (search needs, search (pass-last, arith))
@@ -77,18 +62,18 @@ cut-spec =
     loop-holds
     private-requires
     row-of-requires
-    cast-copy
+    (λ c. search needs)
     sub-copy
     copy-requires
-    cast-from
-    cast-node
+    (λ c. search needs)
+    (λ c. search needs)
     add-node
     loop-less
     loop-again
     add-node-2
-    loop-less-2
+    (λ c. omega arith)
     loop-again-2
-    sub-copy-2
+    (λ c. search needs)
     copy-requires-2
     same-length
     returns)

@@ -13,20 +13,11 @@ returns c = search (tells-string, arith)
 returns-2 : tie.Need-returns-2
 returns-2 c = search (tells-empty, arith)
 
-add-row-of : tie.Need-add-row-of
-add-row-of c = search needs
-
 row-of-requires-2 : tie.Need-row-of-requires-2
 row-of-requires-2 c κs = search (next-readable, arith)
 
 returns-3 : tie.Need-returns-3
 returns-3 c = search (tells-other, arith)
-
-cast-is-word : tie.Need-cast-is-word
-cast-is-word c = search needs
-
-cast-is-word-2 : tie.Need-cast-is-word-2
-cast-is-word-2 c = search needs
 
 is-word-requires : tie.Need-is-word-requires
 is-word-requires c κs = (search (first-ordered, arith), search (first-inside, arith))
@@ -41,10 +32,10 @@ private-spec =
     row-of-requires
     returns
     returns-2
-    add-row-of
+    (λ c. search needs)
     row-of-requires-2
     returns-3
-    cast-is-word
-    cast-is-word-2
+    (λ c. search needs)
+    (λ c. search needs)
     is-word-requires
     returns-4)
