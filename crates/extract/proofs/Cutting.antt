@@ -1,14 +1,13 @@
 -- What is left of a sheet's octets, by its rows, is its extract's canonical form.
 use Prim.Native.Nat.{ℕ, zero, suc, _+_, _-_, _≤_, _<_}
 use native.Mathlib.Omega.{arith}
-use mathlib.Core.Path.{_≡_, refl, sym, ap, ap₂, _∙_, subst}
-use mathlib.Core.Bool.{Bool, true, false}
+use mathlib.Core.Path.{_≡_, refl, sym, ap, ap₂, _∙_}
+use mathlib.Core.Bool.{true, false}
 use mathlib.Core.List.{List, [], _∷_, _++_, append-assoc, append-nil}
-use lib.ListN.{length, take, drop, length-append, length-drop, take-append-drop}
-use lib.Seq.{drop-at, take-at, drop-drop, take-add, drop-length, take-append-add, drop-append-add}
-use lib.Dec.{ltb, eqb}
+use lib.ListN.{length, take, drop, length-append, take-append-drop}
+use lib.Seq.{drop-at, take-at, drop-drop, take-add, drop-length}
 use borrow.Author.Tests.{lt-ltb}
-use Rattle.base.specs.Choice.{pick, both, equal}
+use Rattle.base.specs.Choice.{equal}
 use Rattle.base.proofs.Cases.{by-bool, picked, unpicked}
 use Rattle.model.specs.Table.{Row, rows, rowss, bodyStart, bodyEnd, listRow}
 use Rattle.model.specs.Tree.{Tree, plain, hinted, list, Forest, nil, cons, digits, verbatim, canon, canons, nodes, nodess}
@@ -17,7 +16,7 @@ use Rattle.walk.proofs.Tabled.{rowss-length}
 use Rattle.extracts.specs.Extract.{word, hides, extract, extracts}
 use Rattle.extracts.proofs.Hidden.{hidden-list, shown-list}
 use Rattle.extract.specs.Cut.{part, begins, private, cut}
-use Rattle.extract.proofs.Laid.{Laid, laid-none, laid-one, laid-back, laid-tree, laid-forest, list-long, cons-long}
+use Rattle.extract.proofs.Laid.{Laid, laid-none, laid-one, laid-back, laid-forest, list-long, cons-long}
 
 -- ---- parts of a list
 

@@ -4,20 +4,18 @@ use native.Mathlib.Omega.{arith}
 use mathlib.Core.Path.{_≡_, refl, sym, ap, _∙_, subst}
 use mathlib.Core.Bool.{Bool, true, false}
 use mathlib.Core.Option.{Option, none, some}
-use mathlib.Core.List.{List, [], _∷_, _++_}
-use lib.ListN.{length, take, drop}
-use lib.Seq.{sets, length-sets, length-take-le, take-at}
+use mathlib.Core.List.{List}
+use lib.ListN.{length, take}
+use lib.Seq.{length-sets, length-take-le, take-at}
 use lib.Dec.{ltb, eqb}
-use borrow.Author.Tests.{lt-ltb, le-leb, lt-leb, eq-eqb}
+use borrow.Author.Tests.{lt-ltb, lt-leb, eq-eqb}
 use Rattle.base.specs.Choice.{pick, both, not, isNone, chain, equal}
-use Rattle.base.proofs.Cases.{untrue, differ, picked, none-some, some-same}
+use Rattle.base.proofs.Cases.{none-some, some-same}
 use Rattle.base.proofs.Stores.{sets-all}
 use Rattle.model.specs.Answers.{Outcome, verdict, judged, the, unchanged, fitting, sheetTree, owns, ownTree, reading}
-use Rattle.model.specs.Decode.{decode₁}
-use Rattle.model.specs.Limits.{maxCanonical, maxDepth, maxNodes, maxSource, NotOwn}
+use Rattle.model.specs.Limits.{maxCanonical, maxDepth, maxNodes}
 use Rattle.model.specs.Table.{width, records, tableOf}
-use Rattle.model.specs.Tree.{Tree, plain, hinted, list, canon, nodes, depth}
-use Rattle.walk.specs.Extent.{Measures}
+use Rattle.model.specs.Tree.{Tree, plain, hinted, list, canon, nodes}
 use Rattle.walk.specs.declared.Extent.{Extent}
 use Rattle.walk.specs.declared.Extent.the-variants as extent
 use Rattle.scan.specs.Writes.{Wrote}
@@ -31,7 +29,7 @@ use Rattle.reader.specs.Stored.{Accepting, Puts}
 use Rattle.reader.proofs.Storing.{puts-refused}
 use Rattle.lookup.specs.Noted as lookup
 use Rattle.lookup.proofs.Noting.{noted-whole}
-use Rattle.lookup.proofs.Sheets.{tree-of, none-of, Sheet, sheet-of, sheet-beyond, sheet-long, sheet-none, sheet-deep, sheet-whole, Own, own-of}
+use Rattle.lookup.proofs.Sheets.{tree-of, none-of, Sheet, sheet-of, sheet-beyond, sheet-long, sheet-none, sheet-deep, sheet-whole}
 use Rattle.extracts.specs.Extract.{extract}
 use Rattle.extracts.specs.Extracting.{extractOf, extracting, extractingOwn}
 use Rattle.extracts.proofs.Answered.{own-sheet}

@@ -1,12 +1,12 @@
 -- The rows of a tree as they lie in its octets: one after another, and those of a list's elements inside it.
 use Prim.Native.Nat.{ℕ, zero, suc, _+_, _-_, _≤_, _<_}
 use native.Mathlib.Omega.{arith}
-use mathlib.Core.Path.{_≡_, refl, sym, ap, _∙_, subst}
+use mathlib.Core.Path.{_≡_, refl, sym, subst}
 use mathlib.Core.List.{List, [], _∷_, _++_, append-assoc, append-nil}
-use lib.ListN.{length, take, drop, length-append, length-drop}
+use lib.ListN.{length, drop, length-append, length-drop}
 use lib.Seq.{drop-at, drop-cons}
-use Rattle.model.specs.Table.{Row, rows, rowss, rowOf, plainRow, bodyStart, bodyEnd, listRow}
-use Rattle.model.specs.Tree.{Tree, plain, hinted, list, Forest, nil, cons, digits, verbatim, canon, canons, nodes, nodess}
+use Rattle.model.specs.Table.{Row, rows, rowss, rowOf, plainRow, listRow}
+use Rattle.model.specs.Tree.{Tree, plain, hinted, list, Forest, nil, cons, verbatim, canon, canons, nodes}
 use Rattle.model.proofs.Sizes.{verbatim-length}
 use Rattle.walk.proofs.Tabled.{rows-length, rowss-length}
 

@@ -1,15 +1,15 @@
 -- The pass over a sheet's notes: whether a node is a private list, and what is copied up to it.
-use Prim.Native.Nat.{ℕ, zero, suc, _+_, _-_, _≤_, _<_}
+use Prim.Native.Nat.{ℕ, suc, _+_, _-_, _≤_, _<_}
 use native.Mathlib.Omega.{arith}
 use native.Mathlib.Numerals.{add-one}
 use mathlib.Core.Path.{_≡_, refl, sym, ap, ap₂, _∙_, subst}
 use mathlib.Core.Bool.{Bool, true, false}
-use mathlib.Core.List.{List, [], _∷_, _++_, append-assoc, append-nil}
-use lib.ListN.{length, take, drop, getD, length-append, length-drop, drop-of-length-le}
+use mathlib.Core.List.{List, [], _∷_, _++_, append-assoc}
+use lib.ListN.{length, drop, getD, length-append, length-drop, drop-of-length-le}
 use lib.Seq.{sets, length-sets, length-take-le, take-all, drop-drop}
 use lib.Dec.{ltb, eqb}
 use borrow.Author.Tests.{lt-ltb, le-ltb, eq-eqb, ne-eqb}
-use Rattle.base.specs.Choice.{pick, both, equal}
+use Rattle.base.specs.Choice.{both, equal}
 use Rattle.base.proofs.Cases.{untrue, differ, picked, unpicked}
 use Rattle.base.proofs.Stores.{sets-append}
 use Rattle.model.specs.Limits.{maxSource}
@@ -18,13 +18,13 @@ use Rattle.model.specs.Tree.{Tree, canon, nodes}
 use Rattle.model.proofs.Laws.{canonical-unique}
 use Rattle.walk.proofs.Tabled.{rows-length}
 use Rattle.scan.specs.Writes.{Wrote}
-use Rattle.sheets.specs.Rows.{rowList, RowIs}
+use Rattle.sheets.specs.Rows.{RowIs}
 use Rattle.sheets.specs.Told.{rowAt, Readable, Holds}
 use Rattle.sheets.specs.declared.rows.Row as coded
 use Rattle.sheets.proofs.Telling.{holds-few, holds-row, holds-readable}
 use Rattle.extracts.specs.Extract.{word, extract}
-use Rattle.extract.specs.Cut.{part, begins, private, cut, Sheet, Node, Tells, Cuttable, Cuts}
-use Rattle.extract.proofs.Laid.{Laid, laid-none, laid-whole, laid-drop, Heading, rows-from, node-heads, node-within}
+use Rattle.extract.specs.Cut.{part, begins, private, cut, Node, Tells, Cuttable, Cuts}
+use Rattle.extract.proofs.Laid.{Laid, laid-whole, laid-drop, Heading, rows-from, node-heads, node-within}
 use Rattle.extract.proofs.Cutting.{cut-whole, cut-private, cut-other}
 
 -- ---- a node's row

@@ -6,7 +6,6 @@ use mathlib.Core.List.{List, [], _∷_, _++_}
 use lib.ListN.{length, take, drop}
 use lib.Dec.{ltb, eqb}
 use Rattle.base.specs.Choice.{pick, both, equal}
-use Rattle.model.specs.Limits.{maxSource}
 use Rattle.model.specs.Table.{Row, rows, rowOf}
 use Rattle.model.specs.Tree.{Tree, canon}
 use Rattle.sheets.specs.Told.{Holds}

@@ -6,7 +6,7 @@ use Rattle.model.specs.Answers.{ownTree}
 use Rattle.lookup.specs.Noted.{Owning}
 use Rattle.reader.specs.Stored.{Puts}
 use Rattle.answers.specs.declared.Reading.{Reading}
-use Rattle.extracts.specs.Extracting.{extractOf, extractingOwn}
+use Rattle.extracts.specs.Extracting.{extractingOwn}
 use Rattle.extracts.proofs.Answered.{own-sheet}
 use Rattle.extract.specs.Given.{Judges, Judged, Gives}
 
