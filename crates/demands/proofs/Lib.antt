@@ -10,3 +10,4 @@ pub mod Afresh
 pub mod Records
 pub mod Lent
 pub mod Space
+pub mod Extracts
