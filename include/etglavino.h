@@ -28,7 +28,7 @@
  * Stack that a call takes at most, in octets (x86-64), besides what the C
  * library's memset and memcpy take:
  *   etg_read              84,896
- *   etg_read_records      84,000
+ *   etg_read_records      84,112
  *   etg_write             33,552
  *   etg_replace           84,656
  *   etg_replace_records   84,464
@@ -50,6 +50,10 @@
  *   etg_total                 72
  *   etg_week              33,536
  *   etg_week_records      33,520
+ *   etg_extract          100,720
+ *   etg_extract_own      100,720
+ *   etg_extract_records  100,704
+ *   etg_extract_own_records 100,704
  *
  * Refusals. Every function but those that find a hint or data, or that go on
  * with an addition to a spool, returns one of these numbers. In a refusal the
@@ -326,6 +330,43 @@ uint32_t etg_week_records(const uint8_t *canonical, size_t canonical_room, size_
                           const struct etg_record *records, size_t record_room,
                           size_t nodes, size_t node,
                           size_t *lines, uint32_t *quarters, double *hours, size_t *bad);
+
+/* Gives the extract of a sheet for a foreman: the sheet with every list, at
+ * any depth, whose first element is the unhinted string `private` replaced by
+ * `()`.
+ *
+ * Refusals: 7, 5, 6, where 7 speaks of the sheet, and 5 and 6 of the extract
+ * and the foreman's room. On acceptance `canonical` and `table` are what
+ * reading the extract in form 1 would leave there, and `*new_length` and
+ * `*new_nodes` tell its length and its node count. Sheets that differ only
+ * inside such lists, both still beginning so, leave the same behind and get
+ * the same answer. No octet that is hidden is ever written to what is lent. */
+uint32_t etg_extract(const uint8_t *sheet, size_t sheet_room, size_t length,
+                     uint8_t *canonical, size_t canonical_room,
+                     uint32_t *table, size_t table_room,
+                     size_t *new_length, size_t *new_nodes);
+
+/* etg_extract of a sheet with its own table, which `rows` begins with; 7 also
+ * where the table is not the sheet's own. */
+uint32_t etg_extract_own(const uint8_t *sheet, size_t sheet_room, size_t length,
+                         const uint32_t *rows, size_t rows_room, size_t nodes,
+                         uint8_t *canonical, size_t canonical_room,
+                         uint32_t *table, size_t table_room,
+                         size_t *new_length, size_t *new_nodes);
+
+/* etg_extract with the foreman's table lent as records. */
+uint32_t etg_extract_records(const uint8_t *sheet, size_t sheet_room, size_t length,
+                             uint8_t *canonical, size_t canonical_room,
+                             struct etg_record *records, size_t record_room,
+                             size_t *new_length, size_t *new_nodes);
+
+/* etg_extract_own with both tables lent as records. */
+uint32_t etg_extract_own_records(const uint8_t *sheet, size_t sheet_room, size_t length,
+                                 const struct etg_record *rows, size_t rows_room,
+                                 size_t nodes,
+                                 uint8_t *canonical, size_t canonical_room,
+                                 struct etg_record *records, size_t record_room,
+                                 size_t *new_length, size_t *new_nodes);
 
 #ifdef __cplusplus
 }

@@ -1,9 +1,11 @@
 //! `compare SEED COUNT`: the fixed cases and COUNT random ones of the seed, each
 //! answered by the library and by the reference program. Answers and all lent
-//! buffers must be the same. Spools come after them, as many; then the fixed
-//! sheets of values and hours, and a tenth as many random ones, node by node.
-//! What differs is shown; the exit status is 1 where anything does.
+//! buffers must be the same; so it is with extracts, a quarter as many. Spools
+//! come after them; then the fixed sheets of values and hours, and a tenth as
+//! many random ones, node by node. What differs is shown; the exit status is 1
+//! where anything does.
 
+mod extract;
 mod library;
 mod spool;
 mod typed_sheets;
@@ -51,9 +53,12 @@ fn compare(seed: u64, count: u64) -> ExitCode {
     for ((entry, answer), cases) in &tally {
         println!("{entry} {answer}: {cases} cases");
     }
+    let extracts = extract::compare(seed, count / 4);
+    println!("extract: {} calls", extracts.calls);
+    differences += extracts.differences;
     println!(
         "{} cases, {differences} differences",
-        tally.values().sum::<u64>()
+        tally.values().sum::<u64>() + extracts.calls
     );
     differences += spool::compare(seed, count);
     let typed = values::compare(seed, count.div_ceil(10));

@@ -31,6 +31,7 @@ ETGLAVINO_LIB names. A C compiler makes a shared object of it, once.
 
 from ._entries import MAX_CANONICAL, MAX_DEPTH, MAX_NODES, MAX_SOURCE
 from ._entries import Form, Octets, Refusal
+from ._extract import extract
 from ._library import LibraryMissing
 from ._sheet import Node, Sheet, read, replace, same, write
 from ._spool import Adding, Opened, spool_add, spool_open, spool_sheets, spool_shown
@@ -55,6 +56,7 @@ __all__ = [
     "Sheet",
     "SpoolFile",
     "SpoolInUse",
+    "extract",
     "read",
     "replace",
     "same",

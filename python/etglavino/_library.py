@@ -83,6 +83,8 @@ def _declare(library: ctypes.CDLL) -> None:
         "etg_same": [*sheet, count, *sheet, count, *sheet, numbers],
         "etg_hint": [*sheet, count, *table, count, count, out, out],
         "etg_data": [*sheet, count, *table, count, count, out, out],
+        "etg_extract": [*sheet, count, *sheet, *table, out, out],
+        "etg_extract_own": [*sheet, count, *table, count, *sheet, *table, out, out],
     }
     for name, arguments in functions.items():
         function = getattr(library, name)

@@ -7,7 +7,7 @@ use crate::limits::*;
 use crate::tree::{Layout, Record, Tree, KIND_HINTED};
 use crate::{advanced, basic, canonical, output};
 
-/// The answer of [`read`] and [`replace`].
+/// The answer of [`read`] and [`replace`], and of an [extract](mod@crate::extract).
 #[derive(Clone, Copy, Debug, PartialEq, Eq)]
 pub enum Reading {
     /// The canonical form's length and its number of nodes.
@@ -199,7 +199,7 @@ pub(crate) fn tree_of_text(form: u32, source: &[u8]) -> Result<Tree, u32> {
 }
 
 /// Rows 4 to 6: the layout of a tree that fits the limits and the room lent.
-fn placed(tree: &Tree, room: usize, records: usize) -> Result<Layout, u32> {
+pub(crate) fn placed(tree: &Tree, room: usize, records: usize) -> Result<Layout, u32> {
     if tree.depth() > MAX_DEPTH {
         return Err(TOO_DEEP);
     }
@@ -241,6 +241,16 @@ pub(crate) fn tree_of_pair(
     Ok((tree, layout))
 }
 
+/// The tree of a canonical form with its own table.
+pub(crate) fn own_tree(
+    canonical: &[u8],
+    length: usize,
+    table: &[u32],
+    nodes: usize,
+) -> Result<Tree, u32> {
+    tree_of_pair(canonical, length, table, nodes).map(|(tree, _)| tree)
+}
+
 /// The record of a node, if canonical form and table are good and it exists.
 fn record_of(
     canonical: &[u8],
@@ -254,7 +264,7 @@ fn record_of(
 }
 
 /// Writes a layout that was found to fit, and nothing past it.
-fn store(layout: &Layout, canonical: &mut [u8], table: &mut [u32]) -> Reading {
+pub(crate) fn store(layout: &Layout, canonical: &mut [u8], table: &mut [u32]) -> Reading {
     let numbers = layout.records.as_flattened();
     canonical[..layout.octets.len()].copy_from_slice(&layout.octets);
     table[..numbers.len()].copy_from_slice(numbers);

@@ -21,6 +21,7 @@
 //! # Ok::<(), etglavino::Refusal>(())
 //! ```
 
+mod extract;
 mod ffi;
 mod ffi_value;
 mod form;
@@ -32,6 +33,7 @@ mod spool_file;
 mod table;
 mod value;
 
+pub use extract::{extract, extract_own, extract_own_records, extract_records};
 pub use form::Form;
 pub use records::{
     data_records, data_records_part, hint_records, hint_records_part, read_records,

@@ -478,6 +478,89 @@ fn comparing() {
     }
 }
 
+/// The extract of each tree, which hides nothing, and of lists that are hidden.
+fn extracting<T: Table>(
+    extract: impl Fn(&Sheet<T>, usize, &mut [u8], &mut [T]) -> Result<Extent, Refusal> + Sync,
+) {
+    for tree in TREES {
+        let (sheet, octets) = (Sheet::<T>::of(&tree.canonical()), tree.canonical());
+        let mut lent = Sheet::<T>::empty();
+        let (canonical, table) = (&mut lent.canonical, &mut lent.table);
+        let case = case("extract", 1, &octets);
+        let answer = tight(&case, || extract(&sheet, octets.len(), canonical, table));
+        assert_eq!(answer, Ok(tree.extent()), "{case}");
+        assert!(lent.canonical[..octets.len()] == octets, "{case}");
+        let (room, count) = (octets.len() - 1, tree.extent().nodes * T::WIDTH);
+        for (room, count, refusal) in [
+            (room, count, Refusal::Size),
+            (room, count - 1, Refusal::Nodes),
+        ] {
+            let (canonical, table) = (&mut lent.canonical[..room], &mut lent.table[..count]);
+            let answer = tight(&case, || extract(&sheet, octets.len(), canonical, table));
+            assert_eq!(answer, Err(refusal), "{case}");
+        }
+    }
+    let hidden = format!("({})", "(7:private)".repeat(1_489)).into_bytes();
+    let sheet = Sheet::<T>::of(&hidden);
+    let mut lent = Sheet::<T>::empty();
+    let (canonical, table) = (&mut lent.canonical, &mut lent.table);
+    let answer = tight("hidden", || extract(&sheet, hidden.len(), canonical, table));
+    assert_eq!(answer.map(|extent| extent.nodes), Ok(1_490));
+    for octets in not_sheets() {
+        let mut bad = Sheet::<T>::of(b"()");
+        bad.canonical[..].copy_from_slice(&[OCTET; MAX_CANONICAL]);
+        let room = octets.len().min(MAX_CANONICAL);
+        bad.canonical[..room].copy_from_slice(&octets[..room]);
+        let (canonical, table) = (&mut lent.canonical, &mut lent.table);
+        let answer = tight("bad", || extract(&bad, octets.len(), canonical, table));
+        assert_eq!(answer, Err(Refusal::NotOwn));
+    }
+}
+
+#[test]
+fn etg_extract() {
+    alone("etg_extract", || {
+        extracting::<u32>(|sheet, length, canonical, table| {
+            etglavino::extract(&sheet.canonical, length, canonical, table)
+        })
+    });
+}
+
+#[test]
+fn etg_extract_own() {
+    alone("etg_extract_own", || {
+        extracting::<u32>(|sheet, length, canonical, table| {
+            let extent = Extent {
+                length,
+                nodes: sheet.extent.nodes,
+            };
+            etglavino::extract_own(&sheet.canonical, &sheet.table, extent, canonical, table)
+        })
+    });
+}
+
+#[test]
+fn etg_extract_records() {
+    alone("etg_extract_records", || {
+        extracting::<Record>(|sheet, length, canonical, table| {
+            etglavino::extract_records(&sheet.canonical, length, canonical, table)
+        })
+    });
+}
+
+#[test]
+fn etg_extract_own_records() {
+    alone("etg_extract_own_records", || {
+        extracting::<Record>(|sheet, length, canonical, table| {
+            let extent = Extent {
+                length,
+                nodes: sheet.extent.nodes,
+            };
+            etglavino::extract_own_records(&sheet.canonical, &sheet.table, extent, canonical, table)
+        })
+    });
+}
+
 #[test]
 fn etg_read() {
     alone("etg_read", || reading(etglavino::read_form));

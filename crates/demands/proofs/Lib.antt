@@ -14,3 +14,4 @@ pub mod Stray
 pub mod Escapes
 pub mod Typed
 pub mod Lined
+pub mod Extracts

@@ -18,7 +18,7 @@ over zero e = let z : _≡_ {A = ℕ} 0 1 = cc in absurd (omega arith)
 over (suc n) e = omega arith
 
 module _ (f : Refusal) where
-  refusing : (c t : List ℕ) (o : Outcome) → o .accepted ≡ eqb (o .number) 0 → outcome (read.Refused f) c t ≡ o → 0 < f .number
+  pub refusing : (c t : List ℕ) (o : Outcome) → o .accepted ≡ eqb (o .number) 0 → outcome (read.Refused f) c t ≡ o → 0 < f .number
   unfolding outcome
   refusing c t o n e = over (f .number) (ap (λ (o : Outcome). o .accepted) e ∙ n ∙ sym (ap (λ (o : Outcome). eqb (o .number) 0) e))
 

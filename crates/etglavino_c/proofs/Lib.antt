@@ -5,3 +5,4 @@ pub mod PlaceWalk
 pub mod ReadingHanding
 pub mod Spooled
 pub mod ValueHanded
+pub mod ExtractHanded

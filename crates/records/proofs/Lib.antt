@@ -13,3 +13,4 @@ pub mod Retelling
 pub mod Holding
 pub mod SheetNoting
 pub mod Correcting
+pub mod Judging

@@ -1,5 +1,6 @@
 // The node table as a lent slice of records. Every entry goes by the notes of a sheet, in local space. The functions that take
 // records are few and thin.
+mod foremen; // foremen.rt: extracts
 mod told; // told.rt: the record that a note tells
 
 ghost use mathlib.Core.Path.{_≡_};
@@ -13,6 +14,8 @@ ghost use Rattle.records.specs.Places.{Inside};
 ghost use Rattle.records.specs.Told.{countOf, touched, told, agreed, looked, Tells, Comparable};
 use answers::Place;
 use answers::Reading;
+pub use foremen::extract;
+pub use foremen::extract_own;
 
 // A node's record: its eight numbers, in document 01's order.
 #[repr(C)]

@@ -1,0 +1,253 @@
+-- An extract given: a sheet judged and noted, what is shown of it read, and the table filled.
+use Prim.Native.Nat.{ℕ, _*_, _/_, _≤_, _<_}
+use native.Mathlib.Omega.{arith}
+use mathlib.Core.Path.{_≡_, refl, sym, ap, _∙_, subst}
+use mathlib.Core.Bool.{Bool, true, false}
+use mathlib.Core.Option.{Option, none, some}
+use mathlib.Core.List.{List}
+use lib.ListN.{length, take}
+use lib.Seq.{length-sets, length-take-le, take-at}
+use lib.Dec.{ltb, eqb}
+use borrow.Author.Tests.{lt-ltb, lt-leb, eq-eqb}
+use Rattle.base.specs.Choice.{pick, both, not, isNone, chain, equal}
+use Rattle.base.proofs.Cases.{none-some, some-same}
+use Rattle.base.proofs.Stores.{sets-all}
+use Rattle.model.specs.Answers.{Outcome, verdict, judged, the, unchanged, fitting, sheetTree, owns, ownTree, reading}
+use Rattle.model.specs.Limits.{maxCanonical, maxDepth, maxNodes}
+use Rattle.model.specs.Table.{width, records, tableOf}
+use Rattle.model.specs.Tree.{Tree, plain, hinted, list, canon, nodes}
+use Rattle.walk.specs.declared.Extent.{Extent}
+use Rattle.walk.specs.declared.Extent.the-variants as extent
+use Rattle.scan.specs.Writes.{Wrote}
+use Rattle.sheets.specs.Notes.{Noted}
+use Rattle.sheets.specs.Told.{Holds, Fillable, Filled, Compared}
+use Rattle.answers.specs.Cases.{outcome, Refuses}
+use Rattle.answers.specs.declared.Refusal.{Refusal}
+use Rattle.answers.specs.declared.Reading.{Reading}
+use Rattle.answers.specs.declared.Reading.the-variants as reading
+use Rattle.reader.specs.Stored.{Accepting, Puts}
+use Rattle.reader.proofs.Storing.{puts-refused}
+use Rattle.lookup.specs.Noted as lookup
+use Rattle.lookup.proofs.Noting.{noted-whole}
+use Rattle.lookup.proofs.Sheets.{tree-of, none-of, Sheet, sheet-of, sheet-beyond, sheet-long, sheet-none, sheet-deep, sheet-whole}
+use Rattle.extracts.specs.Extract.{extract}
+use Rattle.extracts.specs.Extracting.{extractOf, extracting, extractingOwn}
+use Rattle.extracts.proofs.Answered.{own-sheet}
+use Rattle.extracts.proofs.Sizes.{never-longer}
+use Rattle.extract.specs.Cut as cut
+use Rattle.extract.specs.Given.{Judges, Judged, Gives, Sheeted, Shows, Tellable, Tells}
+
+-- ---- the table
+
+module _ (notes : List ℕ) (r : Reading) (len count : ℕ) (e : r ≡ reading.Accepted len count) where
+  accepting : (answer : List ℕ → Outcome) (canonical : List ℕ) (n : ℕ) → Puts answer canonical n notes r → Accepting answer canonical n notes len count
+  unfolding Puts
+  accepting answer canonical n p = subst (Puts answer canonical n notes) e p
+
+  pub fill-room : (numbers : ℕ) → Tellable notes numbers r → Fillable notes count numbers
+  fill-room numbers g =
+      let a = accepting (g .answer) (g .canonical) (numbers / width) (g .puts) in
+      record { tree = a .tree; held = a .held; fits = omega (arith, a .recorded) }
+
+  pub fill-accepted : (table table′ : List ℕ) → Filled notes count table table′ → Tells notes r table table′
+  fill-accepted table table′ f =
+      record {
+        is = λ answer canonical p.
+            let a = accepting answer canonical (length table / width) p in
+            ap (λ (x : Reading). outcome x canonical table′) e ∙ ap (outcome (reading.Accepted len count) canonical) (f .fills (a .tree) (a .held)) ∙ a .is table refl;
+      }
+
+pub fill-refused : (notes : List ℕ) (r : Reading) (f : Refusal) → r ≡ reading.Refused f → (table : List ℕ) → Tells notes r table table
+unfolding Puts
+fill-refused notes r f e table =
+    record {
+      is = λ answer canonical p.
+          let g : (t : List ℕ) → records t ≡ length table / width → outcome (reading.Refused f) canonical t ≡ answer t = subst (Puts answer canonical (length table / width) notes) e p in
+          ap (λ (x : Reading). outcome x canonical table) e ∙ g table refl;
+    }
+
+-- ---- a sheet noted
+
+module _ (c : List ℕ) (n : ℕ) (notes : List ℕ) where
+  unsheeted : false ≡ not (isNone (sheetTree c n)) → Judges (sheetTree c n) c n notes 0 (ltb 0 0)
+  unsheeted e = record { tells = e; sheeted = λ t f. f; held = λ t f. none-some (sym (none-of (sheetTree c n) e) ∙ f) }
+
+  pub note-beyond : length c < n → Judges (sheetTree c n) c n notes 0 (ltb 0 0)
+  note-beyond h = unsheeted (sheet-beyond c n h)
+
+  pub note-long : maxCanonical < n → Judges (sheetTree c n) c n notes 0 (ltb 0 0)
+  note-long h = unsheeted (sheet-long c n h)
+
+counted : (t : Tree) → 0 < nodes t
+unfolding nodes
+counted (plain d) = omega arith
+counted (hinted h d) = omega arith
+counted (list f) = omega arith
+
+module _ (c : List ℕ) (n : ℕ) (before notes : List ℕ) (r : Extent) (v : Noted (take n c) before notes r) (lent : n ≤ length c) where
+  pub note-none : r ≡ extent.Refused → Judges (sheetTree c n) c n notes 0 (ltb 0 0)
+  note-none e = unsheeted c n notes (sheet-none c n lent r (v .measures) e)
+
+  module _ (len count deep : ℕ) (e : r ≡ extent.Whole len count deep) where
+    pub note-deep : maxDepth < deep → Judges (sheetTree c n) c n notes 0 (ltb 0 0)
+    note-deep h = unsheeted c n notes (sheet-deep c n lent r (v .measures) len count deep e h)
+
+    module _ (short : n ≤ maxCanonical) (shallow : deep ≤ maxDepth) where
+      pub note-many : maxNodes < count → Judges (sheetTree c n) c n notes 0 (ltb 0 0)
+      note-many h = unsheeted c n notes (sym (lt-leb count maxNodes h) ∙ sheet-whole c n lent r (v .measures) len count deep e shallow short)
+
+      pub note-whole : count ≤ maxNodes → maxNodes ≤ length before → Judges (sheetTree c n) c n notes count (ltb 0 count)
+      unfolding lookup.Sheeted isNone
+      note-whole few room =
+          let s : lookup.Sheet c n count count notes = noted-whole c n count count before notes r v lent len count deep e short few (omega arith) refl shallow (record { enough = omega arith }) in
+          record {
+            tells = lt-ltb 0 count (omega (arith, counted (s .tree), s .held .counted)) ∙ sym (ap (λ (o : Option Tree). not (isNone o)) (s .is));
+            sheeted = λ t f. f;
+            held = λ t f. subst (Holds notes count) (some-same (λ (u : Tree). s .tree ≡ u) (sym (s .is) ∙ f) refl) (s .held);
+          }
+
+-- ---- with its table
+
+module _ (c : List ℕ) (n : ℕ) (table : List ℕ) (m : ℕ) (notes : List ℕ) where
+  abbrev own : Option Tree
+  own = ownTree c n table m
+
+  pub own-unnoted : (b : Bool) → lookup.Sheeted c n m (length table / width) notes b → b ≡ false → Judges (ownTree c n table m) c n notes m false
+  unfolding lookup.Sheeted isNone
+  own-unnoted b f y =
+      let f : lookup.Sheeted c n m (length table / width) notes false = subst (lookup.Sheeted c n m (length table / width) notes) y f in
+      let e : own ≡ none = f table refl in
+      record { tells = sym (ap (λ (o : Option Tree). not (isNone o)) e); sheeted = λ t g. own-sheet c n table m t g; held = λ t g. none-some (sym e ∙ g) }
+
+  module _ (b : Bool) (s : lookup.Sheeted c n m (length table / width) notes b) (y : b ≡ true) where
+    noted : lookup.Sheet c n m (length table / width) notes
+    unfolding lookup.Sheeted
+    noted = subst (lookup.Sheeted c n m (length table / width) notes) y s
+
+    pub own-room : Fillable notes m (length table)
+    own-room = record { tree = noted .tree; held = noted .held; fits = omega (arith, noted .lent) }
+
+    owns-is : own ≡ pick (both (eqb m (nodes (noted .tree))) (equal (take (width * m) table) (tableOf (noted .tree)))) (some (noted .tree)) none
+    unfolding ownTree chain owns
+    owns-is = ap (λ (o : Option Tree). chain o (owns table m)) (noted .is)
+
+    pub own-noted : (r : Bool) → Compared notes m table r → Judges (ownTree c n table m) c n notes m r
+    unfolding isNone
+    own-noted r d =
+        record {
+          tells = d .tells (noted .tree) (noted .held)
+              ∙ sym (ap (λ (o : Option Tree). not (isNone o)) (owns-is ∙ ap (λ (b : Bool). pick (both b (equal (take (width * m) table) (tableOf (noted .tree)))) (some (noted .tree)) none) (eq-eqb _ _ (noted .held .counted)))
+              ∙ told (equal (take (width * m) table) (tableOf (noted .tree))));
+          sheeted = λ t g. own-sheet c n table m t g;
+          held = λ t g. subst (Holds notes m) (some-same (λ (u : Tree). noted .tree ≡ u) (sym (noted .is) ∙ own-sheet c n table m t g) refl) (noted .held);
+        }
+      where
+        told : (b : Bool) → not (isNone (pick b (some (noted .tree)) none)) ≡ b
+        told true = refl
+        told false = refl
+
+-- ---- what is shown, read
+
+puts-as : (f h : List ℕ → Outcome) (canonical : List ℕ) (n : ℕ) (notes : List ℕ) → ((table : List ℕ) → f table ≡ h table) → (r : Reading) → Puts f canonical n notes r → Puts h canonical n notes r
+unfolding Puts
+puts-as f h canonical n notes e (reading.Accepted len count) p =
+    record { tree = p .tree; held = p .held; recorded = p .recorded; few = p .few; is = λ table z. p .is table z ∙ e table }
+puts-as f h canonical n notes e (reading.Refused x) p = λ table z. p table z ∙ e table
+
+pub show-part : (sheet : List ℕ) (len : ℕ) (notes : List ℕ) (n : ℕ) → Sheeted sheet len notes n → len ≡ length (take len sheet)
+show-part sheet len notes n s = sym (length-take-le len sheet (sheet-of sheet len (s .tree) (s .is) .lent))
+
+module _ (sheet : List ℕ) (len : ℕ) (notes : List ℕ) (n : ℕ) (scratch : List ℕ) (g : Sheeted sheet len notes n × (maxCanonical ≤ length scratch)) where
+  abbrev tree : Tree
+  tree = g .0 .tree
+
+  sheet-is : Sheet sheet len tree
+  sheet-is = sheet-of sheet len tree (g .0 .is)
+
+  pub show-cuttable : cut.Cuttable (take len sheet) notes n (length scratch)
+  show-cuttable =
+      record {
+        sheet = record { tree = tree; is = sheet-is .is; held = g .0 .held };
+        fits = omega (arith, length-take-le len sheet (sheet-is .lent), sheet-is .size, sheet-is .fitting .long, g .1);
+      }
+
+  module _ (scratch′ : List ℕ) (m : ℕ) (w : cut.Cuts (take len sheet) notes n scratch scratch′ m) where
+    wrote : Wrote (canon (extract tree)) 0 scratch scratch′ m
+    wrote = w .wrote tree (sheet-is .is) (g .0 .held)
+
+    shown-fits : length (canon (extract tree)) ≤ length scratch
+    shown-fits = omega (arith, never-longer tree, sheet-is .fitting .long, g .1)
+
+    pub show-inside : m ≤ length scratch′
+    show-inside = omega (arith, wrote .place, shown-fits, ap length (wrote .same), length-sets scratch 0 (canon (extract tree)))
+
+    pub show-text : m ≡ length (take m scratch′)
+    show-text = sym (length-take-le m scratch′ show-inside)
+
+    text-is : take m scratch′ ≡ canon (extract tree)
+    text-is =
+        let z : m ≡ length (canon (extract tree)) = omega (arith, wrote .place) in
+        ap (take m) (wrote .same ∙ sets-all scratch (canon (extract tree)) shown-fits) ∙ take-at (canon (extract tree)) _ m (sym z)
+
+    shown-answer : (canonical table : List ℕ) → reading 1 (take m scratch′) canonical table ≡ extractOf (some tree) canonical table
+    unfolding extractOf isNone the judged verdict
+    shown-answer canonical table = ap (λ (x : List ℕ). reading 1 x canonical table) text-is
+
+    pub show-read : (canonical canonical′ : List ℕ) (k : ℕ) (notes′ : List ℕ) (r : Reading) → Puts (reading 1 (take m scratch′) canonical) canonical′ k notes′ r → Shows sheet len notes n canonical canonical′ k notes′ r
+    show-read canonical canonical′ k notes′ r p =
+        record {
+          is = λ t e h.
+              subst (λ (u : Tree). Puts (extractOf (some u) canonical) canonical′ k notes′ r) (some-same (λ (u : Tree). tree ≡ u) (sym (g .0 .is) ∙ e) refl)
+              (puts-as _ _ canonical′ k notes′ (shown-answer canonical) r p);
+        }
+
+-- ---- where there is a sheet
+
+module _ (sheet : List ℕ) (len : ℕ) (before : List ℕ) (n : ℕ) (own : Bool) (g : Judged sheet len before n own) where
+  pub give-sheeted : own ≡ true → Sheeted sheet len before n
+  give-sheeted y = tree-of (g .found) (sym y ∙ g .judges .tells) (λ t e. record { tree = t; is = g .judges .sheeted t e; held = g .judges .held t e })
+
+module _ (sheet : List ℕ) (len : ℕ) (before : List ℕ) (n : ℕ) (own : Bool) (canonical : List ℕ) (k : ℕ) where
+  pub give-shown : own ≡ true → (canonical′ notes : List ℕ) (r : Reading) → Shows sheet len before n canonical canonical′ k notes r → Gives sheet len before n own canonical canonical′ k notes r
+  give-shown y canonical′ notes r s =
+      record {
+        is = λ o j.
+            tree-of o (sym y ∙ j .tells)
+            (λ t e. subst (λ (x : Option Tree). Puts (extractOf x canonical) canonical′ k notes r) (sym e) (s .is t (j .sheeted t e) (j .held t e)));
+      }
+
+  refused-7 : (table : List ℕ) → unchanged 7 canonical table ≡ extractOf none canonical table
+  unfolding extractOf isNone the judged verdict
+  refused-7 table = refl
+
+  pub give-7 : own ≡ false → (notes : List ℕ) (r : Reading) → Refuses 7 r → Gives sheet len before n own canonical canonical k notes r
+  give-7 y notes r f =
+      record {
+        is = λ o j.
+            let e : o ≡ none = none-of o (sym y ∙ j .tells) in
+            subst (λ (x : Option Tree). Puts (extractOf x canonical) canonical k notes r) (sym e)
+            (puts-refused (extractOf none canonical) canonical notes k 7 (omega arith) r f (λ table z. f .is canonical table ∙ refused-7 table));
+      }
+
+-- ---- the entries
+
+pub notes-given : (sheet : List ℕ) (len : ℕ) (before : List ℕ) (n : ℕ) (canonical canonical′ : List ℕ) (k : ℕ) (notes : List ℕ) (r : Reading)
+    → Judges (sheetTree sheet len) sheet len before n (ltb 0 n) → Gives sheet len before n (ltb 0 n) canonical canonical′ k notes r → Puts (extracting sheet len canonical) canonical′ k notes r
+unfolding extracting
+notes-given sheet len before n canonical canonical′ k notes r j g = puts-as _ _ canonical′ k notes (λ table. refl) r (g .is (sheetTree sheet len) j)
+
+pub extract-done : (sheet : List ℕ) (len : ℕ) (canonical canonical′ notes table table′ : List ℕ) (r : Reading)
+    → Puts (extracting sheet len canonical) canonical′ (length table / width) notes r → Tells notes r table table′ → outcome r canonical′ table′ ≡ extracting sheet len canonical table
+extract-done sheet len canonical canonical′ notes table table′ r p f = f .is (extracting sheet len canonical) canonical′ p
+
+module _ (sheet : List ℕ) (len : ℕ) (rows : List ℕ) (m : ℕ) (before : List ℕ) (own : Bool) (j : Judges (ownTree sheet len rows m) sheet len before m own) (canonical canonical′ notes table : List ℕ) (r : Reading)
+    (g : Gives sheet len before m own canonical canonical′ (length table / width) notes r) where
+  puts : Puts (extractOf (ownTree sheet len rows m) canonical) canonical′ (length table / width) notes r
+  puts = g .is (ownTree sheet len rows m) j
+
+  pub own-tells : Tellable notes (length table) r
+  own-tells = record { answer = extractOf (ownTree sheet len rows m) canonical; canonical = canonical′; puts = puts }
+
+  pub own-done : (table′ : List ℕ) → Tells notes r table table′ → outcome r canonical′ table′ ≡ extractingOwn sheet len rows m canonical table
+  unfolding extractingOwn
+  own-done table′ f = f .is (extractOf (ownTree sheet len rows m) canonical) canonical′ puts
