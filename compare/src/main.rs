@@ -1,8 +1,9 @@
 //! `compare SEED COUNT`: the fixed cases and COUNT random ones of the seed, each
 //! answered by the library and by the reference program. Answers and all lent
-//! buffers must be the same. What differs is shown whole; the exit status is 1
-//! where anything does. Then the fixed sheets of values and hours, and a tenth
-//! as many random ones, node by node.
+//! buffers must be the same. Then the fixed sheets of values and hours, and a
+//! tenth as many random ones, node by node. Of what differs the first five of
+//! either part are shown whole, the rest counted; the exit status is 1 where
+//! anything does.
 
 mod library;
 mod values;
