@@ -1,5 +1,7 @@
 //! Values with a type, and hours.
 
+mod ffi;
+
 use std::fmt;
 
 use crate::{Extent, Record, Refusal};
@@ -70,161 +72,6 @@ impl fmt::Display for NoWeek {
 
 impl std::error::Error for NoWeek {}
 
-/// What `etg_value` is, over a table of `T`.
-type Values<T> = unsafe extern "C" fn(
-    *const u8,
-    usize,
-    usize,
-    *const T,
-    usize,
-    usize,
-    usize,
-    *mut u32,
-    *mut f32,
-    *mut f64,
-    *mut i64,
-    *mut usize,
-    *mut usize,
-) -> u32;
-
-/// What `etg_line` is.
-type Lines<T> = unsafe extern "C" fn(
-    *const u8,
-    usize,
-    usize,
-    *const T,
-    usize,
-    usize,
-    usize,
-    *mut f64,
-    *mut f64,
-    *mut f64,
-    *mut u32,
-    *mut f64,
-) -> u32;
-
-/// What `etg_week` is.
-type Weeks<T> = unsafe extern "C" fn(
-    *const u8,
-    usize,
-    usize,
-    *const T,
-    usize,
-    usize,
-    usize,
-    *mut usize,
-    *mut u32,
-    *mut f64,
-    *mut usize,
-) -> u32;
-
-extern "C" {
-    fn etg_value(
-        canonical: *const u8,
-        room: usize,
-        length: usize,
-        table: *const u32,
-        table_room: usize,
-        nodes: usize,
-        node: usize,
-        kind: *mut u32,
-        single: *mut f32,
-        double: *mut f64,
-        whole: *mut i64,
-        start: *mut usize,
-        end: *mut usize,
-    ) -> u32;
-    fn etg_value_records(
-        canonical: *const u8,
-        room: usize,
-        length: usize,
-        table: *const Record,
-        table_room: usize,
-        nodes: usize,
-        node: usize,
-        kind: *mut u32,
-        single: *mut f32,
-        double: *mut f64,
-        whole: *mut i64,
-        start: *mut usize,
-        end: *mut usize,
-    ) -> u32;
-    fn etg_put_value(
-        kind: u32,
-        single: f32,
-        double: f64,
-        whole: i64,
-        start: usize,
-        end: usize,
-        octets: *const u8,
-        octets_len: usize,
-        out: *mut u8,
-        out_room: usize,
-        written: *mut usize,
-    ) -> u32;
-    fn etg_line(
-        canonical: *const u8,
-        room: usize,
-        length: usize,
-        table: *const u32,
-        table_room: usize,
-        nodes: usize,
-        node: usize,
-        ordinary: *mut f64,
-        night: *mut f64,
-        holiday: *mut f64,
-        quarters: *mut u32,
-        hours: *mut f64,
-    ) -> u32;
-    fn etg_line_records(
-        canonical: *const u8,
-        room: usize,
-        length: usize,
-        table: *const Record,
-        table_room: usize,
-        nodes: usize,
-        node: usize,
-        ordinary: *mut f64,
-        night: *mut f64,
-        holiday: *mut f64,
-        quarters: *mut u32,
-        hours: *mut f64,
-    ) -> u32;
-    fn etg_total(
-        ordinary: f64,
-        night: f64,
-        holiday: f64,
-        quarters: *mut u32,
-        hours: *mut f64,
-    ) -> u32;
-    fn etg_week(
-        canonical: *const u8,
-        room: usize,
-        length: usize,
-        table: *const u32,
-        table_room: usize,
-        nodes: usize,
-        node: usize,
-        lines: *mut usize,
-        quarters: *mut u32,
-        hours: *mut f64,
-        bad: *mut usize,
-    ) -> u32;
-    fn etg_week_records(
-        canonical: *const u8,
-        room: usize,
-        length: usize,
-        table: *const Record,
-        table_room: usize,
-        nodes: usize,
-        node: usize,
-        lines: *mut usize,
-        quarters: *mut u32,
-        hours: *mut f64,
-        bad: *mut usize,
-    ) -> u32;
-}
-
 /// A node's value.
 ///
 /// ```
@@ -245,7 +92,7 @@ pub fn value(
     sheet: Extent,
     node: usize,
 ) -> Result<Value, Refusal> {
-    value_by(etg_value, canonical, table, sheet, node)
+    value_by(ffi::etg_value, canonical, table, sheet, node)
 }
 
 /// [`value`] with the table lent as records.
@@ -259,11 +106,11 @@ pub fn value_records(
     sheet: Extent,
     node: usize,
 ) -> Result<Value, Refusal> {
-    value_by(etg_value_records, canonical, records, sheet, node)
+    value_by(ffi::etg_value_records, canonical, records, sheet, node)
 }
 
 fn value_by<T>(
-    call: Values<T>,
+    call: ffi::Values<T>,
     canonical: &[u8],
     table: &[T],
     sheet: Extent,
@@ -314,7 +161,7 @@ pub fn put_value(value: Value, octets: &[u8], out: &mut [u8]) -> Result<usize, R
     let mut written = 0;
     // SAFETY: as in `value_by`.
     let number = unsafe {
-        etg_put_value(
+        ffi::etg_put_value(
             kind,
             single,
             double,
@@ -342,7 +189,7 @@ pub fn line(
     sheet: Extent,
     node: usize,
 ) -> Result<(Line, Total), Refusal> {
-    line_by(etg_line, canonical, table, sheet, node)
+    line_by(ffi::etg_line, canonical, table, sheet, node)
 }
 
 /// [`line`] with the table lent as records.
@@ -356,11 +203,11 @@ pub fn line_records(
     sheet: Extent,
     node: usize,
 ) -> Result<(Line, Total), Refusal> {
-    line_by(etg_line_records, canonical, records, sheet, node)
+    line_by(ffi::etg_line_records, canonical, records, sheet, node)
 }
 
 fn line_by<T>(
-    call: Lines<T>,
+    call: ffi::Lines<T>,
     canonical: &[u8],
     table: &[T],
     sheet: Extent,
@@ -406,7 +253,7 @@ pub fn total(line: Line) -> Result<Total, Refusal> {
     let mut total = Total::default();
     // SAFETY: both pointers are to a local.
     let number = unsafe {
-        etg_total(
+        ffi::etg_total(
             line.ordinary,
             line.night,
             line.holiday,
@@ -423,7 +270,7 @@ pub fn total(line: Line) -> Result<Total, Refusal> {
 ///
 /// [`Refusal`]s 7, 8 and 12, the first that applies.
 pub fn week(canonical: &[u8], table: &[u32], sheet: Extent, node: usize) -> Result<Week, NoWeek> {
-    week_by(etg_week, canonical, table, sheet, node)
+    week_by(ffi::etg_week, canonical, table, sheet, node)
 }
 
 /// [`week`] with the table lent as records.
@@ -437,11 +284,11 @@ pub fn week_records(
     sheet: Extent,
     node: usize,
 ) -> Result<Week, NoWeek> {
-    week_by(etg_week_records, canonical, records, sheet, node)
+    week_by(ffi::etg_week_records, canonical, records, sheet, node)
 }
 
 fn week_by<T>(
-    call: Weeks<T>,
+    call: ffi::Weeks<T>,
     canonical: &[u8],
     table: &[T],
     sheet: Extent,
