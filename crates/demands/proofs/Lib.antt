@@ -11,3 +11,4 @@ pub mod Records
 pub mod Lent
 pub mod Space
 pub mod Typed
+pub mod Lined

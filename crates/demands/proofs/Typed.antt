@@ -6,7 +6,7 @@ use mathlib.Core.Bool.{Bool, true, false}
 use mathlib.Core.Option.{Option, none, some}
 use mathlib.Core.List.{List, [], _∷_, _++_, append-assoc}
 use lib.Dec.{T, eqb}
-use lib.ListN.{length, length-append}
+use lib.ListN.{length, take, length-append}
 use lib.Seq.{slice}
 use Rattle.base.specs.Choice.{pick}
 use Rattle.base.proofs.Cases.{pick-cases, some-same, none-some}
@@ -36,6 +36,37 @@ is-value Untyped v e = none-some e
 -- the value of the octets d with the hint g: of its type, or raw where the hint tells none
 abbrev pub hintedAs : List ℕ → List ℕ → Typing → Typing
 hintedAs g d raw = pick (eqb (kindOf g) 1) (singleOf d) (pick (eqb (kindOf g) 2) (doubleOf d) (pick (eqb (kindOf g) 3) (wholeOf d) raw))
+
+-- a string with a hint, wherever it stands in a sheet
+module _ (canonical : List ℕ) (len : ℕ) (pre post g d : List ℕ) (e : take len canonical ≡ pre ++ (canon (hinted g d) ++ post)) (at : ℕ) (l : at ≡ length pre) where
+  abbrev pub hintRow : Row
+  hintRow = hintedRow at (bodyStart (at + 1) g) (bodyEnd (at + 1) g) (bodyStart (bodyEnd (at + 1) g + 1) d) (bodyEnd (bodyEnd (at + 1) g + 1) d)
+
+  hint-is : slice (hintRow .hintStart) (hintRow .hintEnd) canonical ≡ g
+  unfolding octetsAt canon verbatim
+  hint-is =
+      sym (part-slice (hintRow .hintStart) (hintRow .hintEnd) canonical)
+      ∙ between canonical (pre ++ (91 ∷ (digits (length g) ++ (58 ∷ [])))) g (93 ∷ (verbatim d ++ post)) len (hintRow .hintStart) (hintRow .hintEnd)
+      (e ∙ simp append-assoc)
+      (simp length-append (omega arith))
+      (simp length-append (omega arith))
+
+  data-is : slice (hintRow .dataStart) (hintRow .dataEnd) canonical ≡ d
+  unfolding octetsAt canon verbatim
+  data-is =
+      sym (part-slice (hintRow .dataStart) (hintRow .dataEnd) canonical)
+      ∙ between canonical (pre ++ (91 ∷ (verbatim g ++ (93 ∷ (digits (length d) ++ (58 ∷ [])))))) d post len (hintRow .dataStart) (hintRow .dataEnd)
+      (e ∙ simp append-assoc)
+      (simp length-append (omega arith))
+      (simp length-append (omega arith))
+
+  by-kind : valueAt (kindOf g) canonical (hintRow .dataStart) (hintRow .dataEnd) ≡ hintedAs g d (Is (Raw (hintRow .dataStart) (hintRow .dataEnd)))
+  unfolding valueAt
+  by-kind = ap (λ (x : List ℕ). hintedAs g x (Is (Raw (hintRow .dataStart) (hintRow .dataEnd)))) data-is
+
+  pub typed-hinted : typedRow canonical hintRow ≡ hintedAs g d (Is (Raw (hintRow .dataStart) (hintRow .dataEnd)))
+  unfolding typedRow rowKind
+  typed-hinted = ap (λ (x : List ℕ). valueAt (kindOf x) canonical (hintRow .dataStart) (hintRow .dataEnd)) hint-is ∙ by-kind
 
 module _ (canonical : List ℕ) (len : ℕ) (table : List ℕ) (count node : ℕ) (t : Tree) (o : ownTree canonical len table count ≡ some t) where
   value-by : nodeValue canonical len table count node ≡ valueIn (typedRow canonical (rowOf t node))
@@ -68,38 +99,10 @@ module _ (canonical : List ℕ) (len : ℕ) (table : List ℕ) (count node : ℕ
         value-by ∙ ap (λ (x : Row). valueIn (typedRow canonical x)) r ∙ ap (λ (x : Row). some (Raw (x .dataStart) (x .dataEnd))) (sym r)
 
     -- 02, "Strings now carry numbers, told by hint"
-    module _ (g d : List ℕ) (q : nodeAt t node ≡ hinted g d) where
-      abbrev at : ℕ
-      at = length (front canonical len table count node t o h)
-
-      abbrev row : Row
-      row = hintedRow at (bodyStart (at + 1) g) (bodyEnd (at + 1) g) (bodyStart (bodyEnd (at + 1) g + 1) d) (bodyEnd (bodyEnd (at + 1) g + 1) d)
-
-      hint-is : slice (row .hintStart) (row .hintEnd) canonical ≡ g
-      unfolding octetsAt canon verbatim
-      hint-is =
-          sym (part-slice (row .hintStart) (row .hintEnd) canonical)
-          ∙ between canonical (front canonical len table count node t o h ++ (91 ∷ (digits (length g) ++ (58 ∷ [])))) g (93 ∷ (verbatim d ++ back canonical len table count node t o h)) len (row .hintStart) (row .hintEnd)
-          (sheet-by canonical len table count node t o h (hinted g d) q ∙ simp append-assoc)
-          (simp length-append (omega arith))
-          (simp length-append (omega arith))
-
-      data-is : slice (row .dataStart) (row .dataEnd) canonical ≡ d
-      unfolding octetsAt canon verbatim
-      data-is =
-          sym (part-slice (row .dataStart) (row .dataEnd) canonical)
-          ∙ between canonical (front canonical len table count node t o h ++ (91 ∷ (verbatim g ++ (93 ∷ (digits (length d) ++ (58 ∷ [])))))) d (back canonical len table count node t o h) len (row .dataStart) (row .dataEnd)
-          (sheet-by canonical len table count node t o h (hinted g d) q ∙ simp append-assoc)
-          (simp length-append (omega arith))
-          (simp length-append (omega arith))
-
-      by-kind : valueAt (kindOf g) canonical (row .dataStart) (row .dataEnd) ≡ hintedAs g d (Is (Raw (row .dataStart) (row .dataEnd)))
-      unfolding valueAt
-      by-kind = ap (λ (x : List ℕ). pick (eqb (kindOf g) 1) (singleOf x) (pick (eqb (kindOf g) 2) (doubleOf x) (pick (eqb (kindOf g) 3) (wholeOf x) (Is (Raw (row .dataStart) (row .dataEnd)))))) data-is
-
-      pub value-of-hinted : nodeValue canonical len table count node ≡ valueIn (hintedAs g d (Is (Raw (row .dataStart) (row .dataEnd))))
-      unfolding typedRow rowKind
-      value-of-hinted =
-          value-by ∙ ap (λ (x : Row). valueIn (typedRow canonical x)) (hinted-row canonical len table count node t o h g d q)
-          ∙ ap (λ (x : List ℕ). valueIn (valueAt (kindOf x) canonical (row .dataStart) (row .dataEnd))) hint-is
-          ∙ ap valueIn by-kind
+    pub value-of-hinted : (g d : List ℕ) → nodeAt t node ≡ hinted g d
+        → nodeValue canonical len table count node ≡ valueIn (hintedAs g d (Is (Raw (rowOf t node .dataStart) (rowOf t node .dataEnd))))
+    value-of-hinted g d q =
+        let r = hinted-row canonical len table count node t o h g d q in
+        value-by ∙ ap (λ (x : Row). valueIn (typedRow canonical x)) r
+        ∙ ap valueIn (typed-hinted canonical len (front canonical len table count node t o h) (back canonical len table count node t o h) g d (sheet-by canonical len table count node t o h (hinted g d) q) _ refl)
+        ∙ ap (λ (x : Row). valueIn (hintedAs g d (Is (Raw (x .dataStart) (x .dataEnd))))) (sym r)

@@ -1,4 +1,4 @@
-//! The archive's functions on values and hours, as include/etglavino.h has them.
+//! The C interface for values and hours, as `include/etglavino.h` declares it.
 
 use crate::Record;
 
