@@ -57,7 +57,8 @@
  *
  * Refusals. Every function but those that find a hint or data, or that go on
  * with an addition to a spool, returns one of these numbers. In a refusal the
- * values given out are 0, and every lent buffer holds what it held.
+ * values given out are 0, but for `*bad` of etg_week with 12 and for the state
+ * of a refused start, and every lent buffer holds what it held.
  */
 #ifndef ETGLAVINO_H
 #define ETGLAVINO_H
@@ -86,12 +87,13 @@ enum {
                            result more than are lent */
     ETG_NOT_OWN = 7,    /* not the canonical form of one tree that fits, or the
                            table is not its own, or a length or count is
-                           beyond what is lent */
+                           beyond what is lent; a raw value to be written
+                           whose place is no part of the octets lent */
     ETG_NO_NODE = 8,    /* there is no node of that number */
     ETG_DAMAGED = 10,   /* the area of a spool is damaged */
     ETG_NOT_TYPED = 11, /* the node is no value of its type: a list, octets of
                            a wrong length, an int that is not the shortest, NaN
-                           or infinity */
+                           or infinity; NaN or infinity to be written */
     ETG_NOT_LINE = 12   /* not a list of exactly three f64 strings, each 0 to 24
                            hours in whole quarters with the sign clear */
 };

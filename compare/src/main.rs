@@ -2,13 +2,12 @@
 //! answered by the library and by the reference program. Answers and all lent
 //! buffers must be the same; so it is with extracts, a quarter as many. Spools
 //! come after them; then the fixed sheets of values and hours, and a tenth as
-//! many random ones, node by node. What differs is shown; the exit status is 1
-//! where anything does.
+//! many random ones, node by node. Of what differs the first five of each part
+//! are shown, the rest counted; the exit status is 1 where anything does.
 
 mod extract;
 mod library;
 mod spool;
-mod typed_sheets;
 mod values;
 
 use std::collections::BTreeMap;

@@ -2,13 +2,18 @@
 //! every node of a sheet as a value, a line and a week, over numbers and over
 //! records, and every value written again.
 
+mod sheets;
+
+use std::fmt;
+
 use etglavino::{Extent, Line, NoWeek, Record, Refusal, Total, Value, Week, RECORD};
 use reference::corpus::rng::Rng;
 use reference::limits::{MAX_CANONICAL, MAX_DEPTH, MAX_NODES};
 use reference::tree::Tree;
 use reference::values as second;
 
-use crate::typed_sheets::{fixed, patterns, quarters, random};
+use crate::SHOWN;
+use sheets::{fixed, patterns, quarters, random};
 
 /// How many questions were put, and how many answers differed.
 #[derive(Default)]
@@ -20,12 +25,15 @@ pub struct Tally {
 }
 
 impl Tally {
-    fn same<T: PartialEq + std::fmt::Debug>(&mut self, what: &str, library: T, reference: T) {
+    fn same<T>(&mut self, what: fmt::Arguments<'_>, library: T, reference: T)
+    where
+        T: PartialEq + fmt::Debug,
+    {
         self.asked += 1;
         if library != reference {
             self.different += 1;
-            if self.different <= 5 {
-                println!("{what}: the library {library:?}, the reference {reference:?}");
+            if self.different <= SHOWN {
+                println!("{what}\n  the library {library:?}\n  the reference {reference:?}");
             }
         }
     }
@@ -48,60 +56,59 @@ pub fn compare(seed: u64, count: u64) -> Tally {
 
 // ---- a sheet
 
+/// Every node of a sheet, two numbers that are no node's, and what is not a sheet
+/// with its table. Sheets made up must fit, so that none is passed over.
 fn sheet(tally: &mut Tally, tree: &Tree, rng: &mut Rng) {
-    if tree.depth() > MAX_DEPTH {
-        return;
-    }
     let layout = tree.layout();
-    if layout.records.len() > MAX_NODES || layout.octets.len() > MAX_CANONICAL {
-        return;
-    }
     let (length, nodes) = (layout.octets.len(), layout.records.len());
+    assert!(tree.depth() <= MAX_DEPTH && nodes <= MAX_NODES && length <= MAX_CANONICAL);
     let numbers = layout.records.as_flattened().to_vec();
-    for node in 0..nodes.min(40) + 1 {
-        ask(tally, &layout.octets, length, &numbers, nodes, node);
+    let lent = second::Lent {
+        canonical: &layout.octets,
+        length,
+        table: &numbers,
+        nodes,
+    };
+    for node in (0..=nodes).chain([usize::MAX]) {
+        ask(tally, lent, node);
     }
-    let last = nodes.saturating_sub(1);
-    ask(tally, &layout.octets, length, &numbers, nodes, last);
-    ask(tally, &layout.octets, length, &numbers, nodes, usize::MAX);
-    // A sheet or a table that is not one.
-    ask(tally, &layout.octets, length + 1, &numbers, nodes, 0);
-    ask(tally, &layout.octets, length - 1, &numbers, nodes, 0);
-    ask(tally, &layout.octets, length, &numbers, nodes + 1, 0);
+    for length in [length + 1, length - 1] {
+        ask(tally, second::Lent { length, ..lent }, 0);
+    }
+    for nodes in [nodes + 1, nodes - 1] {
+        ask(tally, second::Lent { nodes, ..lent }, 0);
+    }
     let mut foreign = numbers.clone();
     let place = rng.below(foreign.len());
     foreign[place] ^= 1 << rng.below(32);
-    ask(tally, &layout.octets, length, &foreign, nodes, last);
+    let table = &foreign;
+    ask(tally, second::Lent { table, ..lent }, nodes - 1);
 }
 
-/// A node as a value, a line and a week.
-fn ask(
-    tally: &mut Tally,
-    canonical: &[u8],
-    length: usize,
-    table: &[u32],
-    nodes: usize,
-    node: usize,
-) {
-    let canonical: Box<[u8]> = canonical.into();
-    let table: Box<[u32]> = table.into();
+/// A node as a value, a line and a week. Each buffer is a heap block of just its
+/// size.
+fn ask(tally: &mut Tally, lent: second::Lent<'_>, node: usize) {
+    let canonical: Box<[u8]> = lent.canonical.into();
+    let table: Box<[u32]> = lent.table.into();
     let records: Box<[Record]> = table
         .chunks_exact(RECORD)
         .map(|eight| Record::from(<[u32; RECORD]>::try_from(eight).expect("eight")))
         .collect();
-    let extent = Extent { length, nodes };
-    let lent = second::Lent {
-        canonical: &canonical,
-        length,
-        table: &table,
-        nodes,
+    let extent = Extent {
+        length: lent.length,
+        nodes: lent.nodes,
     };
+    let asked = Asked { lent, node };
     let expected = second::value(lent, node);
     for answer in [
         etglavino::value(&canonical, &table, extent, node),
         etglavino::value_records(&canonical, &records, extent, node),
     ] {
-        tally.same("value", spelled(answer), expected.map(bits_of));
+        tally.same(
+            format_args!("value of {asked}"),
+            spelled(answer),
+            expected.map(bits_of),
+        );
         if let Ok(value) = answer {
             put(tally, value, &canonical);
         }
@@ -120,7 +127,7 @@ fn ask(
                 total.hours.to_bits(),
             )
         });
-        tally.same("line", answer, expected);
+        tally.same(format_args!("line of {asked}"), answer, expected);
     }
     let expected =
         second::week(lent, node).map(|(lines, (count, hours))| (lines, count, hours.to_bits()));
@@ -128,7 +135,31 @@ fn ask(
         etglavino::week(&canonical, &table, extent, node),
         etglavino::week_records(&canonical, &records, extent, node),
     ] {
-        tally.same("week", answer.map(week_of).map_err(no_week), expected);
+        tally.same(
+            format_args!("week of {asked}"),
+            answer.map(week_of).map_err(no_week),
+            expected,
+        );
+    }
+}
+
+/// What was asked, shown whole.
+struct Asked<'a> {
+    lent: second::Lent<'a>,
+    node: usize,
+}
+
+impl fmt::Display for Asked<'_> {
+    fn fmt(&self, f: &mut fmt::Formatter<'_>) -> fmt::Result {
+        let (node, lent) = (self.node, self.lent);
+        write!(
+            f,
+            "node {node} of `{}`, length {}, {} nodes, table {:?}",
+            lent.canonical.escape_ascii(),
+            lent.length,
+            lent.nodes,
+            lent.table
+        )
     }
 }
 
@@ -177,7 +208,11 @@ fn put(tally: &mut Tally, value: Value, octets: &[u8]) {
         let (mut one, mut other) = (vec![0xa5; room].into_boxed_slice(), vec![0xa5; room]);
         let answer = etglavino::put_value(value, octets, &mut one).map_err(Refusal::number);
         let expected = second::put_value(second_of(value), octets, &mut other);
-        tally.same("put_value", (answer, one.to_vec()), (expected, other));
+        let what = format_args!(
+            "put_value of {value:?} of `{}` to {room} octets",
+            octets.escape_ascii()
+        );
+        tally.same(what, (answer, one.to_vec()), (expected, other));
     }
 }
 
@@ -212,9 +247,12 @@ fn made_up(tally: &mut Tally, rng: &mut Rng, count: u64) {
             put(tally, Value::Raw { start, end }, &octets);
         }
     }
+    // All quarters, one too many, their neighbours, and each with each bit flipped.
     for field in 0..=97 {
-        for near in [0, 1, u64::MAX, 1 << 63] {
-            let hours = f64::from_bits(quarters(field).wrapping_add(near));
+        let bits = quarters(field);
+        let near = [bits, bits.wrapping_add(1), bits.wrapping_sub(1)];
+        for near in near.into_iter().chain((0..64).map(|bit| bits ^ 1 << bit)) {
+            let hours = f64::from_bits(near);
             totalled(tally, [hours, 0.25, 24.0]);
             totalled(tally, [1.0, hours, 0.0]);
             totalled(tally, [2.0, 0.0, hours]);
@@ -248,5 +286,5 @@ fn totalled(tally: &mut Tally, [ordinary, night, holiday]: [f64; 3]) {
         .map_err(Refusal::number);
     let expected = second::total([ordinary, night, holiday])
         .map(|(quarters, hours)| (quarters, hours.to_bits()));
-    tally.same("total", answer, expected);
+    tally.same(format_args!("total of {line:?}"), answer, expected);
 }

@@ -4,7 +4,8 @@
 
 The text is `(week YEAR WEEK (NAME (LINE ..)) ..)` in advanced form. A line is a
 list of three `f64` strings, its ordinary, night and holiday hours, each 0 to 24
-in whole quarters. Sums are exact: they count quarters.
+in whole quarters. Totals count quarters. The three columns add doubles, which is
+exact for hours in whole quarters: a double holds each of their sums.
 """
 
 import sys
@@ -12,7 +13,7 @@ from pathlib import Path
 
 sys.path.insert(0, str(Path(__file__).resolve().parents[2] / "python"))
 
-from etglavino import Form, Line, Refusal, Sheet, line, octets, read, value, week  # noqa: E402
+from etglavino import Form, Line, NoLine, Sheet, line, octets, read, value, week  # noqa: E402
 
 
 def elements(sheet: Sheet, node: int) -> list[int]:
@@ -62,9 +63,10 @@ def main(path: str) -> None:
     sheet = read(Form.ADVANCED, Path(path).read_bytes())
     show(sheet)
 
-    # Bob's first shift: half an hour of it was on the holiday.
+    # Bob's first shift: the last half hour was on the holiday, and he stayed
+    # five quarters longer.
     wrong = elements(sheet, lines_of(sheet, b"bob"))[0]
-    sheet = sheet.replace(Form.ADVANCED, spelled(Line(0.0, 7.0, 0.5)), wrong)
+    sheet = sheet.replace(Form.ADVANCED, spelled(Line(0.0, 7.0, 1.75)), wrong)
     print("\ncorrected:", line(sheet, wrong))
     show(sheet)
 
@@ -72,7 +74,7 @@ def main(path: str) -> None:
     sheet = sheet.replace(Form.ADVANCED, spelled(Line(24.25, 0.0, 0.0)), wrong)
     try:
         week(sheet, lines_of(sheet, b"bob"))
-    except Refusal as refusal:
+    except NoLine as refusal:
         print(f"\n24.25 hours: {refusal}, node {refusal.node}")
 
 

@@ -50,10 +50,10 @@ class Refusal(Exception):
         4: "lists nest over 32 deep",
         5: "over 4,096 nodes",
         6: "over 16,384 canonical octets, or over the room that there is",
-        7: "not one tree's canonical form with its own table",
+        7: "not one tree's canonical form with its own table, or a place outside what is lent",
         8: "there is no node of that number",
         10: "the area of the spool is damaged",
-        11: "not a value of its type",
+        11: "not a value of its type, or not finite",
         12: "not a line of three hours in whole quarters",
     }
     """Sentences by number."""

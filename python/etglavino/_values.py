@@ -8,7 +8,7 @@ A string whose hint is `f32`, `f64` or `int` is a number; any other is its octet
     (-129, 1.5, b'abc')
     >>> total(Line(ordinary=7.25, night=0.5, holiday=0.0))
     Total(quarters=31, hours=7.75)
-    >>> total(Line(0.25, 0.0, 0.0)).fraction
+    >>> total(Line.of_quarters(1, 0, 0)).fraction
     Fraction(1, 4)
 """
 
@@ -19,6 +19,7 @@ import functools
 import struct
 from dataclasses import dataclass
 from fractions import Fraction
+from numbers import Real
 from typing import Any, Literal, Union
 
 from ._entries import RECORD, Refusal, count_of
@@ -42,6 +43,12 @@ class Line:
     ordinary: float
     night: float
     holiday: float
+
+    @classmethod
+    def of_quarters(cls, ordinary: int, night: int, holiday: int) -> Line:
+        """The line of so many quarters of an hour. Like any line that was made
+        up it may be none: `total` says so."""
+        return cls(*(_double(Fraction(count, 4)) for count in (ordinary, night, holiday)))
 
 
 @dataclass(frozen=True)
@@ -93,7 +100,7 @@ def value(sheet: Sheet, node: int) -> Value:
     return sheet.canonical[start.value : end.value]
 
 
-def octets(hint: Hint, number: Union[float, int]) -> bytes:
+def octets(hint: Hint, number: Union[float, int, Fraction]) -> bytes:
     """The data octets of a number of a type. NaN and infinity: refusal 11. A
     number that the type does not hold exactly is a ValueError."""
     kind = _KINDS[hint]
@@ -103,9 +110,9 @@ def octets(hint: Hint, number: Union[float, int]) -> bytes:
             raise ValueError(f"{number!r} is no whole number of 64 bits")
         whole = number
     elif kind == _DOUBLE:
-        double = float(number)
+        double = _double(number)
     else:
-        single = _single(float(number))
+        single = _single(_double(number))
     out, written = ctypes.create_string_buffer(8), ctypes.c_size_t()
     _check(
         _functions().etg_put_value(
@@ -126,9 +133,11 @@ def line_total(sheet: Sheet, node: int) -> Total:
 
 
 def total(made: Line) -> Total:
-    """The total of a line that was made up. Refusal: 12."""
+    """The total of a line that was made up. Refusal: 12. Hours may be fractions
+    too; what no double holds exactly is a ValueError."""
     quarters, hours = ctypes.c_uint32(), ctypes.c_double()
-    _check(_functions().etg_total(made.ordinary, made.night, made.holiday, quarters, hours))
+    fields = (_double(field) for field in (made.ordinary, made.night, made.holiday))
+    _check(_functions().etg_total(*fields, quarters, hours))
     return Total(quarters.value, hours.value)
 
 
@@ -149,6 +158,19 @@ def _line(sheet: Sheet, node: int) -> tuple[Line, Total]:
     quarters, hours = ctypes.c_uint32(), ctypes.c_double()
     _check(_functions().etg_line(*_lent(sheet, node), *fields, quarters, hours))
     return Line(*(field.value for field in fields)), Total(quarters.value, hours.value)
+
+
+def _double(number: Union[float, int, Fraction]) -> float:
+    """The number, if a double holds it. NaN stays, for the library to refuse."""
+    if not isinstance(number, Real):
+        raise TypeError(f"{number!r} is no number")
+    try:
+        held: Union[float, None] = float(number)
+    except OverflowError:
+        held = None
+    if held is None or held != number and number == number:
+        raise ValueError("no double holds this number exactly")
+    return held
 
 
 def _single(number: float) -> float:

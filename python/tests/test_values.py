@@ -68,9 +68,31 @@ class Values(Case):
             self.assertEqual(octets("int", number), expected)
         self.refused(11, octets, "f64", float("nan"))
         self.refused(11, octets, "f32", float("-inf"))
-        for hint, number in (("int", 2**63), ("int", 1.0), ("f32", 0.1), ("f32", 1e300)):
-            with self.assertRaises(ValueError):
-                octets(hint, number)  # type: ignore[arg-type]
+
+    def test_written_exactly_or_not(self) -> None:
+        self.assertEqual(octets("f64", 2**53 + 2), b"\x43\x40\0\0\0\0\0\x01")
+        self.assertEqual(octets("f32", 2**24 + 2), b"\x4b\x80\0\x01")
+        self.assertEqual(octets("f64", Fraction(-3, 4)), b"\xbf\xe8\0\0\0\0\0\0")
+        inexact: tuple[tuple[Any, Any], ...] = (
+            ("int", 2**63),
+            ("int", -(2**63) - 1),
+            ("int", 1.0),
+            ("f32", 0.1),
+            ("f32", 1e300),
+            ("f32", 2**24 + 1),
+            ("f32", 2**53 + 1),
+            ("f64", 2**53 + 1),
+            ("f64", Fraction(1, 3)),
+            ("f64", 10**400),
+            ("f32", -(10**400)),
+            ("int", 10**400),
+        )
+        for hint, number in inexact:
+            with self.subTest(hint=hint), self.assertRaises(ValueError):
+                octets(hint, number)
+        wrong: Any = "1.5"
+        with self.assertRaises(TypeError):
+            octets("f64", wrong)
 
 
 class Hours(Case):
@@ -85,6 +107,25 @@ class Hours(Case):
         self.refused(12, line, sheet(hours(1.0, 1.0)), 0)
         self.refused(8, line, sheet(b"()"), 7)
         self.assertEqual(total(Line(24.0, 24.0, 24.0)), Total(288, 72.0))
+
+    def test_made_up(self) -> None:
+        self.assertEqual(Line.of_quarters(29, 2, 96), Line(7.25, 0.5, 24.0))
+        self.refused(12, total, Line.of_quarters(97, 0, 0))
+        self.refused(12, total, Line.of_quarters(0, -1, 0))
+        self.refused(12, total, Line(0.0, 0.0, float("nan")))
+        quarter: Any = Fraction(1, 4)
+        self.assertEqual(total(Line(quarter, 1, 0)), Total(5, 1.25))
+        for inexact in (Fraction(1, 3), 2**53 + 1, 10**400):
+            made: Any = inexact
+            with self.assertRaises(ValueError):
+                total(Line(0.0, made, 0.0))
+        for count in (2**60 + 1, 10**400):
+            with self.assertRaises(ValueError):
+                Line.of_quarters(count, 0, 0)
+        for wrong in ("8", None, b"8"):
+            kept: Any = wrong
+            with self.assertRaises(TypeError):
+                total(Line(kept, 0.0, 0.0))
 
     def test_week(self) -> None:
         day = hours(8.0, 0.25, 0.0)

@@ -23,7 +23,6 @@
 
 mod extract;
 mod ffi;
-mod ffi_value;
 mod form;
 mod records;
 mod refusal;

@@ -20,14 +20,16 @@ pub enum Refusal {
     /// 6: over 16,384 canonical octets, or a result over the lent room.
     Size = 6,
     /// 7: the octets are not one tree's canonical form that fits, or the table
-    /// is not their own, or a length or count is beyond what is lent.
+    /// is not their own, or a length or count is beyond what is lent; a raw value
+    /// to be written whose place is no part of the octets lent.
     NotOwn = 7,
     /// 8: there is no node of that number.
     NoNode = 8,
     /// 10: the area of a spool is damaged.
     Damaged = 10,
     /// 11: the node is no value of its type: a list, octets of a wrong length,
-    /// an `int` that is not the shortest, NaN or infinity.
+    /// an `int` that is not the shortest, NaN or infinity; NaN or infinity to be
+    /// written.
     NotTyped = 11,
     /// 12: not a list of exactly three `f64` strings, each 0 to 24 hours in
     /// whole quarters with the sign clear.
@@ -49,10 +51,12 @@ impl Refusal {
             Refusal::Depth => "lists nest over 32 deep",
             Refusal::Nodes => "over 4,096 nodes, or more than records are lent",
             Refusal::Size => "over 16,384 canonical octets, or a result over the lent room",
-            Refusal::NotOwn => "not one tree's canonical form with its own table",
+            Refusal::NotOwn => {
+                "not one tree's canonical form with its own table, or a place outside what is lent"
+            }
             Refusal::NoNode => "there is no node of that number",
             Refusal::Damaged => "the area of the spool is damaged",
-            Refusal::NotTyped => "not a value of its type",
+            Refusal::NotTyped => "not a value of its type, or not finite",
             Refusal::NotLine => "not a line of three hours in whole quarters",
         }
     }

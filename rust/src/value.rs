@@ -1,8 +1,9 @@
 //! Values with a type, and hours.
 
+mod ffi;
+
 use std::fmt;
 
-use crate::ffi_value::*;
 use crate::{Extent, Record, Refusal};
 
 /// A node's value, told by its hint.
@@ -91,7 +92,7 @@ pub fn value(
     sheet: Extent,
     node: usize,
 ) -> Result<Value, Refusal> {
-    value_by(etg_value, canonical, table, sheet, node)
+    value_by(ffi::etg_value, canonical, table, sheet, node)
 }
 
 /// [`value`] with the table lent as records.
@@ -105,11 +106,11 @@ pub fn value_records(
     sheet: Extent,
     node: usize,
 ) -> Result<Value, Refusal> {
-    value_by(etg_value_records, canonical, records, sheet, node)
+    value_by(ffi::etg_value_records, canonical, records, sheet, node)
 }
 
 fn value_by<T>(
-    call: Values<T>,
+    call: ffi::Values<T>,
     canonical: &[u8],
     table: &[T],
     sheet: Extent,
@@ -160,7 +161,7 @@ pub fn put_value(value: Value, octets: &[u8], out: &mut [u8]) -> Result<usize, R
     let mut written = 0;
     // SAFETY: as in `value_by`.
     let number = unsafe {
-        etg_put_value(
+        ffi::etg_put_value(
             kind,
             single,
             double,
@@ -188,7 +189,7 @@ pub fn line(
     sheet: Extent,
     node: usize,
 ) -> Result<(Line, Total), Refusal> {
-    line_by(etg_line, canonical, table, sheet, node)
+    line_by(ffi::etg_line, canonical, table, sheet, node)
 }
 
 /// [`line`] with the table lent as records.
@@ -202,11 +203,11 @@ pub fn line_records(
     sheet: Extent,
     node: usize,
 ) -> Result<(Line, Total), Refusal> {
-    line_by(etg_line_records, canonical, records, sheet, node)
+    line_by(ffi::etg_line_records, canonical, records, sheet, node)
 }
 
 fn line_by<T>(
-    call: Lines<T>,
+    call: ffi::Lines<T>,
     canonical: &[u8],
     table: &[T],
     sheet: Extent,
@@ -252,7 +253,7 @@ pub fn total(line: Line) -> Result<Total, Refusal> {
     let mut total = Total::default();
     // SAFETY: both pointers are to a local.
     let number = unsafe {
-        etg_total(
+        ffi::etg_total(
             line.ordinary,
             line.night,
             line.holiday,
@@ -269,7 +270,7 @@ pub fn total(line: Line) -> Result<Total, Refusal> {
 ///
 /// [`Refusal`]s 7, 8 and 12, the first that applies.
 pub fn week(canonical: &[u8], table: &[u32], sheet: Extent, node: usize) -> Result<Week, NoWeek> {
-    week_by(etg_week, canonical, table, sheet, node)
+    week_by(ffi::etg_week, canonical, table, sheet, node)
 }
 
 /// [`week`] with the table lent as records.
@@ -283,11 +284,11 @@ pub fn week_records(
     sheet: Extent,
     node: usize,
 ) -> Result<Week, NoWeek> {
-    week_by(etg_week_records, canonical, records, sheet, node)
+    week_by(ffi::etg_week_records, canonical, records, sheet, node)
 }
 
 fn week_by<T>(
-    call: Weeks<T>,
+    call: ffi::Weeks<T>,
     canonical: &[u8],
     table: &[T],
     sheet: Extent,

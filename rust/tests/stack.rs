@@ -1,7 +1,8 @@
-//! The stack that each entry takes: all run on threads with just `STACK` octets
-//! of it, while what is lent is on the heap. There is a test for each function
-//! of the archive, in a process of its own, as a thread that needs more ends the
-//! process; the thread's name then tells which call it was.
+//! The stack that entries take: all run on threads with just `STACK` octets of
+//! it, while what is lent is on the heap. There is a test for each function of
+//! the archive but those on values and hours, which `values.rs` runs so. Each is
+//! in a process of its own, as a thread that needs more ends the process; the
+//! thread's name then tells which call it was.
 
 mod common;
 

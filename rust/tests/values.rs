@@ -1,5 +1,5 @@
 //! Values with a type, and hours. Expected values are document 02's, or worked
-//! out from it by hand.
+//! out from it by hand. Every entry runs on threads with just `STACK` octets.
 
 mod common;
 
@@ -48,6 +48,14 @@ fn week(octets: &[u8], node: usize) -> Result<Week, NoWeek> {
         assert_eq!(answer, other);
         answer
     })
+}
+
+fn put_value(value: Value, octets: &[u8], out: &mut [u8]) -> Result<usize, Refusal> {
+    tight(|| etglavino::put_value(value, octets, out))
+}
+
+fn total(line: Line) -> Result<Total, Refusal> {
+    tight(|| etglavino::total(line))
 }
 
 fn tight<R: Send>(call: impl FnOnce() -> R + Send) -> R {
@@ -132,10 +140,7 @@ fn values_written() {
         (Value::Raw { start: 1, end: 3 }, b"bc"),
     ] {
         out.fill(0xa5);
-        assert_eq!(
-            etglavino::put_value(value, b"abcd", &mut out),
-            Ok(octets.len())
-        );
+        assert_eq!(put_value(value, b"abcd", &mut out), Ok(octets.len()));
         assert_eq!(&out[..octets.len()], octets);
         assert!(out[octets.len()..].iter().all(|octet| *octet == 0xa5));
     }
@@ -149,17 +154,21 @@ fn values_written() {
         (Value::Whole(128), 1, Refusal::Size),
     ] {
         out.fill(0xa5);
-        assert_eq!(
-            etglavino::put_value(value, b"abcd", &mut out[..room]),
-            Err(refusal)
-        );
+        assert_eq!(put_value(value, b"abcd", &mut out[..room]), Err(refusal));
         assert_eq!(out, [0xa5; 8]);
     }
+    // More octets than a sheet can have.
+    let octets = vec![b'x'; 3 * MAX_CANONICAL];
+    let mut out = vec![0xa5; octets.len()];
+    let (start, end) = (1, octets.len());
+    let raw = Value::Raw { start, end };
+    assert_eq!(put_value(raw, &octets, &mut out), Ok(end - 1));
+    assert!(out[..end - 1] == octets[1..] && out[end - 1] == 0xa5);
 }
 
 #[test]
 fn lines() {
-    let (kept, total) = line(&hours([7.25, 0.5, 24.0]), 0).expect("a line");
+    let (kept, summed) = line(&hours([7.25, 0.5, 24.0]), 0).expect("a line");
     assert_eq!(
         kept,
         Line {
@@ -169,7 +178,7 @@ fn lines() {
         }
     );
     assert_eq!(
-        total,
+        summed,
         Total {
             quarters: 127,
             hours: 31.75
@@ -185,9 +194,9 @@ fn lines() {
             holiday: bad,
             ..Line::default()
         };
-        assert_eq!(etglavino::total(made), Err(Refusal::NotLine), "{bad}");
+        assert_eq!(total(made), Err(Refusal::NotLine), "{bad}");
     }
-    assert_eq!(etglavino::total(Line::default()), Ok(Total::default()));
+    assert_eq!(total(Line::default()), Ok(Total::default()));
     assert_eq!(line(b"(0:0:0:)", 0), Err(Refusal::NotLine));
     assert_eq!(line(b"()", 1), Err(Refusal::NoNode));
 }

@@ -1,4 +1,4 @@
-//! Sheets of typed strings, lines and weeks.
+//! Sheets with values and hours, made up: at every edge, and at random.
 
 use reference::corpus::rng::Rng;
 use reference::corpus::trees;
@@ -72,7 +72,7 @@ pub fn quarters(count: u64) -> u64 {
     (count as f64 / 4.0).to_bits()
 }
 
-/// The sheets that are always tried.
+/// The sheets that every run asks.
 pub fn fixed() -> Vec<Tree> {
     let mut strings = Vec::new();
     for pattern in patterns(32, 23) {
@@ -132,7 +132,7 @@ pub fn fixed() -> Vec<Tree> {
     trees
 }
 
-/// A random sheet: any tree, typed strings, or lines.
+/// A sheet at random.
 pub fn random(rng: &mut Rng) -> Tree {
     match rng.below(6) {
         0 => trees::small(rng),
