@@ -28,6 +28,8 @@ mod refusal;
 mod spool;
 #[cfg(target_os = "linux")]
 mod spool_file;
+#[cfg(target_os = "linux")]
+mod spool_map;
 mod table;
 
 pub use form::Form;
