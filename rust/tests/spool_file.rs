@@ -4,12 +4,12 @@
 
 mod common;
 
-use std::io::ErrorKind;
+use std::io::{self, BufRead, BufReader, ErrorKind, Write};
 use std::os::unix::process::ExitStatusExt;
 use std::path::{Path, PathBuf};
 use std::process::{Command, Stdio};
 use std::sync::{Mutex, MutexGuard};
-use std::time::{Duration, Instant};
+use std::time::Duration;
 use std::{env, fs, process, thread};
 
 use common::verbatim;
@@ -127,7 +127,7 @@ fn a_full_disk() {
     let folder = path("disk");
     fs::create_dir(&folder).expect("a folder");
     let own = child("a_full_disk", &folder.display().to_string());
-    let run = |script: &str| {
+    let filled = |script: &str| {
         let mut shell = Command::new("unshare");
         if !script.contains("mount") {
             shell = Command::new("sh");
@@ -136,21 +136,28 @@ fn a_full_disk() {
         }
         shell.args(["-c", script]).arg(own.get_program());
         shell.args(own.get_args()).arg(&folder);
-        shell.env(CHILD, &folder).stdout(Stdio::null());
-        shell.output().expect("a child")
+        let done = shell.env(CHILD, &folder).output().expect("a child");
+        let (out, said) = (
+            String::from_utf8_lossy(&done.stdout),
+            String::from_utf8_lossy(&done.stderr),
+        );
+        assert!(done.status.success(), "{script}: {said}");
+        assert!(out.contains(FILLED), "{script}: {out}");
     };
-    let limited = run("trap '' XFSZ; ulimit -f 64; exec \"$0\" \"$1\" \"$2\" \"$3\"");
-    let said = String::from_utf8_lossy(&limited.stderr);
-    assert!(limited.status.success(), "limited: {said}");
-    let possible = Command::new("unshare").args(["-rm", "true"]).output();
+    filled("trap '' XFSZ; ulimit -f 64; exec \"$0\" \"$1\" \"$2\" \"$3\"");
+    let mount = ["-rm", "mount", "-t", "tmpfs", "tmpfs"];
+    let possible = Command::new("unshare").args(mount).arg(&folder).output();
     if possible.is_ok_and(|done| done.status.success()) {
-        let small =
-            run("mount -t tmpfs -o size=64k tmpfs \"$4\" && exec \"$0\" \"$1\" \"$2\" \"$3\"");
-        let said = String::from_utf8_lossy(&small.stderr);
-        assert!(small.status.success(), "small disk: {said}");
+        filled("mount -t tmpfs -o size=64k tmpfs \"$4\" && exec \"$0\" \"$1\" \"$2\" \"$3\"");
+    } else {
+        // Past what the harness keeps to itself.
+        let _ = writeln!(io::stderr(), "a_full_disk: no small disk can be had");
     }
     fs::remove_dir_all(folder).expect("removed");
 }
+
+/// What a child says that has gone through `fill`.
+const FILLED: &str = "the disk was filled";
 
 fn fill(folder: &Path) {
     let path = folder.join("spool");
@@ -168,7 +175,14 @@ fn fill(folder: &Path) {
     assert_eq!(sheets(&file), [b"1:a", b"1:b"]);
     file.add(b"1:c").expect("room");
     drop(file);
+    // A file with holes that the disk has no room for.
+    let sparse = fs::File::create(folder.join("sparse")).expect("a file");
+    if sparse.set_len(1 << 20).is_ok() {
+        no_space(SpoolFile::open(folder.join("sparse")).expect_err("no space"));
+    }
+    fs::remove_file(folder.join("sparse")).expect("removed");
     fs::remove_file(path).expect("removed");
+    println!("{FILLED}");
 }
 
 fn no_space(error: SpoolError) {
@@ -228,6 +242,10 @@ fn adds(told: &str) {
             }
         });
         watched.expect("room");
+        // The harness's own words may stand before.
+        let mut out = io::stdout().lock();
+        out.write_all(b"\nadded\n").expect("told");
+        out.flush().expect("told");
     }
 }
 
@@ -271,8 +289,8 @@ fn killed_at_a_store() {
     fs::remove_file(path).expect("removed");
 }
 
-/// A child is killed from outside, at any moment, a hundred times: half of them
-/// once an entry is there.
+/// A child is killed from outside, at any moment after it told of so many
+/// entries, a hundred times: those it told of are there, and at most one more.
 #[test]
 fn killed_at_any_moment() {
     if let Some(told) = told() {
@@ -286,18 +304,27 @@ fn killed_at_any_moment() {
         let seed = random.below(1 << 20) as u64;
         let told = format!("{seed} 60000 {}", path.display());
         let mut running = child("killed_at_any_moment", &told)
+            .stdout(Stdio::piped())
             .spawn()
             .expect("a child");
-        let started = Instant::now();
-        while cut % 2 == 0 && fs::read(&path).expect("octets")[0] == 0 {
-            assert!(started.elapsed() < Duration::from_secs(60), "cut {cut}");
-        }
+        let out = BufReader::new(running.stdout.take().expect("a pipe"));
+        let mut added = out
+            .lines()
+            .filter(|line| line.as_ref().is_ok_and(|line| line == "added"));
+        let wanted = random.below(12);
+        let told = added.by_ref().take(wanted).count();
+        assert_eq!(told, wanted, "cut {cut}");
         thread::sleep(Duration::from_micros(random.below(6_000) as u64));
         running.kill().expect("killed");
         running.wait().expect("ended");
+        let told = told + added.count();
         let file = SpoolFile::open(&path).expect("the file");
         let (mut child, shown) = (Random(seed), sheets(&file));
-        assert!(cut % 2 == 1 || !shown.is_empty(), "cut {cut}");
+        let count = shown.len();
+        assert!(
+            count == told || count == told + 1,
+            "cut {cut}: {told}, {count}"
+        );
         for (number, sheet) in shown.into_iter().enumerate() {
             assert!(sheet == child.sheet(), "cut {cut}, sheet {number}");
         }
