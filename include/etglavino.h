@@ -44,7 +44,8 @@
  *
  * Refusals. Every function but those that find a hint or data, or that go on
  * with an addition to a spool, returns one of these numbers. In a refusal the
- * values given out are 0, and every lent buffer holds what it held.
+ * values given out are 0, but for the state that a refused start of an addition
+ * gives out, and every lent buffer holds what it held.
  */
 #ifndef ETGLAVINO_H
 #define ETGLAVINO_H
@@ -233,7 +234,8 @@ uint32_t etg_spool_add_commits(const struct etg_spool_state *state,
  *
  * Refusals: as etg_spool_add_start; the area then holds what it held. On
  * acceptance the octet behind the new entry is 0, if the area has one; octets
- * past it stay as they were. */
+ * past it stay as they were. That is said of the area when the call returns:
+ * where a cut may come while it runs, take steps. */
 uint32_t etg_spool_add(uint8_t *area, size_t area_size,
                        const uint8_t *sheet, size_t sheet_size, size_t length);
 

@@ -86,7 +86,8 @@ impl ExactSizeIterator for Sheets<'_> {}
 
 /// Adds the sheet in the first `length` octets of `sheet`: all stores of an
 /// [`Adding`], one after the other. The octet behind the new entry becomes 0, if
-/// the area has one; those past it stay.
+/// the area has one; those past it stay. Where a cut may come while it runs, take
+/// steps.
 ///
 /// # Errors
 ///

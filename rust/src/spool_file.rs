@@ -287,8 +287,8 @@ fn aside(folder: &Path) -> io::Result<(PathBuf, File)> {
     }
 }
 
-/// How many octets the entries have, with the 0 behind them; none in a damaged
-/// area, which is never added to.
+/// How many octets the entries have, with the 0 behind them. A damaged area is
+/// never added to, and has no entries.
 fn used(area: &[u8]) -> usize {
     let count = spool_open(area, 0).map_or(0, |opened| opened.count);
     let last = spool_open(area, count.saturating_sub(1)).unwrap_or_default();
