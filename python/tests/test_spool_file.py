@@ -189,7 +189,7 @@ class File(unittest.TestCase):
         SpoolFile.create(self.path, 2_048).close()
         for cut in range(200):
             sheets = [verbatim(rng.randrange(150)) for _ in range(20)]
-            stores = rng.randrange(1, 400)
+            stores = rng.randrange(1, 250)
             child = os.fork()
             if child == 0:
                 self.adds(sheets, stores)

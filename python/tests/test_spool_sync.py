@@ -80,7 +80,10 @@ class Sync(unittest.TestCase):
         with SpoolFile.create(self.path, 5 * 4_096) as spool:
             spool.add(sheet)
         stored: list[int] = []
-        put = lambda area, at, octet: stored.append(at)
+
+        def put(_: mmap.mmap, at: int, octet: int) -> None:
+            stored.append(at)
+
         with mock.patch.object(Map, "__setitem__", put, create=True), watched():
             SpoolFile(self.path).close()
         self.assertEqual(stored, list(range(0, 8_195, page)))

@@ -82,7 +82,7 @@ fn killed_at_a_store() {
     let mut shown: Vec<Vec<u8>> = Vec::new();
     drop(SpoolFile::create(&path, SIZE).expect("a file"));
     for cut in 0..300 {
-        let (seed, most) = (random.below(1 << 20) as u64, 1 + random.below(500));
+        let (seed, most) = (random.below(1 << 20) as u64, 1 + random.below(300));
         let told = format!("{seed} {most} {}", path.display());
         let status = child("killed_at_a_store", &told).status().expect("a child");
         assert_eq!(status.signal(), Some(KILLED), "cut {cut}: {status}");

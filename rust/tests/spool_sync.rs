@@ -2,6 +2,7 @@
 //! sync comes, what follows one that fails, and who may come between. The
 //! functions of this program stand before the C library's of the same names.
 #![cfg(target_os = "linux")]
+#![cfg(any(target_arch = "x86_64", target_arch = "aarch64"))]
 
 use std::ffi::c_long;
 use std::path::{Path, PathBuf};
@@ -38,6 +39,7 @@ fn watched(watch: impl FnMut(&Call) -> bool + Send + 'static) {
     *WATCH.lock().expect("a watch") = Some(Box::new(watch));
 }
 
+/// The system's numbers of `msync`, `fsync` and `flock`.
 #[cfg(target_arch = "x86_64")]
 const NUMBERS: [c_long; 3] = [26, 74, 73];
 #[cfg(target_arch = "aarch64")]
