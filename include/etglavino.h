@@ -264,7 +264,8 @@ uint32_t etg_spool_add_commits(const struct etg_spool_state *state,
  *
  * Refusals: as etg_spool_add_start; the area then holds what it held. On
  * acceptance the octet behind the new entry is 0, if the area has one; octets
- * past it stay as they were. */
+ * past it stay as they were. That is said of the area when the call returns:
+ * where a cut may come while it runs, take steps. */
 uint32_t etg_spool_add(uint8_t *area, size_t area_size,
                        const uint8_t *sheet, size_t sheet_size, size_t length);
 

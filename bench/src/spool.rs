@@ -1,4 +1,4 @@
-//! The fourth table: a spool opened, and added to.
+//! The last two tables: a spool opened, and a spool added to.
 
 use std::hint::black_box;
 use std::ptr;
@@ -11,7 +11,7 @@ use reference::spool as other;
 
 const MIB: usize = 1 << 20;
 
-/// Prints the table.
+/// Prints the tables.
 pub fn table() {
     let full = sheet("tokens");
     head(&["spool", "octets", "copy", "library", "reference"]);

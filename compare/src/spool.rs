@@ -3,10 +3,12 @@
 //! the library's stores is, after each of them the reference program must find
 //! the old sheets, or with the last store those and the new one.
 
+mod areas;
+mod states;
+
 use std::collections::BTreeMap;
 
 use etglavino::{spool_add, spool_open, spool_sheets, spool_shown, Adding, Opened, Refusal};
-use reference::corpus::rng::Rng;
 use reference::spool::{added, entry, open, parse, Opening};
 
 /// Differences shown whole; the rest are only counted.
@@ -26,10 +28,11 @@ struct Tally {
 /// there are.
 pub fn compare(seed: u64, count: u64) -> u64 {
     let mut tally = Tally::default();
-    around_every_end(&mut tally);
-    damage_at_each_octet(&mut tally);
-    lengths(&mut tally);
-    random(&mut tally, seed, count);
+    areas::around_every_end(&mut tally);
+    areas::damage_at_each_octet(&mut tally);
+    areas::lengths(&mut tally);
+    states::others_between(&mut tally);
+    areas::random(&mut tally, seed, count);
     for (answer, cases) in &tally.opened {
         println!("spool opened {answer}: {cases} cases");
     }
@@ -159,20 +162,6 @@ impl Tally {
             sheet,
         );
     }
-
-    /// A state from elsewhere: a call ends and stores one octet at most.
-    fn other_state(&mut self, numbers: [u64; 4], area: &[u8], sheet: &[u8]) {
-        self.states += 1;
-        let (area, sheet): (Box<[u8]>, Box<[u8]>) = (area.into(), sheet.into());
-        let mut adding = Adding::from_numbers(numbers);
-        for _ in 0..3 {
-            let mut now = area.clone();
-            adding.commits(&now, &sheet);
-            adding.step(&mut now, &sheet);
-            let changed = area.iter().zip(&now).filter(|(a, b)| a != b).count();
-            self.hold(changed <= 1, &format!("state {numbers:?}"), &area, &sheet);
-        }
-    }
 }
 
 fn number(answer: Result<(), Refusal>) -> u32 {
@@ -190,97 +179,6 @@ fn sheets(area: &[u8]) -> Option<Vec<Vec<u8>>> {
     )
 }
 
-/// A string of that many octets in all, two at least; there is none of 12, 103
-/// and so on, where the digits grow.
-fn string(length: usize) -> Vec<u8> {
-    let digits = (1..)
-        .find(|&digits| length <= digits + 1 || (length - digits - 1).to_string().len() <= digits);
-    let data = length.saturating_sub(digits.expect("some") + 1);
-    let mut sheet = format!("{data}:").into_bytes();
-    sheet.resize(sheet.len() + data, b'v');
-    sheet
-}
-
-/// Areas of 0 to 40 octets: old entries of each size, the end as a 0 or as the
-/// area's end, octets of each kind behind it, and a new sheet of each size.
-fn around_every_end(tally: &mut Tally) {
-    let olds = [vec![], vec![2], vec![3, 2], vec![2, 2, 9], vec![17, 5]];
-    for size in 0..=40 {
-        for old in &olds {
-            let entries: Vec<u8> = old.iter().flat_map(|&n| entry(&string(n))).collect();
-            if entries.len() > size {
-                continue;
-            }
-            for behind in [0, 1, 2, 40, 128, 255] {
-                let mut area = entries.clone();
-                area.resize(size, behind);
-                if let Some(end) = area.get_mut(entries.len()) {
-                    *end = 0;
-                }
-                tally.open(&area);
-                for new in 0..=40 {
-                    let sheet = string(new.max(2));
-                    tally.add(&area, &sheet, sheet.len());
-                }
-                tally.add(&area, b"0:()", 2);
-                tally.add(&area, b"0:(", 3);
-                tally.add(&area, b"0:", 3);
-                tally.add(&area, b"", 0);
-            }
-        }
-    }
-}
-
-/// A spool with an octet changed to each other value, at each place.
-fn damage_at_each_octet(tally: &mut Tally) {
-    let sheets: [&[u8]; 4] = [b"()", b"(1:a[1:x]0:)", b"0:", b"3:abc"];
-    let mut area: Vec<u8> = sheets.iter().flat_map(|sheet| entry(sheet)).collect();
-    area.extend([0, 7, 0x82]);
-    let long = [entry(&string(130)), entry(b"()"), vec![0; 4]].concat();
-    for area in [area, long] {
-        for place in 0..area.len() {
-            for octet in 0..=255 {
-                let mut changed = area.clone();
-                changed[place] = octet;
-                tally.open(&changed);
-                tally.add(&changed, b"0:", 2);
-            }
-        }
-    }
-    // Groups without end, and more of them than any number has.
-    for groups in 1..=20 {
-        for last in [0, 1, 2, 127] {
-            let mut area = vec![0x80; groups];
-            tally.open(&area);
-            area.push(last);
-            tally.open(&area);
-            area.extend(b"()");
-            tally.open(&area);
-        }
-    }
-}
-
-/// Lengths where the groups grow, with just the room, one less and one more.
-fn lengths(tally: &mut Tally) {
-    for length in [126, 127, 128, 129, 16_382, 16_383, 16_384, 16_385] {
-        let sheet = string(length);
-        let room = entry(&sheet).len();
-        for (size, behind) in [(room - 1, 0), (room, 0), (room + 1, 1), (room + 9, 200)] {
-            for old in [vec![], entry(b"()"), entry(&string(300))] {
-                let mut area = old.clone();
-                area.resize(old.len() + size, behind);
-                area[old.len()] = 0;
-                tally.open(&area);
-                if length < 1_000 || (size == room && old.is_empty()) {
-                    tally.add(&area, &sheet, sheet.len());
-                } else {
-                    tally.whole(&area, &sheet);
-                }
-            }
-        }
-    }
-}
-
 impl Tally {
     /// An addition without its steps, which take long with a large sheet.
     fn whole(&mut self, area: &[u8], sheet: &[u8]) {
@@ -293,41 +191,5 @@ impl Tally {
             Err(refusal) => answer == refusal && *after == *area,
         };
         self.hold(same, "a large sheet", area, sheet);
-    }
-}
-
-/// Random areas, most of them spools, and random states.
-fn random(tally: &mut Tally, seed: u64, count: u64) {
-    let mut rng = Rng::new(seed ^ 0x5001);
-    for _ in 0..count {
-        let mut area = Vec::new();
-        for _ in 0..rng.below(5) {
-            area.extend(entry(&string(2 + rng.below(30))));
-        }
-        if rng.below(4) > 0 {
-            area.push(0);
-        }
-        area.extend((0..rng.below(40)).map(|_| rng.below(256) as u8));
-        if rng.below(3) == 0 && !area.is_empty() {
-            let place = rng.below(area.len());
-            area[place] = rng.below(256) as u8;
-        }
-        tally.open(&area);
-        let mut sheet = string(2 + rng.below(40));
-        let length = if rng.below(8) == 0 {
-            rng.below(50)
-        } else {
-            sheet.len()
-        };
-        sheet.resize(sheet.len() + rng.below(3), b'x');
-        tally.add(&area, &sheet, length);
-        let mut number = || match rng.below(4) {
-            0 => rng.below(4) as u64,
-            1 => u64::MAX - rng.below(4) as u64,
-            2 => 16_380 + rng.below(10) as u64,
-            _ => rng.below(80) as u64,
-        };
-        let numbers = [number(), number(), number(), number() % 3];
-        tally.other_state(numbers, &area, &sheet);
     }
 }

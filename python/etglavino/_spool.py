@@ -8,7 +8,7 @@ import functools
 import mmap
 from typing import Any, NamedTuple, Union
 
-from ._entries import Octets, check, count_of, octets_of
+from ._entries import Octets, Refusal, check, count_of, octets_of
 from ._library import load
 
 Area = Union[bytearray, mmap.mmap, memoryview]
@@ -32,30 +32,34 @@ def spool_open(area: Octets | Area, number: int = 0) -> Opened:
     """Opens an area at the sheet of a number from 0. Raises `Refusal` 10 where
     the area is damaged. An area of zeros is an empty spool."""
     count, start, end = ctypes.c_size_t(), ctypes.c_size_t(), ctypes.c_size_t()
-    with _Lent(area) as octets:
-        refusal = _library().etg_spool_open(
-            octets, len(area), count_of(number), count, start, end
-        )
-    check(refusal)
+    out = (count_of(number), count, start, end)
+    check(_lend(_library().etg_spool_open, area, after=out))
     return Opened(count.value, start.value, end.value)
 
 
 def spool_shown(area: Octets | Area, number: int) -> bytes:
-    """The octets of the sheet of a number from 0: none if there is none such."""
-    opened = spool_open(area, number)
-    return bytes(area[opened.start : opened.end])
+    """The octets of the sheet of a number from 0: none if the area is damaged or
+    there is none such."""
+    octets = octets_of(area)
+    try:
+        opened = spool_open(octets, number)
+    except Refusal:
+        return b""
+    return octets[opened.start : opened.end]
 
 
 def spool_sheets(area: Octets | Area) -> list[bytes]:
-    """All sheets of an area, in order. The area is opened once, which judges every
-    entry; what is left is to go from one to the next."""
+    """All sheets of an area, in order. Raises `Refusal` 10 where it is damaged.
+    The area is opened once, which judges every entry; what is left is to go from
+    one to the next."""
+    octets = octets_of(area)
     sheets, at = [], 0
-    for _ in range(spool_open(area).count):
+    for _ in range(spool_open(octets).count):
         length, bits = 0, 0
-        while area[at] >= 128:
-            length, bits, at = length | (area[at] - 128) << bits, bits + 7, at + 1
-        length, at = length | area[at] << bits, at + 1
-        sheets.append(bytes(area[at : at + length]))
+        while octets[at] >= 128:
+            length, bits, at = length | (octets[at] - 128) << bits, bits + 7, at + 1
+        length, at = length | octets[at] << bits, at + 1
+        sheets.append(octets[at : at + length])
         at += length
     return sheets
 
@@ -65,11 +69,8 @@ def spool_add(area: Area, sheet: Octets) -> None:
     to stand a cut is added to by `Adding`. Raises `Refusal` 10, 7 or 6, the
     first that applies; the area then holds what it held."""
     canonical = octets_of(sheet)
-    with _Lent(area) as octets:
-        refusal = _library().etg_spool_add(
-            octets, len(area), canonical, len(canonical), len(canonical)
-        )
-    check(refusal)
+    size = len(canonical)
+    check(_lend(_library().etg_spool_add, area, after=(canonical, size, size), stores=True))
 
 
 class Adding:
@@ -83,46 +84,47 @@ class Adding:
         self._state = State()
         self._sheet = octets_of(sheet)
         size = len(self._sheet)
-        with _Lent(area) as octets:
-            refusal = _library().etg_spool_add_start(
-                octets, len(area), self._sheet, size, size, self._state
-            )
-        check(refusal)
+        lent = (self._sheet, size, size, self._state)
+        check(_lend(_library().etg_spool_add_start, area, after=lent))
 
     def step(self, area: Area) -> bool:
         """Stores one octet. Whether the addition is done, which is told with its
         last store; one that is done stores nothing."""
-        with _Lent(area) as octets:
-            done = _library().etg_spool_add_step(
-                self._state, octets, len(area), self._sheet, len(self._sheet)
-            )
-        return done == 1
+        return self._asked(_library().etg_spool_add_step, area, stores=True)
 
     def commits(self, area: Octets | Area) -> bool:
         """Whether the next step makes the last store, which shows the entry. An
         area on a disk is synced before it and after it."""
-        with _Lent(area) as octets:
-            last = _library().etg_spool_add_commits(
-                self._state, octets, len(area), self._sheet, len(self._sheet)
-            )
-        return last == 1
+        return self._asked(_library().etg_spool_add_commits, area, stores=False)
+
+    def _asked(self, function: Any, area: Octets | Area, stores: bool) -> bool:
+        lent = (self._sheet, len(self._sheet))
+        return _lend(function, area, (self._state,), lent, stores) == 1
 
 
-class _Lent:
-    """Octets as the library is lent them, where they lie if they can be stored
-    to. Nothing keeps hold of them afterwards, so that a map can be closed."""
-
-    def __init__(self, area: Octets | Area) -> None:
-        writable = not memoryview(area).readonly
-        self._octets: Any = (
-            (ctypes.c_char * len(area)).from_buffer(area) if writable else octets_of(area)
-        )
-
-    def __enter__(self) -> Any:
-        return self._octets
-
-    def __exit__(self, *_: object) -> None:
-        del self._octets
+def _lend(
+    function: Any,
+    area: Octets | Area,
+    before: tuple[Any, ...] = (),
+    after: tuple[Any, ...] = (),
+    stores: bool = False,
+) -> int:
+    """What the function returns of an area, which it is lent where it lies if it
+    can be stored to; a TypeError if it stores and the area cannot. Nothing keeps
+    hold of the area afterwards, not even a traceback, so that a map can be
+    closed."""
+    octets: Any
+    with memoryview(area) as view:
+        if not view.readonly and view.c_contiguous:
+            octets = (ctypes.c_char * view.nbytes).from_buffer(view)
+        elif stores:
+            raise TypeError("the area cannot be stored to")
+        else:
+            octets = octets_of(area)
+        try:
+            return int(function(*before, octets, view.nbytes, *after))
+        finally:
+            del octets
 
 
 @functools.cache

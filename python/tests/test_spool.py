@@ -1,15 +1,10 @@
-"""Spools: document 02's examples, cuts, and a spool in a file."""
+"""Spools in lent octets: document 02's examples, and each store."""
 
 from __future__ import annotations
 
-import os
-import random
-import signal
-import tempfile
 import unittest
-from pathlib import Path
 
-from etglavino import Adding, Opened, Refusal, SpoolFile, SpoolInUse
+from etglavino import Adding, Opened, Refusal
 from etglavino import spool_add, spool_open, spool_sheets, spool_shown
 
 from . import verbatim
@@ -54,6 +49,7 @@ class Spool(unittest.TestCase):
             with self.assertRaises(Refusal) as caught:
                 spool_open(damaged)
             self.assertEqual(caught.exception.number, 10)
+            self.assertEqual(spool_shown(damaged, 0), b"")
             self.refused(10, damaged, b"(")
 
     def test_order_of_refusals(self) -> None:
@@ -77,110 +73,22 @@ class Spool(unittest.TestCase):
         self.assertTrue(adding.step(area))
         self.assertEqual(area, after)
 
+    def test_octets_that_cannot_be_stored_to(self) -> None:
+        """They stay as they are, and are not passed over in silence."""
+        area = bytes(8)
+        views = (memoryview(area), memoryview(bytearray(16))[::2])
+        for lent in (area, *views):
+            with self.assertRaises(TypeError):
+                spool_add(lent, b"()")
+            with self.assertRaises(TypeError):
+                Adding(lent, b"()").step(lent)
+            self.assertEqual(spool_open(lent), Opened(0, 0, 0))
+        self.assertEqual(area, bytes([0] * 8))
 
-class File(unittest.TestCase):
-    def setUp(self) -> None:
-        folder = tempfile.TemporaryDirectory()
-        self.addCleanup(folder.cleanup)
-        self.path = Path(folder.name) / "spool"
-
-    def test_entries_stay(self) -> None:
-        with SpoolFile.create(self.path, 12) as spool:
-            spool.add(b"()")
-            spool.add(b"1:a")
-            with self.assertRaises(Refusal) as caught:
-                spool.add(b"(1:b)")
-            self.assertEqual(caught.exception.number, 6)
-        self.assertEqual(self.path.read_bytes(), b"\x02()\x031:a\0\0\0\0\0")
-        with SpoolFile(self.path) as spool:
-            spool.grow(14)
-            spool.add(b"(1:b)")
-            self.assertEqual(list(spool), [b"()", b"1:a", b"(1:b)"])
-            self.assertEqual((len(spool), spool.sheet(1), spool.sheet(3)), (3, b"1:a", b""))
-        self.assertEqual(self.path.read_bytes(), b"\x02()\x031:a\x05(1:b)\0")
-
-    def test_one_writer_at_a_time(self) -> None:
-        with SpoolFile.create(self.path, 64):
-            with self.assertRaises(SpoolInUse):
-                SpoolFile(self.path)
-            with self.assertRaises(FileExistsError):
-                SpoolFile.create(self.path, 64)
-        SpoolFile(self.path).close()
-
-    def test_damaged_and_empty(self) -> None:
-        self.path.write_bytes(b"\x82\0()")
-        with SpoolFile(self.path) as spool:
-            with self.assertRaises(Refusal):
-                spool.add(b"()")
-            self.assertEqual(spool.area, b"\x82\0()")
-        self.path.write_bytes(b"")
-        with SpoolFile(self.path) as spool, self.assertRaises(Refusal):
-            spool.add(b"()")
-
-    def test_no_space(self) -> None:
-        """A process whose files may not grow."""
-        SpoolFile.create(self.path, 16_000).close()
-        child = os.fork()
-        if child == 0:
-            os._exit(self.without_space())
-        self.assertEqual(os.waitpid(child, 0)[1], 0)
-        with SpoolFile(self.path) as spool:
-            self.assertEqual(list(spool), [b"1:a", b"1:b"])
-        self.assertEqual(os.listdir(self.path.parent), ["spool"])
-
-    def without_space(self) -> int:
-        import resource
-
-        resource.setrlimit(resource.RLIMIT_FSIZE, (32_768, 32_768))
-        with SpoolFile(self.path) as spool:
-            spool.add(b"1:a")
-            for size in (2**20, 2**30):
-                for grown in (spool.grow, lambda size: SpoolFile.create(f"{self.path}2", size)):
-                    try:
-                        grown(size)
-                        return 1
-                    except OSError:
-                        pass
-            spool.add(b"1:b")
-            return 0 if list(spool) == [b"1:a", b"1:b"] else 1
-
-    def test_killed_at_a_store(self) -> None:
-        """A child is killed after a store, two hundred times."""
-        rng = random.Random(6)
-        shown: list[bytes] = []
-        SpoolFile.create(self.path, 2_048).close()
-        for cut in range(200):
-            sheets = [verbatim(rng.randrange(150)) for _ in range(20)]
-            stores = rng.randrange(1, 400)
-            child = os.fork()
-            if child == 0:
-                self.adds(sheets, stores)
-            self.assertEqual(os.waitpid(child, 0)[1], signal.SIGKILL, cut)
-            for sheet in sheets:
-                stores -= len(sheet) + (1 if len(sheet) < 128 else 2) + 1
-                if stores < 0:
-                    break
-                shown.append(sheet)
-            with SpoolFile(self.path) as spool:
-                self.assertEqual(list(spool), shown, cut)
-            if sum(map(len, shown)) > 1_400:
-                octets = bytearray(self.path.read_bytes())
-                octets[0] = 0  # Emptied, with the old octets behind its end.
-                self.path.write_bytes(octets)
-                shown = []
-
-    def adds(self, sheets: list[bytes], left: int) -> None:
-        """Adds until so many stores are made, and is killed there."""
-
-        def stored(_: int) -> None:
-            nonlocal left
-            left -= 1
-            if left == 0:
-                os.kill(os.getpid(), signal.SIGKILL)
-
-        try:
-            with SpoolFile(self.path) as spool:
-                for sheet in sheets:
-                    spool.add(sheet, stored)
-        finally:
-            os._exit(1)
+    def test_views_of_wide_items(self) -> None:
+        """An area has as many octets as a view, however they are counted."""
+        area = bytearray(8)
+        view = memoryview(area).cast("I")
+        spool_add(view, b"(1:a)")
+        self.assertEqual(area, b"\x05(1:a)\0\0")
+        self.assertEqual((spool_shown(view, 0), spool_sheets(view)), (b"(1:a)", [b"(1:a)"]))

@@ -29,6 +29,8 @@ mod refusal;
 mod spool;
 #[cfg(target_os = "linux")]
 mod spool_file;
+#[cfg(target_os = "linux")]
+mod spool_map;
 mod table;
 mod value;
 

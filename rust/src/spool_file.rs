@@ -8,25 +8,32 @@
 //! in any order, or some of them only: the old entries are shown all the same.
 //! It must not make the last one before them, which is what the first sync is
 //! for.
+//!
+//! A sync that failed may have lost stores that a later one reports nothing of.
+//! So nothing is added after it until the file is opened anew, and opening has
+//! what the file shows written again.
 
 use std::fs::{File, OpenOptions, TryLockError};
-use std::io;
-use std::os::fd::AsRawFd;
-use std::path::Path;
-use std::{fmt, fs, ptr, slice};
+use std::io::{self, ErrorKind};
+use std::os::unix::fs::MetadataExt;
+use std::path::{Path, PathBuf};
+use std::sync::atomic::{AtomicUsize, Ordering};
+use std::{fmt, fs, process};
 
+use crate::spool_map::{reserve, Map};
 use crate::{spool_open, spool_sheets, spool_shown, Adding, Refusal, Sheets};
 
 /// Why a spool file could not be used.
 #[derive(Debug)]
 pub enum SpoolError {
-    /// Another process, or this one, has the file open.
+    /// Another process, or this one, has the file open; or this process was
+    /// forked from the one that opened it.
     InUse,
     /// The library refused: 10 for a damaged file, 7 for a bad sheet, and 6
     /// where the entry has no room.
     Refused(Refusal),
-    /// The file could not be read, made longer, mapped or synced. Where the
-    /// disk is full its kind is `StorageFull`.
+    /// The file could not be made, read, made longer, mapped or synced. Where
+    /// the disk is full its kind is `StorageFull`.
     File(io::Error),
 }
 
@@ -57,57 +64,109 @@ impl From<io::Error> for SpoolError {
 /// A spool in a file, open for one writer at a time.
 ///
 /// The file is locked (`flock`) as long as this lives, and its whole size is
-/// reserved on the disk, so that no store can find the disk full.
+/// reserved on the disk. A process forked from this one shares the lock: there
+/// it refuses to add and to grow, and what it shows may change under its hands.
 #[derive(Debug)]
 pub struct SpoolFile {
     file: File,
     area: Map,
+    process: u32,
+    failed: bool,
 }
 
 impl SpoolFile {
-    /// Makes a file of that many octets, an empty spool. When this returns, the
-    /// file and its name are on the disk.
+    /// Makes a file of that many octets, an empty spool. When this returns `Ok`,
+    /// the file and its name are on the disk.
+    ///
+    /// The file is made under another name, `.spool-` and numbers, and gets its
+    /// own when it is whole and locked. A process that is killed meanwhile may
+    /// leave the other name.
     ///
     /// # Errors
     ///
-    /// [`SpoolError::File`]; there is then no new file.
+    /// [`SpoolError::File`], also where the name is taken or the disk is full;
+    /// [`SpoolError::InUse`] where someone locks the file under its other name.
+    /// There is then no new file.
     pub fn create(path: impl AsRef<Path>, size: usize) -> Result<SpoolFile, SpoolError> {
         let path = path.as_ref();
-        let file = OpenOptions::new()
-            .read(true)
-            .write(true)
-            .create_new(true)
-            .open(path)?;
-        let made = locked(file).and_then(|file| {
+        let folder = folder_of(path);
+        let (aside, file) = aside(folder)?;
+        let linked = locked(file).and_then(|file| {
             reserve(&file, size)?;
-            file.sync_all()?;
-            let folder = path.parent().filter(|name| !name.as_os_str().is_empty());
-            File::open(folder.unwrap_or(Path::new(".")))?.sync_all()?;
-            SpoolFile::mapped(file, size)
+            let spool = SpoolFile::mapped(file, size)?;
+            spool.file.sync_all()?;
+            fs::hard_link(&aside, path)?;
+            Ok(spool)
         });
-        if made.is_err() {
-            // What cannot be removed either is an empty spool.
-            let _ = fs::remove_file(path);
+        let removed = fs::remove_file(&aside);
+        let spool = linked?;
+        if let Err(error) = removed.and_then(|()| File::open(folder)?.sync_all()) {
+            // Nobody else has it: it is still locked, and who waits for the lock
+            // finds no name.
+            fs::remove_file(path)?;
+            return Err(error.into());
         }
-        made
+        Ok(spool)
     }
 
-    /// Opens a file that is there.
+    /// Opens a file that is there. When this returns `Ok`, what the file shows
+    /// is on the disk, and its name.
     ///
     /// # Errors
     ///
-    /// [`SpoolError::InUse`] and [`SpoolError::File`]. A damaged file can be
-    /// opened, and then refuses.
+    /// [`SpoolError::InUse`]; [`SpoolError::File`], also where the file is
+    /// removed or replaced meanwhile, and of kind `StorageFull` where it has
+    /// holes that the disk has no room for. A damaged file can be opened, and
+    /// then refuses.
     pub fn open(path: impl AsRef<Path>) -> Result<SpoolFile, SpoolError> {
+        let path = path.as_ref();
         let file = locked(OpenOptions::new().read(true).write(true).open(path)?)?;
-        let size = size_of(&file)?;
+        let (here, there) = (file.metadata()?, fs::metadata(path)?);
+        if here.nlink() == 0 || (here.dev(), here.ino()) != (there.dev(), there.ino()) {
+            let gone = "removed or replaced while it was opened";
+            return Err(io::Error::new(ErrorKind::NotFound, gone).into());
+        }
+        let size =
+            usize::try_from(here.len()).map_err(|_| io::Error::from(ErrorKind::FileTooLarge))?;
         reserve(&file, size)?;
-        SpoolFile::mapped(file, size)
+        let mut spool = SpoolFile::mapped(file, size)?;
+        // Pages whose writing failed before now are written again.
+        let used = used(spool.area());
+        spool.area.touch(used);
+        spool.area.sync()?;
+        spool.file.sync_all()?;
+        File::open(folder_of(&fs::canonicalize(path)?))?.sync_all()?;
+        Ok(spool)
     }
 
     fn mapped(file: File, size: usize) -> Result<SpoolFile, SpoolError> {
         let area = Map::of(&file, size)?;
-        Ok(SpoolFile { file, area })
+        let process = process::id();
+        Ok(SpoolFile {
+            file,
+            area,
+            process,
+            failed: false,
+        })
+    }
+
+    /// Whether the file may be changed: by the process that locked it, and
+    /// unless a sync failed.
+    fn usable(&self) -> Result<(), SpoolError> {
+        if self.process != process::id() {
+            return Err(SpoolError::InUse);
+        }
+        if self.failed {
+            let advice = "a sync failed; open it anew";
+            return Err(io::Error::other(advice).into());
+        }
+        Ok(())
+    }
+
+    /// What a sync gives. After one that failed it is unknown what the disk has.
+    fn synced(&mut self, sync: io::Result<()>) -> Result<(), SpoolError> {
+        self.failed |= sync.is_err();
+        Ok(sync?)
     }
 
     /// The whole area.
@@ -139,13 +198,14 @@ impl SpoolFile {
         spool_sheets(self.area())
     }
 
-    /// Adds a sheet. When this returns, the entry is on the disk.
+    /// Adds a sheet. When this returns `Ok`, the entry is on the disk.
     ///
     /// # Errors
     ///
-    /// [`SpoolError::Refused`], with nothing stored; [`SpoolError::File`] where
-    /// a sync failed: the file then shows the old entries, or those and the new
-    /// one.
+    /// [`SpoolError::Refused`], with nothing stored; [`SpoolError::InUse`] in a
+    /// forked process; [`SpoolError::File`] where a sync failed: the file then
+    /// shows the old entries, or those and the new one, and has to be opened
+    /// anew before anything is added.
     pub fn add(&mut self, sheet: &[u8]) -> Result<(), SpoolError> {
         self.add_watched(sheet, |_| ())
     }
@@ -161,17 +221,18 @@ impl SpoolFile {
         sheet: &[u8],
         mut stored: impl FnMut(usize),
     ) -> Result<(), SpoolError> {
+        self.usable()?;
         let mut adding = Adding::start(self.area(), sheet, sheet.len())?;
         let mut stores = 0;
         loop {
             if adding.commits(self.area(), sheet) {
-                self.area.sync()?;
+                self.synced(self.area.sync())?;
             }
             let done = adding.step(self.area.octets_mut(), sheet);
             stores += 1;
             stored(stores);
             if done {
-                return Ok(self.area.sync()?);
+                return self.synced(self.area.sync());
             }
         }
     }
@@ -180,10 +241,11 @@ impl SpoolFile {
     ///
     /// # Errors
     ///
-    /// [`SpoolError::File`], of kind `StorageFull` where the disk is full. No
-    /// entry is lost then.
+    /// [`SpoolError::InUse`] in a forked process; [`SpoolError::File`], of kind
+    /// `StorageFull` where the disk is full. No entry is lost then.
     pub fn grow(&mut self, size: usize) -> Result<(), SpoolError> {
-        let old = self.area.size;
+        self.usable()?;
+        let old = self.area().len();
         if size <= old {
             return Ok(());
         }
@@ -192,7 +254,7 @@ impl SpoolFile {
             let _ = self.file.set_len(old as u64);
             return Err(error.into());
         }
-        self.file.sync_all()?;
+        self.synced(self.file.sync_all())?;
         self.area = Map::of(&self.file, size)?;
         Ok(())
     }
@@ -206,110 +268,29 @@ fn locked(file: File) -> Result<File, SpoolError> {
     }
 }
 
-fn size_of(file: &File) -> io::Result<usize> {
-    let size = file.metadata()?.len();
-    usize::try_from(size).map_err(|_| io::ErrorKind::FileTooLarge.into())
+fn folder_of(path: &Path) -> &Path {
+    let folder = path.parent().filter(|name| !name.as_os_str().is_empty());
+    folder.unwrap_or(Path::new("."))
 }
 
-/// Has the disk keep room for all octets of the file, which gets this size if
-/// it is shorter. Without that a store to the map would end the process where
-/// the disk is full.
-fn reserve(file: &File, size: usize) -> io::Result<()> {
-    if size == 0 {
-        return Ok(());
-    }
-    let size = i64::try_from(size).map_err(|_| io::ErrorKind::FileTooLarge)?;
-    // SAFETY: the file is open.
-    match unsafe { c::posix_fallocate(file.as_raw_fd(), 0, size) } {
-        0 => Ok(()),
-        error => Err(io::Error::from_raw_os_error(error)),
-    }
-}
-
-/// A file mapped into memory, shared with the file.
-#[derive(Debug)]
-struct Map {
-    at: *mut u8,
-    size: usize,
-}
-
-// SAFETY: the memory is this map's alone as long as the file is locked, and any
-// thread may use it.
-unsafe impl Send for Map {}
-unsafe impl Sync for Map {}
-
-impl Map {
-    fn of(file: &File, size: usize) -> io::Result<Map> {
-        if size == 0 {
-            // Nothing can be mapped, and no octet is ever asked for.
-            let at = ptr::NonNull::dangling().as_ptr();
-            return Ok(Map { at, size });
-        }
-        // SAFETY: a new mapping, of octets that the file has.
-        let at = unsafe {
-            c::mmap(
-                ptr::null_mut(),
-                size,
-                c::PROT_READ | c::PROT_WRITE,
-                c::MAP_SHARED,
-                file.as_raw_fd(),
-                0,
-            )
-        };
-        if at as isize == -1 {
-            return Err(io::Error::last_os_error());
-        }
-        Ok(Map { at, size })
-    }
-
-    fn octets(&self) -> &[u8] {
-        // SAFETY: mapped, of this size, as long as `self` lives.
-        unsafe { slice::from_raw_parts(self.at, self.size) }
-    }
-
-    fn octets_mut(&mut self) -> &mut [u8] {
-        // SAFETY: as above, and borrowed mutably.
-        unsafe { slice::from_raw_parts_mut(self.at, self.size) }
-    }
-
-    /// Returns when all that was stored is on the disk.
-    fn sync(&self) -> io::Result<()> {
-        // SAFETY: as above; a mapping starts at a page.
-        if self.size > 0 && unsafe { c::msync(self.at, self.size, c::MS_SYNC) } != 0 {
-            return Err(io::Error::last_os_error());
-        }
-        Ok(())
-    }
-}
-
-impl Drop for Map {
-    fn drop(&mut self) {
-        if self.size > 0 {
-            // SAFETY: mapped by `of`, and used no more.
-            unsafe { c::munmap(self.at, self.size) };
+/// A new file in the folder, under a name that nobody asks for.
+fn aside(folder: &Path) -> io::Result<(PathBuf, File)> {
+    static NEXT: AtomicUsize = AtomicUsize::new(0);
+    loop {
+        let number = NEXT.fetch_add(1, Ordering::Relaxed);
+        let path = folder.join(format!(".spool-{}-{number}", process::id()));
+        let mut new = OpenOptions::new();
+        match new.read(true).write(true).create_new(true).open(&path) {
+            Err(error) if error.kind() == ErrorKind::AlreadyExists => (),
+            file => return Ok((path, file?)),
         }
     }
 }
 
-/// What the standard library has no name for, of the C library that it links;
-/// the numbers are Linux's.
-mod c {
-    pub const PROT_READ: i32 = 1;
-    pub const PROT_WRITE: i32 = 2;
-    pub const MAP_SHARED: i32 = 1;
-    pub const MS_SYNC: i32 = 4;
-
-    extern "C" {
-        pub fn mmap(
-            at: *mut u8,
-            size: usize,
-            protection: i32,
-            flags: i32,
-            file: i32,
-            from: i64,
-        ) -> *mut u8;
-        pub fn munmap(at: *mut u8, size: usize) -> i32;
-        pub fn msync(at: *mut u8, size: usize, flags: i32) -> i32;
-        pub fn posix_fallocate(file: i32, from: i64, size: i64) -> i32;
-    }
+/// How many octets the entries have, with the 0 behind them. A damaged area is
+/// never added to, and has no entries.
+fn used(area: &[u8]) -> usize {
+    let count = spool_open(area, 0).map_or(0, |opened| opened.count);
+    let last = spool_open(area, count.saturating_sub(1)).unwrap_or_default();
+    area.len().min(last.end + 1)
 }

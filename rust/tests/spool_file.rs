@@ -1,44 +1,15 @@
-//! A spool in a file: kept, locked, full, and cut. A child process adds sheets
-//! and is killed, hundreds of times; each time the file is opened again.
+//! A spool in a file: kept, locked, and on a full disk.
 #![cfg(target_os = "linux")]
 
 mod common;
 
-use std::io::ErrorKind;
-use std::os::unix::process::ExitStatusExt;
-use std::path::{Path, PathBuf};
-use std::process::{Command, Stdio};
-use std::sync::{Mutex, MutexGuard};
-use std::time::{Duration, Instant};
-use std::{env, fs, process, thread};
+use std::fs;
+use std::io::{self, ErrorKind, Write};
+use std::path::Path;
+use std::process::Command;
 
-use common::verbatim;
+use common::spools::{alone, child, path, sheets, told, CHILD};
 use etglavino::{Refusal, SpoolError, SpoolFile};
-
-/// A path that no other test has.
-fn path(name: &str) -> PathBuf {
-    let path = env::temp_dir().join(format!("etglavino-{}-{name}", process::id()));
-    let _ = fs::remove_file(&path);
-    path
-}
-
-/// One test at a time: a process that another test starts has this one's files,
-/// and so its locks, until it runs its own program.
-fn alone() -> MutexGuard<'static, ()> {
-    static ONE: Mutex<()> = Mutex::new(());
-    ONE.lock().unwrap_or_else(|failed| failed.into_inner())
-}
-
-fn sheets(file: &SpoolFile) -> Vec<Vec<u8>> {
-    let sheets: Vec<Vec<u8>> = file.sheets().expect("no damage").map(Vec::from).collect();
-    assert_eq!(file.count(), Ok(sheets.len()));
-    let last = sheets.len().saturating_sub(1);
-    assert_eq!(
-        file.sheet(last),
-        sheets.last().map_or(&b""[..], |sheet| sheet)
-    );
-    sheets
-}
 
 #[test]
 fn entries_stay() {
@@ -100,22 +71,6 @@ fn a_damaged_file() {
     fs::remove_file(path).expect("removed");
 }
 
-const CHILD: &str = "ETGLAVINO_SPOOL_CHILD";
-
-/// This test, in a process of its own, with that in its environment.
-fn child(test: &str, told: &str) -> Command {
-    let mut child = Command::new(env::current_exe().expect("a path"));
-    child
-        .args([test, "--exact", "--nocapture"])
-        .env(CHILD, told);
-    child.stdout(Stdio::null()).stderr(Stdio::null());
-    child
-}
-
-fn told() -> Option<String> {
-    env::var(CHILD).ok()
-}
-
 /// A disk that is full: a small one of its own where the system lets us have
 /// it, and else files that may not grow.
 #[test]
@@ -127,7 +82,7 @@ fn a_full_disk() {
     let folder = path("disk");
     fs::create_dir(&folder).expect("a folder");
     let own = child("a_full_disk", &folder.display().to_string());
-    let run = |script: &str| {
+    let filled = |script: &str| {
         let mut shell = Command::new("unshare");
         if !script.contains("mount") {
             shell = Command::new("sh");
@@ -136,21 +91,28 @@ fn a_full_disk() {
         }
         shell.args(["-c", script]).arg(own.get_program());
         shell.args(own.get_args()).arg(&folder);
-        shell.env(CHILD, &folder).stdout(Stdio::null());
-        shell.output().expect("a child")
+        let done = shell.env(CHILD, &folder).output().expect("a child");
+        let (out, said) = (
+            String::from_utf8_lossy(&done.stdout),
+            String::from_utf8_lossy(&done.stderr),
+        );
+        assert!(done.status.success(), "{script}: {said}");
+        assert!(out.contains(FILLED), "{script}: {out}");
     };
-    let limited = run("trap '' XFSZ; ulimit -f 64; exec \"$0\" \"$1\" \"$2\" \"$3\"");
-    let said = String::from_utf8_lossy(&limited.stderr);
-    assert!(limited.status.success(), "limited: {said}");
-    let possible = Command::new("unshare").args(["-rm", "true"]).output();
+    filled("trap '' XFSZ; ulimit -f 64; exec \"$0\" \"$1\" \"$2\" \"$3\"");
+    let mount = ["-rm", "mount", "-t", "tmpfs", "tmpfs"];
+    let possible = Command::new("unshare").args(mount).arg(&folder).output();
     if possible.is_ok_and(|done| done.status.success()) {
-        let small =
-            run("mount -t tmpfs -o size=64k tmpfs \"$4\" && exec \"$0\" \"$1\" \"$2\" \"$3\"");
-        let said = String::from_utf8_lossy(&small.stderr);
-        assert!(small.status.success(), "small disk: {said}");
+        filled("mount -t tmpfs -o size=64k tmpfs \"$4\" && exec \"$0\" \"$1\" \"$2\" \"$3\"");
+    } else {
+        // Past what the harness keeps to itself.
+        let _ = writeln!(io::stderr(), "a_full_disk: no small disk can be had");
     }
     fs::remove_dir_all(folder).expect("removed");
 }
+
+/// What a child says that has gone through `fill`.
+const FILLED: &str = "the disk was filled";
 
 fn fill(folder: &Path) {
     let path = folder.join("spool");
@@ -168,7 +130,14 @@ fn fill(folder: &Path) {
     assert_eq!(sheets(&file), [b"1:a", b"1:b"]);
     file.add(b"1:c").expect("room");
     drop(file);
+    // A file with holes that the disk has no room for.
+    let sparse = fs::File::create(folder.join("sparse")).expect("a file");
+    if sparse.set_len(1 << 20).is_ok() {
+        no_space(SpoolFile::open(folder.join("sparse")).expect_err("no space"));
+    }
+    fs::remove_file(folder.join("sparse")).expect("removed");
     fs::remove_file(path).expect("removed");
+    println!("{FILLED}");
 }
 
 fn no_space(error: SpoolError) {
@@ -177,131 +146,4 @@ fn no_space(error: SpoolError) {
     };
     let kinds = [ErrorKind::StorageFull, ErrorKind::FileTooLarge];
     assert!(kinds.contains(&error.kind()), "{error}");
-}
-
-/// Numbers that look random, the same in parent and child.
-struct Random(u64);
-
-impl Random {
-    fn below(&mut self, most: usize) -> usize {
-        self.0 = self
-            .0
-            .wrapping_mul(6_364_136_223_846_793_005)
-            .wrapping_add(1);
-        (self.0 >> 33) as usize % most
-    }
-
-    /// A sheet whose length has one group or two.
-    fn sheet(&mut self) -> Vec<u8> {
-        verbatim(self.below(180))
-    }
-}
-
-/// Stores that adding the sheet takes; there is always an octet behind.
-fn stores(sheet: &[u8]) -> usize {
-    sheet.len() + if sheet.len() < 128 { 1 } else { 2 } + 1
-}
-
-const SIZE: usize = 4_096;
-
-extern "C" {
-    fn kill(process: i32, signal: i32) -> i32;
-}
-const KILLED: i32 = 9;
-
-/// Adds sheets of a seed until so many stores are made, and is killed there.
-fn adds(told: &str) {
-    let words: Vec<&str> = told.splitn(3, ' ').collect();
-    let (seed, most) = (
-        words[0].parse().expect("a number"),
-        words[1].parse::<usize>(),
-    );
-    let mut left = most.expect("a number");
-    let mut file = SpoolFile::open(words[2]).expect("the file");
-    let mut random = Random(seed);
-    loop {
-        let watched = file.add_watched(&random.sheet(), |_| {
-            left -= 1;
-            if left == 0 {
-                // SAFETY: ends this process, which has nothing to put in order.
-                unsafe { kill(process::id() as i32, KILLED) };
-            }
-        });
-        watched.expect("room");
-    }
-}
-
-/// A child is killed after a store, three hundred times.
-#[test]
-fn killed_at_a_store() {
-    if let Some(told) = told() {
-        return adds(&told);
-    }
-    let _alone = alone();
-    let path = path("killed");
-    let mut random = Random(20_261_116);
-    let mut shown: Vec<Vec<u8>> = Vec::new();
-    drop(SpoolFile::create(&path, SIZE).expect("a file"));
-    for cut in 0..300 {
-        let (seed, most) = (random.below(1 << 20) as u64, 1 + random.below(500));
-        let told = format!("{seed} {most} {}", path.display());
-        let status = child("killed_at_a_store", &told).status().expect("a child");
-        assert_eq!(status.signal(), Some(KILLED), "cut {cut}: {status}");
-        // What the child did whole, and nothing of the rest.
-        let (mut child, mut left) = (Random(seed), most);
-        loop {
-            let sheet = child.sheet();
-            if stores(&sheet) > left {
-                break;
-            }
-            left -= stores(&sheet);
-            shown.push(sheet);
-        }
-        let file = SpoolFile::open(&path).expect("the file");
-        assert!(sheets(&file) == shown, "cut {cut}");
-        drop(file);
-        if shown.iter().map(|sheet| stores(sheet)).sum::<usize>() > SIZE - 1_000 {
-            // An emptied file, with the old octets behind its end.
-            let mut octets = fs::read(&path).expect("octets");
-            octets[0] = 0;
-            fs::write(&path, octets).expect("written");
-            shown.clear();
-        }
-    }
-    fs::remove_file(path).expect("removed");
-}
-
-/// A child is killed from outside, at any moment, a hundred times: half of them
-/// once an entry is there.
-#[test]
-fn killed_at_any_moment() {
-    if let Some(told) = told() {
-        return adds(&told);
-    }
-    let _alone = alone();
-    let path = path("moment");
-    let mut random = Random(7);
-    for cut in 0..100 {
-        drop(SpoolFile::create(&path, 1 << 16).expect("a file"));
-        let seed = random.below(1 << 20) as u64;
-        let told = format!("{seed} 60000 {}", path.display());
-        let mut running = child("killed_at_any_moment", &told)
-            .spawn()
-            .expect("a child");
-        let started = Instant::now();
-        while cut % 2 == 0 && fs::read(&path).expect("octets")[0] == 0 {
-            assert!(started.elapsed() < Duration::from_secs(60), "cut {cut}");
-        }
-        thread::sleep(Duration::from_micros(random.below(6_000) as u64));
-        running.kill().expect("killed");
-        running.wait().expect("ended");
-        let file = SpoolFile::open(&path).expect("the file");
-        let (mut child, shown) = (Random(seed), sheets(&file));
-        assert!(cut % 2 == 1 || !shown.is_empty(), "cut {cut}");
-        for (number, sheet) in shown.into_iter().enumerate() {
-            assert!(sheet == child.sheet(), "cut {cut}, sheet {number}");
-        }
-        drop(file);
-        fs::remove_file(&path).expect("removed");
-    }
 }

@@ -2,6 +2,9 @@
 //! it by hand.
 #![allow(dead_code)] // Each test file uses a part of it.
 
+#[cfg(target_os = "linux")]
+pub mod spools;
+
 use etglavino::{Extent, Refusal, MAX_CANONICAL, MAX_NODES, RECORD};
 
 /// What a lent octet holds before an entry runs.
