@@ -1,6 +1,6 @@
 //! `compare SEED COUNT`: the fixed cases and COUNT random ones of the seed, each
-//! answered by the library and by the reference program. Answers and all lent
-//! buffers must be the same; so it is with extracts, a quarter as many. What
+//! answered by the library and by the reference program; then extracts, about as
+//! many random ones again. Answers and all lent buffers must be the same. What
 //! differs is shown whole; the exit status is 1 where anything does.
 
 mod extract;
@@ -45,15 +45,16 @@ fn compare(seed: u64, count: u64) -> ExitCode {
             }
         }
     }
+    let mut extracts = extract::compare(seed, count);
+    tally.append(&mut extracts.cases);
+    differences += extracts.differences;
     for ((entry, answer), cases) in &tally {
         println!("{entry} {answer}: {cases} cases");
     }
-    let extracts = extract::compare(seed, count / 4);
-    println!("extract: {} calls", extracts.calls);
-    differences += extracts.differences;
+    println!("{} pairs of alike sheets that differ", extracts.pairs);
     println!(
         "{} cases, {differences} differences",
-        tally.values().sum::<u64>() + extracts.calls
+        tally.values().sum::<u64>()
     );
     ExitCode::from(u8::from(differences > 0))
 }

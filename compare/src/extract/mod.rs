@@ -2,158 +2,83 @@
 //! sheets worked out to be telling, random ones, and pairs that differ only
 //! inside private lists, which must leave the same behind.
 
-use etglavino::{Extent, Record, Refusal, RECORD};
+mod call;
+mod sheets;
+
+use std::collections::BTreeMap;
+
+use etglavino::RECORD;
 use reference::canonical;
 use reference::corpus::damage::damaged;
 use reference::corpus::rng::Rng;
-use reference::corpus::trees;
-use reference::entries::Reading;
-use reference::extract;
 use reference::tree::Tree;
 
-/// The word that makes a list private.
-const WORD: &[u8] = b"private";
+use call::{answers, expected, Call, Left, NUMBER, OCTET};
 
-/// What lent space holds before a call.
-const OCTET: u8 = 0xa5;
-const NUMBER: u32 = 0xdead_beef;
+const ENTRIES: [&str; 2] = ["extract", "extract_own"];
 
-/// A call's arguments.
-struct Call {
-    sheet: Vec<u8>,
-    length: usize,
-    rows: Vec<u32>,
-    nodes: usize,
-    room: usize,
-    numbers: usize,
-}
+/// Cases that a random sheet makes: nine calls, each of two entries.
+const TO_A_SHEET: u64 = 18;
 
-/// The answer's number, the values given out, and what the foreman lent.
-#[derive(Debug, PartialEq)]
-struct Left {
-    answer: u32,
-    values: [usize; 2],
-    canonical: Box<[u8]>,
-    table: Box<[u32]>,
-}
-
-/// How many calls there were and how many answers differed.
+/// Cases by entry and answer, answers that differ, and pairs of alike sheets
+/// that are not the same sheet.
+#[derive(Default)]
 pub struct Tally {
-    pub calls: u64,
+    pub cases: BTreeMap<(&'static str, u32), u64>,
     pub differences: u64,
+    pub pairs: u64,
 }
 
-/// Fixed sheets and `count` random ones of the seed, each in several rooms and
-/// with several tables.
+/// The fixed sheets and pairs, and about `count` cases of random sheets.
 pub fn compare(seed: u64, count: u64) -> Tally {
-    let mut tally = Tally {
-        calls: 0,
-        differences: 0,
-    };
+    let mut tally = Tally::default();
     let mut rng = Rng::new(seed ^ 12);
-    for sheet in FIXED {
+    for sheet in sheets::FIXED {
         let tree = canonical::parse(sheet).expect("a canonical form");
         calls(&mut rng, &tree, sheet, &mut tally);
     }
-    for _ in 0..count {
-        let tree = private(&mut rng);
+    for pair in sheets::pairs_at_limits() {
+        for (octets, numbers) in [(0, 0), (1, 0), (0, 1)] {
+            alike(&pair, octets, numbers, &mut tally);
+        }
+    }
+    for _ in 0..count / TO_A_SHEET {
+        let tree = sheets::private(&mut rng);
         let octets = tree.layout().octets;
         calls(&mut rng, &tree, &octets, &mut tally);
-        let other = refilled(&mut rng, &tree);
-        alike(&mut rng, &tree, &other, &mut tally);
+        let other = sheets::refilled(&mut rng, &tree);
+        let (fewer, less) = (rng.below(2), rng.below(2));
+        alike(&[tree.clone(), other], fewer, less, &mut tally);
         let bad = damaged(&mut rng, &octets);
-        let call = drawn(&mut rng, &tree, &bad);
-        check(&call, &mut tally);
+        check(&drawn(&mut rng, &tree, &bad), &mut tally);
     }
     tally
 }
 
-const FIXED: &[&[u8]] = &[
-    b"(7:private1:a)",
-    b"(7:private)",
-    b"7:private",
-    b"(1:a7:private)",
-    b"([1:h]7:private1:a)",
-    b"([0:]7:private)",
-    b"([7:private]7:private)",
-    b"(7:Private1:a)",
-    b"(7:PRIVATE)",
-    b"(6:privat)",
-    b"(8:private )",
-    b"((7:private)7:private)",
-    b"(1:a(7:private(7:private1:b))(1:c(7:private)))",
-    b"((7:private)(7:private)(7:private))",
-    b"(0:(7:private0:))",
-    b"()",
-];
-
-/// A random tree in which many lists begin with the word, or nearly.
-fn private(rng: &mut Rng) -> Tree {
-    let (nodes, depth) = (1 + rng.below(30), rng.below(8));
-    let mut tree = trees::tree(rng, nodes, depth);
-    mark(rng, &mut tree);
-    tree
-}
-
-fn mark(rng: &mut Rng, tree: &mut Tree) {
-    let Tree::List(items) = tree else {
-        return;
-    };
-    for item in items.iter_mut() {
-        mark(rng, item);
-    }
-    let first = match rng.below(12) {
-        0..=2 => Tree::text(WORD),
-        3 => Tree::hinted(b"h", WORD),
-        4 => Tree::hinted(b"", WORD),
-        5 => Tree::text(b"Private"),
-        6 => Tree::text(b"privatE"),
-        7 => Tree::text(b"privately"),
-        8 => {
-            items.push(Tree::text(WORD));
-            return;
-        }
-        _ => return,
-    };
-    items.insert(0, first);
-}
-
-/// The tree with other elements behind the word in private lists: alike.
-fn refilled(rng: &mut Rng, tree: &Tree) -> Tree {
-    match tree {
-        Tree::Text { .. } => tree.clone(),
-        Tree::List(items) => match items.first() {
-            Some(Tree::Text { hint: None, data }) if data == WORD => {
-                let mut other = vec![Tree::text(WORD)];
-                other.extend((0..rng.below(4)).map(|_| trees::small(rng)));
-                Tree::List(other)
-            }
-            _ => Tree::List(items.iter().map(|item| refilled(rng, item)).collect()),
-        },
+/// A sheet with its own table, in so much room.
+fn own(tree: &Tree, room: usize, numbers: usize) -> Call {
+    let layout = tree.layout();
+    Call {
+        length: layout.octets.len(),
+        nodes: layout.records.len(),
+        rows: layout.records.as_flattened().to_vec(),
+        sheet: layout.octets,
+        room,
+        numbers,
     }
 }
 
 /// A sheet in all the room it takes, by one too little, and with tables and
 /// lengths that are not its own.
 fn calls(rng: &mut Rng, tree: &Tree, sheet: &[u8], tally: &mut Tally) {
-    let layout = tree.layout();
     let shown = tree.extract().layout();
     let (octets, numbers) = (shown.octets.len(), RECORD * shown.records.len());
-    let own = |room: usize, numbers: usize| Call {
-        sheet: sheet.to_vec(),
-        length: sheet.len(),
-        rows: layout.records.as_flattened().to_vec(),
-        nodes: layout.records.len(),
-        room,
-        numbers,
-    };
-    check(&own(octets, numbers), tally);
-    check(&own(octets - 1, numbers), tally);
-    check(&own(octets, numbers - 1), tally);
-    check(&own(octets - 1, numbers - 1), tally);
-    check(&own(octets + 9, numbers + 13), tally);
-    let call = drawn(rng, tree, sheet);
-    check(&call, tally);
+    check(&own(tree, octets, numbers), tally);
+    check(&own(tree, octets - 1, numbers), tally);
+    check(&own(tree, octets, numbers - 1), tally);
+    check(&own(tree, octets - 1, numbers - 1), tally);
+    check(&own(tree, octets + 9, numbers + 13), tally);
+    check(&drawn(rng, tree, sheet), tally);
 }
 
 /// A call in which anything may be wrong.
@@ -187,146 +112,45 @@ fn drawn(rng: &mut Rng, tree: &Tree, sheet: &[u8]) -> Call {
     }
 }
 
-/// Two alike sheets, each with its own table, in the same room.
-fn alike(rng: &mut Rng, one: &Tree, other: &Tree, tally: &mut Tally) {
-    let shown = one.extract().layout();
-    let room = (shown.octets.len() + 1).saturating_sub(rng.below(3));
-    let numbers = (RECORD * shown.records.len() + 1).saturating_sub(rng.below(3));
-    let call = |tree: &Tree| {
-        let layout = tree.layout();
-        Call {
-            length: layout.octets.len(),
-            nodes: layout.records.len(),
-            rows: layout.records.as_flattened().to_vec(),
-            sheet: layout.octets,
-            room,
-            numbers,
-        }
-    };
-    let (one, other) = (call(one), call(other));
-    check(&one, tally);
-    check(&other, tally);
-    for (a, b) in ways(&one).into_iter().zip(ways(&other)) {
-        tally.calls += 1;
+/// Two alike sheets, each with its own table, in the same room: what their
+/// extract takes, less what is said.
+fn alike(pair: &[Tree; 2], octets: usize, numbers: usize, tally: &mut Tally) {
+    let shown = pair[0].extract().layout();
+    let room = shown.octets.len() - octets;
+    let numbers = RECORD * shown.records.len() - numbers;
+    let [one, other] = pair.each_ref().map(|tree| own(tree, room, numbers));
+    tally.pairs += u64::from(one.sheet != other.sheet);
+    let (left, right) = (check(&one, tally), check(&other, tally));
+    for (a, b) in left.as_flattened().iter().zip(right.as_flattened()) {
         if a.1 != b.1 {
             differs(&one, "an alike sheet", &a.1, &b.1, tally);
         }
     }
 }
 
-fn check(call: &Call, tally: &mut Tally) {
-    let (alone, own) = expected(call);
-    for (way, left) in ways(call) {
-        let wanted = if way.starts_with("own") { &own } else { &alone };
-        tally.calls += 1;
-        if left != *wanted {
-            differs(call, way, &left, wanted, tally);
+/// Both entries; what the library left.
+fn check(call: &Call, tally: &mut Tally) -> [[(&'static str, Left); 2]; 2] {
+    let answered = answers(call);
+    for ((entry, wanted), ways) in ENTRIES.into_iter().zip(expected(call)).zip(&answered) {
+        *tally.cases.entry((entry, wanted.answer)).or_default() += 1;
+        for (way, left) in ways {
+            if *left != wanted {
+                differs(call, &format!("{entry}, {way}"), left, &wanted, tally);
+            }
         }
     }
+    answered
 }
 
-fn differs(call: &Call, way: &str, left: &Left, wanted: &Left, tally: &mut Tally) {
+fn differs(call: &Call, what: &str, left: &Left, wanted: &Left, tally: &mut Tally) {
     tally.differences += 1;
-    if tally.differences <= 5 {
+    if tally.differences <= crate::SHOWN {
         println!(
-            "extract, {way}, of {} octets of {} in {} octets and {} numbers: {left:?}, not {wanted:?}",
+            "{what}, of {} octets of {} in {} octets and {} numbers: {left:?}, not {wanted:?}",
             call.length,
             call.sheet.escape_ascii(),
             call.room,
             call.numbers
         );
-    }
-}
-
-/// What the reference program leaves, without the sheet's table and with it.
-fn expected(call: &Call) -> (Left, Left) {
-    let (mut canonical, mut table) = lent(call);
-    let reading = extract::extract(&call.sheet, call.length, &mut canonical, &mut table);
-    let alone = left(told(reading), canonical, table);
-    let (mut canonical, mut table) = lent(call);
-    let reading = extract::extract_own(
-        &call.sheet,
-        call.length,
-        &call.rows,
-        call.nodes,
-        &mut canonical,
-        &mut table,
-    );
-    (alone, left(told(reading), canonical, table))
-}
-
-fn told(reading: Reading) -> Result<Extent, u32> {
-    match reading {
-        Reading::Accepted { length, nodes } => Ok(Extent { length, nodes }),
-        Reading::Refused(refusal) => Err(refusal),
-    }
-}
-
-fn lent(call: &Call) -> (Box<[u8]>, Box<[u32]>) {
-    (
-        vec![OCTET; call.room].into_boxed_slice(),
-        vec![NUMBER; call.numbers].into_boxed_slice(),
-    )
-}
-
-fn left(answer: Result<Extent, u32>, canonical: Box<[u8]>, table: Box<[u32]>) -> Left {
-    let extent = answer.unwrap_or_default();
-    Left {
-        answer: answer.err().unwrap_or(0),
-        values: [extent.length, extent.nodes],
-        canonical,
-        table,
-    }
-}
-
-/// What the library leaves, by each of its ways.
-fn ways(call: &Call) -> [(&'static str, Left); 4] {
-    let sheet: Box<[u8]> = call.sheet.clone().into();
-    let rows: Box<[u32]> = call.rows.clone().into();
-    let extent = Extent {
-        length: call.length,
-        nodes: call.nodes,
-    };
-    let (mut canonical, mut table) = lent(call);
-    let answer = etglavino::extract(&sheet, call.length, &mut canonical, &mut table);
-    let flat = left(answer.map_err(Refusal::number), canonical, table);
-
-    let (mut canonical, mut table) = lent(call);
-    let answer = etglavino::extract_own(&sheet, &rows, extent, &mut canonical, &mut table);
-    let own = left(answer.map_err(Refusal::number), canonical, table);
-
-    let (mut canonical, mut table) = lent(call);
-    let mut records = as_records(&table);
-    let answer = etglavino::extract_records(&sheet, call.length, &mut canonical, &mut records);
-    spell(&records, &mut table);
-    let recorded = left(answer.map_err(Refusal::number), canonical, table);
-
-    let (mut canonical, mut table) = lent(call);
-    let mut records = as_records(&table);
-    let answer = etglavino::extract_own_records(
-        &sheet,
-        &as_records(&rows),
-        extent,
-        &mut canonical,
-        &mut records,
-    );
-    spell(&records, &mut table);
-    let own_recorded = left(answer.map_err(Refusal::number), canonical, table);
-    [
-        ("flat", flat),
-        ("own, flat", own),
-        ("records", recorded),
-        ("own, records", own_recorded),
-    ]
-}
-
-fn as_records(numbers: &[u32]) -> Box<[Record]> {
-    let spelled = |eight| Record::from(<[u32; RECORD]>::try_from(eight).expect("eight numbers"));
-    numbers.chunks_exact(RECORD).map(spelled).collect()
-}
-
-fn spell(records: &[Record], numbers: &mut [u32]) {
-    for (eight, record) in numbers.chunks_exact_mut(RECORD).zip(records) {
-        eight.copy_from_slice(&<[u32; RECORD]>::from(*record));
     }
 }
