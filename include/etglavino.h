@@ -26,20 +26,20 @@
  *
  * Stack that a call takes at most, in octets (x86-64), besides what the C
  * library's memset and memcpy take:
- *   etg_read              84,896
- *   etg_read_records      84,112
- *   etg_write             33,552
- *   etg_replace          116,528
- *   etg_replace_records  247,648
- *   etg_same                 912
- *   etg_hint              33,568
- *   etg_hint_records      33,616
- *   etg_data              33,568
- *   etg_data_records      33,616
- *   etg_extract          100,720
- *   etg_extract_own      100,720
- *   etg_extract_records  100,704
- *   etg_extract_own_records 100,704
+ *   etg_read                  84,896
+ *   etg_read_records          84,112
+ *   etg_write                 33,552
+ *   etg_replace              116,528
+ *   etg_replace_records      247,648
+ *   etg_same                     912
+ *   etg_hint                  33,568
+ *   etg_hint_records          33,616
+ *   etg_data                  33,568
+ *   etg_data_records          33,616
+ *   etg_extract              100,720
+ *   etg_extract_own          100,720
+ *   etg_extract_records      100,704
+ *   etg_extract_own_records  100,704
  *
  * Refusals. Every function but those that find a hint or data returns one of
  * these numbers. In a refusal the values given out are 0, and every lent
