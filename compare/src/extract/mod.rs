@@ -38,17 +38,15 @@ pub fn compare(seed: u64, count: u64) -> Tally {
         calls(&mut rng, &tree, sheet, &mut tally);
     }
     for pair in sheets::pairs_at_limits() {
-        for (octets, numbers) in [(0, 0), (1, 0), (0, 1)] {
-            alike(&pair, octets, numbers, &mut tally);
-        }
+        alike(&pair, &[(0, 0), (1, 0), (0, 1)], &mut tally);
     }
     for _ in 0..count / TO_A_SHEET {
         let tree = sheets::private(&mut rng);
         let octets = tree.layout().octets;
         calls(&mut rng, &tree, &octets, &mut tally);
         let other = sheets::refilled(&mut rng, &tree);
-        let (fewer, less) = (rng.below(2), rng.below(2));
-        alike(&[tree.clone(), other], fewer, less, &mut tally);
+        let less = (rng.below(2), rng.below(2));
+        alike(&[tree.clone(), other], &[less], &mut tally);
         let bad = damaged(&mut rng, &octets);
         check(&drawn(&mut rng, &tree, &bad), &mut tally);
     }
@@ -112,18 +110,20 @@ fn drawn(rng: &mut Rng, tree: &Tree, sheet: &[u8]) -> Call {
     }
 }
 
-/// Two alike sheets, each with its own table, in the same room: what their
-/// extract takes, less what is said.
-fn alike(pair: &[Tree; 2], octets: usize, numbers: usize, tally: &mut Tally) {
+/// Two alike sheets, each with its own table, in the same rooms: what their
+/// extract takes, less so many octets and numbers.
+fn alike(pair: &[Tree; 2], less: &[(usize, usize)], tally: &mut Tally) {
+    tally.pairs += u64::from(pair[0].layout().octets != pair[1].layout().octets);
     let shown = pair[0].extract().layout();
-    let room = shown.octets.len() - octets;
-    let numbers = RECORD * shown.records.len() - numbers;
-    let [one, other] = pair.each_ref().map(|tree| own(tree, room, numbers));
-    tally.pairs += u64::from(one.sheet != other.sheet);
-    let (left, right) = (check(&one, tally), check(&other, tally));
-    for (a, b) in left.as_flattened().iter().zip(right.as_flattened()) {
-        if a.1 != b.1 {
-            differs(&one, "an alike sheet", &a.1, &b.1, tally);
+    for (octets, numbers) in less {
+        let room = shown.octets.len() - octets;
+        let numbers = RECORD * shown.records.len() - numbers;
+        let [one, other] = pair.each_ref().map(|tree| own(tree, room, numbers));
+        let (left, right) = (check(&one, tally), check(&other, tally));
+        for (a, b) in left.as_flattened().iter().zip(right.as_flattened()) {
+            if a.1 != b.1 {
+                differs(&one, "an alike sheet", &a.1, &b.1, tally);
+            }
         }
     }
 }
