@@ -17,7 +17,7 @@ import sys
 ROOT = os.path.join(os.path.dirname(os.path.abspath(__file__)), "..")
 ARCHIVE = os.path.join(ROOT, "target", "staticlib", "libetglavino_c.a")
 # The lines that tell an entry's figure.
-TOLD = {"include/etglavino.h": " *   {:<22}{:>7}", "docs/TRUST.md": "| `{}` | {} |"}
+TOLD = {"include/etglavino.h": " *   {:<23}{:>9}", "docs/TRUST.md": "| `{}` | {} |"}
 WORD = 8
 HEAD = re.compile(r"^[0-9a-f]+ <(.+)>:$")
 LINE = re.compile(r"^ *([0-9a-f]+):\t(\S+) *(.*)$")

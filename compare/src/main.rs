@@ -1,9 +1,9 @@
 //! `compare SEED COUNT`: the fixed cases and COUNT random ones of the seed, each
-//! answered by the library and by the reference program. Answers and all lent
-//! buffers must be the same; so it is with extracts, a quarter as many. Spools
-//! come after them; then the fixed sheets of values and hours, and a tenth as
-//! many random ones, node by node. Of what differs the first five of each part
-//! are shown, the rest counted; the exit status is 1 where anything does.
+//! answered by the library and by the reference program; then extracts, about as
+//! many random ones again; then spools; then the fixed sheets of values and
+//! hours, and a tenth as many random ones, node by node. Answers and all lent
+//! buffers must be the same. Of what differs the first five of each part are
+//! shown, the rest counted; the exit status is 1 where anything does.
 
 mod extract;
 mod library;
@@ -49,15 +49,16 @@ fn compare(seed: u64, count: u64) -> ExitCode {
             }
         }
     }
+    let mut extracts = extract::compare(seed, count);
+    tally.append(&mut extracts.cases);
+    differences += extracts.differences;
     for ((entry, answer), cases) in &tally {
         println!("{entry} {answer}: {cases} cases");
     }
-    let extracts = extract::compare(seed, count / 4);
-    println!("extract: {} calls", extracts.calls);
-    differences += extracts.differences;
+    println!("{} pairs of alike sheets that differ", extracts.pairs);
     println!(
         "{} cases, {differences} differences",
-        tally.values().sum::<u64>() + extracts.calls
+        tally.values().sum::<u64>()
     );
     differences += spool::compare(seed, count);
     let typed = values::compare(seed, count.div_ceil(10));

@@ -1,4 +1,5 @@
-/* Reads a text, shows a node, replaces it and writes the result in form 3:
+/* Reads a text, shows a node, replaces it and writes the result in form 3, whole
+ * and as a foreman may see it:
  *
  *     correct TEXT NODE REPLACEMENT
  *
@@ -13,6 +14,10 @@ static uint8_t canonical[ETG_MOST_CANONICAL];
 static uint32_t table[ETG_MOST_NODES * ETG_RECORD];
 static uint8_t out[2 * ETG_MOST_CANONICAL];
 
+/* The foreman's own sheet and table. */
+static uint8_t shown[ETG_MOST_CANONICAL];
+static uint32_t shown_table[ETG_MOST_NODES * ETG_RECORD];
+
 static void show(const char *name, const uint8_t *octets, size_t count)
 {
     printf("%s: ", name);
@@ -24,6 +29,36 @@ static int refused(const char *step, uint32_t number)
 {
     printf("%s: refused %u\n", step, (unsigned)number);
     return 1;
+}
+
+/* What a foreman may see of the sheet, by each of the two ways to ask for it. */
+static int foreman(size_t length, size_t nodes)
+{
+    size_t shown_length, shown_nodes, written;
+    uint32_t number;
+
+    number = etg_extract(canonical, sizeof canonical, length,
+                         shown, sizeof shown,
+                         shown_table, sizeof shown_table / sizeof *shown_table,
+                         &shown_length, &shown_nodes);
+    if (number != ETG_ACCEPTED)
+        return refused("extract", number);
+    show("extract", shown, shown_length);
+
+    /* With the table at hand, and room for just that many records. */
+    number = etg_extract_own(canonical, sizeof canonical, length,
+                             table, sizeof table / sizeof *table, nodes,
+                             shown, sizeof shown,
+                             shown_table, shown_nodes * ETG_RECORD,
+                             &shown_length, &shown_nodes);
+    if (number != ETG_ACCEPTED)
+        return refused("extract", number);
+    number = etg_write(ETG_ADVANCED, shown, sizeof shown, shown_length,
+                       out, sizeof out, &written);
+    if (number != ETG_ACCEPTED)
+        return refused("write", number);
+    show("for the foreman", out, written);
+    return 0;
 }
 
 int main(int argc, char **argv)
@@ -61,5 +96,5 @@ int main(int argc, char **argv)
     if (number != ETG_ACCEPTED)
         return refused("write", number);
     show("written", out, written);
-    return 0;
+    return foreman(length, nodes);
 }

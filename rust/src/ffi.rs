@@ -1,4 +1,5 @@
-//! The C interface, as `include/etglavino.h` declares it.
+//! The C interface, as `include/etglavino.h` declares it; that of extracts is in
+//! `extract.rs`.
 
 use crate::Record;
 

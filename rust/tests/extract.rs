@@ -113,26 +113,37 @@ fn rooms_are_judged_on_the_extract() {
 
 #[test]
 fn a_bad_sheet_or_table_comes_first() {
-    let (mut canonical, mut table) = ([OCTET; 8], [NUMBER; 8]);
-    let bad = etglavino::extract(b"(1:a", 4, &mut canonical[..0], &mut table[..0]);
-    assert_eq!(bad, Err(Refusal::NotOwn));
-    let beyond = etglavino::extract(b"()", 3, &mut canonical, &mut table);
-    assert_eq!(beyond, Err(Refusal::NotOwn));
+    let (mut canonical, mut table) = ([OCTET; 8], [NUMBER; 16]);
+    let mut records = [other(); 2];
+    for (sheet, length) in [
+        (&b"(1:a"[..], 4),
+        (b"()", 3),
+        (b"()", 1),
+        (b"()", usize::MAX),
+    ] {
+        let none = etglavino::extract(sheet, length, &mut canonical[..0], &mut table[..0]);
+        let room = etglavino::extract(sheet, length, &mut canonical, &mut table);
+        let recorded = etglavino::extract_records(sheet, length, &mut canonical, &mut records);
+        assert_eq!([none, room, recorded], [Err(Refusal::NotOwn); 3]);
+    }
     let rows = [2, 0, 2, 1, 0, 0, 1, 1];
     let extent = Extent {
         length: 2,
         nodes: 1,
     };
-    let own = etglavino::extract_own(b"()", &rows, extent, &mut canonical, &mut table);
-    assert_eq!(own, Ok(extent));
     for place in 0..RECORD {
         let mut foreign = rows;
         foreign[place] += 1;
-        let refused = etglavino::extract_own(b"()", &foreign, extent, &mut canonical, &mut table);
-        assert_eq!(refused, Err(Refusal::NotOwn));
-        let records = as_records(&foreign);
-        let refused =
-            etglavino::extract_own_records(b"()", &records, extent, &mut canonical, &mut []);
-        assert_eq!(refused, Err(Refusal::NotOwn));
+        let flat = etglavino::extract_own(b"()", &foreign, extent, &mut canonical, &mut table);
+        let foreign = as_records(&foreign);
+        let recorded =
+            etglavino::extract_own_records(b"()", &foreign, extent, &mut canonical, &mut records);
+        let none = etglavino::extract_own_records(b"()", &foreign, extent, &mut canonical, &mut []);
+        assert_eq!([flat, recorded, none], [Err(Refusal::NotOwn); 3]);
     }
+    // Nothing was written in any of these, and the sheet's own table is accepted.
+    assert_eq!((canonical, table), ([OCTET; 8], [NUMBER; 16]));
+    assert_eq!(records, [other(); 2]);
+    let own = etglavino::extract_own(b"()", &rows, extent, &mut canonical, &mut table);
+    assert_eq!(own, Ok(extent));
 }

@@ -95,14 +95,37 @@ module _ (src notes : List ℕ) (n k : ℕ) (g : Node src notes n k) where
     unfolding private
     tells-empty d = record { is = λ t e h. second-no (eqb (rowOf t k .kind) 2) (ltb 1 (rowOf t k .count)) (begins src (drop (suc k) (rows t 0))) (le-ltb 1 (rowOf t k .count) (omega (arith, as-coded t h .counts))) }
 
-    module _ (two : 2 ≤ row .nodes) where
-      next-there : k + 1 < n
-      next-there =
+    -- a node in it
+    module _ (i : ℕ) (within : i < row .nodes) where
+      inner-there : k + i < n
+      inner-there =
           let t : Tree = g .sheet .tree in
           omega (arith, as-coded t held .counts, node-within t k (here notes n t held k (g .there)) (heads notes n t held k (g .there)), held .counted)
 
-      pub next-readable : Readable notes (k + 1)
-      next-readable = holds-readable notes n (g .sheet .tree) held (k + 1) next-there
+      pub inner-readable : Readable notes (k + i)
+      inner-readable = holds-readable notes n (g .sheet .tree) held (k + i) inner-there
+
+      module _ (inner : coded.Row) (is-inner : RowIs inner (rowAt notes (k + i))) where
+        abbrev inner-coded : (t : Tree) → Holds notes n t → Coded inner (rowOf t (k + i))
+        inner-coded t h = coded-row notes n t h (k + i) inner-there inner is-inner
+
+        inner-heads : (t : Tree) → Holds notes n t → Heading (length (canon t)) 0 (rowOf t (k + i)) (drop (suc (k + i)) (rows t 0))
+        inner-heads t h = heads notes n t h (k + i) inner-there
+
+        pub inner-ordered : inner .«data_start» ≤ inner .«data_end»
+        inner-ordered =
+            let t : Tree = g .sheet .tree in
+            omega (arith, inner-coded t held .starts, inner-coded t held .ends, inner-heads t held .ordered)
+
+        pub inner-inside : inner .«data_end» ≤ length src
+        inner-inside =
+            let t : Tree = g .sheet .tree in
+            omega (arith, inner-coded t held .ends, inner-heads t held .inside, ap length (g .sheet .is))
+
+    -- the first of them
+    module _ (two : 2 ≤ row .nodes) where
+      next-there : k + 1 < n
+      next-there = inner-there 1 (omega arith)
 
       module _ (first : coded.Row) (is-first : RowIs first (rowAt notes (k + 1))) where
         abbrev first-coded : (t : Tree) → Holds notes n t → Coded first (rowOf t (k + 1))
@@ -110,19 +133,6 @@ module _ (src notes : List ℕ) (n k : ℕ) (g : Node src notes n k) where
 
         rest-is : (t : Tree) → Holds notes n t → drop (suc k) (rows t 0) ≡ rowOf t (k + 1) ∷ drop (suc (k + 1)) (rows t 0)
         rest-is t h = ap (λ (i : ℕ). drop i (rows t 0)) (sym (add-one k)) ∙ rows-from t (k + 1) (here notes n t h (k + 1) next-there)
-
-        heads-first : (t : Tree) → Holds notes n t → Heading (length (canon t)) 0 (rowOf t (k + 1)) (drop (suc (k + 1)) (rows t 0))
-        heads-first t h = heads notes n t h (k + 1) next-there
-
-        pub first-ordered : first .«data_start» ≤ first .«data_end»
-        first-ordered =
-            let t : Tree = g .sheet .tree in
-            omega (arith, first-coded t held .starts, first-coded t held .ends, heads-first t held .ordered)
-
-        pub first-inside : first .«data_end» ≤ length src
-        first-inside =
-            let t : Tree = g .sheet .tree in
-            omega (arith, first-coded t held .ends, heads-first t held .inside, ap length (g .sheet .is))
 
         begins-first : (t : Tree) → Holds notes n t → begins src (drop (suc k) (rows t 0)) ≡ both (eqb (first .kind) 0) (equal (part src (first .«data_start») (first .«data_end»)) word)
         unfolding begins

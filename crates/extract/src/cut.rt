@@ -54,7 +54,7 @@ fn private(src: &[u8], notes: &[usize; limits::NODES], nodes: usize, node: usize
     is_word(src, first.data_start as usize, first.data_end as usize)
 }
 
-// The octets of the extract, from the front; their number. A private list's notes are hopped over, and its octets never looked at.
+// The octets of the extract, from the front; their number. A private list's notes are hopped over, and its octets are not copied.
 pub fn cut(src: &[u8], notes: &[usize; limits::NODES], nodes: usize, out: &mut [u8]) -> usize
     requires { ⌜ Cuttable (now src) (now notes) nodes (length (now out)) ⌝ }
     ensures { λ r. ⌜ Cuts (now (src .entry)) (now (notes .entry)) nodes (now (out .entry)) (now (out .exit)) r ⌝ }
