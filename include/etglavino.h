@@ -27,33 +27,33 @@
  *
  * Stack that a call takes at most, in octets (x86-64), besides what the C
  * library's memset and memcpy take:
- *   etg_read              84,896
- *   etg_read_records      84,112
- *   etg_write             33,552
- *   etg_replace           84,656
- *   etg_replace_records   84,464
- *   etg_same                 912
- *   etg_hint              33,584
- *   etg_hint_records      33,616
- *   etg_data              33,584
- *   etg_data_records      33,616
- *   etg_spool_open            864
- *   etg_spool_add_start       928
- *   etg_spool_add_step         40
- *   etg_spool_add_commits       8
- *   etg_spool_add             944
- *   etg_value             33,536
- *   etg_value_records     33,504
- *   etg_put_value             16
- *   etg_line              33,536
- *   etg_line_records      33,504
- *   etg_total                 72
- *   etg_week              33,536
- *   etg_week_records      33,520
- *   etg_extract          100,720
- *   etg_extract_own      100,720
- *   etg_extract_records  100,704
- *   etg_extract_own_records 100,704
+ *   etg_read                  84,896
+ *   etg_read_records          84,112
+ *   etg_write                 33,552
+ *   etg_replace               84,672
+ *   etg_replace_records       84,464
+ *   etg_same                     912
+ *   etg_hint                  33,584
+ *   etg_hint_records          33,616
+ *   etg_data                  33,584
+ *   etg_data_records          33,616
+ *   etg_spool_open               864
+ *   etg_spool_add_start          928
+ *   etg_spool_add_step            40
+ *   etg_spool_add_commits          8
+ *   etg_spool_add                944
+ *   etg_value                 33,536
+ *   etg_value_records         33,504
+ *   etg_put_value                 16
+ *   etg_line                  33,536
+ *   etg_line_records          33,504
+ *   etg_total                     72
+ *   etg_week                  33,536
+ *   etg_week_records          33,520
+ *   etg_extract              100,720
+ *   etg_extract_own          100,720
+ *   etg_extract_records      100,704
+ *   etg_extract_own_records  100,704
  *
  * Refusals. Every function but those that find a hint or data, or that go on
  * with an addition to a spool, returns one of these numbers. In a refusal the

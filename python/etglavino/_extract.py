@@ -5,7 +5,7 @@ from __future__ import annotations
 import ctypes
 from typing import Union
 
-from ._entries import RECORD, Octets, Table, _check, _room, _taken
+from ._entries import RECORD, Octets, Table, _room, _taken, check
 from ._library import load
 from ._sheet import Sheet, _canonical
 
@@ -29,5 +29,5 @@ def extract(sheet: Union[Sheet, Octets]) -> Sheet:
         number = load().etg_extract_own(*own, rows, len(rows), len(rows) // RECORD, *lent)
     else:
         number = load().etg_extract(*own, *lent)
-    _check(number)
+    check(number)
     return Sheet._of(*_taken(octets, length, numbers, nodes))

@@ -64,7 +64,7 @@ fn room_is_judged_on_the_extract_and_the_sheet_first() {
         Reading::Accepted { nodes, .. } => nodes,
         Reading::Refused(refusal) => panic!("refused {refusal}"),
     };
-    let mut given = |room: usize, records: usize, length: usize, count: usize| {
+    let given = |room: usize, records: usize, length: usize, count: usize| {
         let (mut canonical, mut table) = (vec![7; room], vec![7; RECORD * records]);
         let alone = extract(sheet, length, &mut canonical.clone(), &mut table.clone());
         let own = extract_own(sheet, length, &rows, count, &mut canonical, &mut table);
