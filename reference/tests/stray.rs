@@ -19,8 +19,8 @@ fn verbatim(octets: &[usize]) -> Vec<u8> {
 fn every_last_letter_between_bars() {
     for (value, letter) in LETTERS.iter().enumerate() {
         // `Y` is 24, `W` is 22: `Yx` has four bits too many, `YWx` two.
-        let two = (value % 16 == 0).then(|| vec![24 << 2 | value / 16]);
-        let three = (value % 4 == 0).then(|| vec![97, (22 % 16) << 4 | value / 4]);
+        let two = (value % 16 == 0).then(|| vec![(24 << 2) | (value / 16)]);
+        let three = (value % 4 == 0).then(|| vec![97, ((22 % 16) << 4) | (value / 4)]);
         for (octets, letters, most) in [(two, &b"Y"[..], 2), (three, b"YW", 1)] {
             let expected = octets.ok_or(3).map(|octets| verbatim(&octets));
             for pads in 0..=most {
@@ -38,7 +38,7 @@ fn every_last_letter_in_braces() {
         // `MjphY` is `2:a` and six bits of an octet; the last letter has the other two.
         let text = [b"{MjphY", &[*letter][..], b"==}"].concat();
         let expected = match value % 16 {
-            0 => Ok(verbatim(&[97, 24 << 2 | value / 16])),
+            0 => Ok(verbatim(&[97, (24 << 2) | (value / 16)])),
             _ => Err(3),
         };
         assert_eq!(canonical(2, &text), expected, "{}", char::from(*letter));
