@@ -12,6 +12,7 @@ use lib.Seq.{sets}
 use borrow.Author.Tests.{eq-eqb, ne-eqb}
 use Rattle.base.specs.Choice.{chain}
 use Rattle.base.proofs.Cases.{picked, unpicked, none-some, chain-cases}
+use Rattle.model.specs.Grammar.{rules}
 use Rattle.model.specs.Decode.{nest, decode₃}
 use Rattle.model.specs.Lexemes.{Lexeme, opening, closing, lexeme, before, lexemes}
 use Rattle.model.specs.Limits.{maxCanonical, maxDepth}
@@ -41,7 +42,7 @@ use Rattle.advanced.specs.Converted.{Sheetable, Converts, Wrapped, Enoug
 -- ---- lexemes passed and to come
 
 -- the octets of the lexemes, one after the other, are the canonical form
-lexemes-canon : (src : List ℕ) (ls : List Lexeme) (t : Tree) → lexemes src ≡ some ls → chain (lexemes src) nest ≡ some t → octetsOfLexemes ls ≡ canon t
+lexemes-canon : (src : List ℕ) (ls : List Lexeme) (t : Tree) → lexemes rules src ≡ some ls → chain (lexemes rules src) nest ≡ some t → octetsOfLexemes ls ≡ canon t
 unfolding chain
 lexemes-canon src ls t e h = ap octetsOfLexemes (nest-sound ls t (rw e at h)) ∙ unnest-canon t
 
@@ -70,18 +71,18 @@ unfolding octetsOfLexemes
 octets-more a l = octets-both a (l ∷ []) ∙ ap (λ (x : List ℕ). octetsOfLexemes a ++ x) (append-nil (octetsOfLexeme l))
 
 module _ (src : List ℕ) (at i : ℕ) (e : skip (drop at src) ≡ drop i src) (h : i < length src) where
-  place-next : (l : Lexeme) (k : List ℕ) → lexeme (drop i src) ≡ got l k → lexemes (drop at src) ≡ before l (lexemes k)
-  place-next l k f = lexemes-next (drop at src) (getD src i 0) (drop (i + 1) src) k l (e ∙ one-here src i h) (ap lexeme (sym (one-here src i h)) ∙ f)
+  place-next : (l : Lexeme) (k : List ℕ) → lexeme rules (drop i src) ≡ got l k → lexemes rules (drop at src) ≡ before l (lexemes rules k)
+  place-next l k f = lexemes-next (drop at src) (getD src i 0) (drop (i + 1) src) k l (e ∙ one-here src i h) (ap (lexeme rules) (sym (one-here src i h)) ∙ f)
 
-  place-none : lexeme (drop i src) ≡ refused → lexemes (drop at src) ≡ none
-  place-none f = lexemes-none (drop at src) (getD src i 0) (drop (i + 1) src) (e ∙ one-here src i h) (ap lexeme (sym (one-here src i h)) ∙ f)
+  place-none : lexeme rules (drop i src) ≡ refused → lexemes rules (drop at src) ≡ none
+  place-none f = lexemes-none (drop at src) (getD src i 0) (drop (i + 1) src) (e ∙ one-here src i h) (ap (lexeme rules) (sym (one-here src i h)) ∙ f)
 
-  past-shut : (c : Count) → shut c ≡ true → walking (lexemes (drop at src)) c ≡ none
+  past-shut : (c : Count) → shut c ≡ true → walking (lexemes rules (drop at src)) c ≡ none
   unfolding chain
-  past-shut c s = by (lexeme (drop i src)) refl
+  past-shut c s = by (lexeme rules (drop i src)) refl
     where
-      by : (x : Read Lexeme) → lexeme (drop i src) ≡ x → walking (lexemes (drop at src)) c ≡ none
-      by (got l k) f = ap (λ (y : Option (List Lexeme)). walking y c) (place-next l k f) ∙ walking-shut l (lexemes k) c s
+      by : (x : Read Lexeme) → lexeme rules (drop i src) ≡ x → walking (lexemes rules (drop at src)) c ≡ none
+      by (got l k) f = ap (λ (y : Option (List Lexeme)). walking y c) (place-next l k f) ∙ walking-shut l (lexemes rules k) c s
       by refused f = ap (λ (y : Option (List Lexeme)). walking y c) (place-none f)
 
 -- there is room for a string at any place
@@ -94,7 +95,7 @@ enough n room at o (largest h) a b c = omega arith
 -- keeping what is still to come of a tree's text gives its notes; places are those of the canonical form
 pub record Coming (src notes₀ starts nodeNos notes : List ℕ) (at len opened deepest seen : ℕ) (t : Tree) : Type 0 where
   pub to-come : List Lexeme
-  pub lexes : lexemes (drop at src) ≡ some to-come
+  pub lexes : lexemes rules (drop at src) ≡ some to-come
   pub kept : Kept (sets notes₀ 0 (noted t)) starts nodeNos notes len opened deepest seen t to-come
 
 pub record Converting (src out₀ notes₀ out starts nodeNos notes : List ℕ) (at len at-out o d n : ℕ) : Type 0 where
@@ -106,8 +107,8 @@ pub record Converting (src out₀ notes₀ out starts nodeNos notes : List ℕ) 
   pub few : (o ≤ at) × (d ≤ at) × (n ≤ at) × (len ≤ 3 * at)
   pub level : o ≤ d
   pub passed : List Lexeme
-  pub all : lexemes src ≡ prefixed passed (lexemes (drop at src))
-  pub same : walking (lexemes src) begin ≡ walking (lexemes (drop at src)) (count o d n)
+  pub all : lexemes rules src ≡ prefixed passed (lexemes rules (drop at src))
+  pub same : walking (lexemes rules src) begin ≡ walking (lexemes rules (drop at src)) (count o d n)
   pub size : length (octetsOfLexemes passed) ≡ len
   -- nothing was overwritten yet
   pub place : len ≤ maxCanonical → at-out ≡ len
@@ -115,12 +116,12 @@ pub record Converting (src out₀ notes₀ out starts nodeNos notes : List ℕ) 
   -- the notes
   pub notesLong : length notes ≡ length notes₀
   pub stacked : Stacked starts nodeNos (maxCanonical + 1) o n
-  pub coming : (g : Sheetable (decode₃ src) (length notes₀)) → Coming src notes₀ starts nodeNos notes at len o d n (g .tree)
+  pub coming : (g : Sheetable (decode₃ rules src) (length notes₀)) → Coming src notes₀ starts nodeNos notes at len o d n (g .tree)
 
 -- the lexemes of a text that means a tree
-lexed : (src : List ℕ) (t : Tree) → decode₃ src ≡ some t → lexemes src ≡ some (unnest t [])
+lexed : (src : List ℕ) (t : Tree) → decode₃ rules src ≡ some t → lexemes rules src ≡ some (unnest t [])
 unfolding decode₃
-lexed src t e = chain-cases (lexemes src) nest e (λ ls h₁ h₂. h₁ ∙ ap some (nest-sound ls t h₂))
+lexed src t e = chain-cases (lexemes rules src) nest e (λ ls h₁ h₂. h₁ ∙ ap some (nest-sound ls t h₂))
 
 pub convert-none : (src out notes starts nodeNos : List ℕ) → Lent (length src) (length out) → length starts ≡ maxDepth → length nodeNos ≡ maxDepth
     → Converting src out notes out starts nodeNos notes 0 0 0 0 0 0
@@ -135,7 +136,7 @@ convert-none src out notes starts nodeNos k p q =
       few = (omega arith, omega arith, omega arith, omega arith);
       level = omega arith;
       passed = [];
-      all = prefixed-none (lexemes src);
+      all = prefixed-none (lexemes rules src);
       same = refl;
       size = refl;
       place = λ _. refl;
@@ -146,10 +147,10 @@ convert-none src out notes starts nodeNos k p q =
     }
 
 -- no tree: nothing is promised of octets and notes
-refusal : (src out notes notes′ : List ℕ) → walking (lexemes src) begin ≡ none → Converts (decode₃ src) out notes notes′ Refused
+refusal : (src out notes notes′ : List ℕ) → walking (lexemes rules src) begin ≡ none → Converts (decode₃ rules src) out notes notes′ Refused
 unfolding Measures decode₃
 refusal src out notes notes′ e =
-    let z : decode₃ src ≡ none = undecoded (lexemes src) e in
+    let z : decode₃ rules src ≡ none = undecoded (lexemes rules src) e in
     record { measures = z; octets = λ t x h. none-some (sym z ∙ x); kept = λ g. none-some (sym z ∙ g .is) }
 
 module _ (src out₀ notes₀ out starts nodeNos notes : List ℕ) (at len r o d n : ℕ) (w : Converting src out₀ notes₀ out starts nodeNos notes at len r o d n) where
@@ -166,10 +167,10 @@ module _ (src out₀ notes₀ out starts nodeNos notes : List ℕ) (at len r o d
   convert-stacks = w .stacked .stacks
 
   -- what was passed of a tree is no longer than the whole
-  passed-short : (t : Tree) (ls : List Lexeme) → decode₃ src ≡ some t → lexemes (drop at src) ≡ some ls → len ≤ length (canon t)
+  passed-short : (t : Tree) (ls : List Lexeme) → decode₃ rules src ≡ some t → lexemes rules (drop at src) ≡ some ls → len ≤ length (canon t)
   unfolding decode₃ prefixed
   passed-short t ls g e =
-      let a : lexemes src ≡ some (w .passed ++ ls) = w .all ∙ ap (prefixed (w .passed)) e in
+      let a : lexemes rules src ≡ some (w .passed ++ ls) = w .all ∙ ap (prefixed (w .passed)) e in
       let c : octetsOfLexemes (w .passed ++ ls) ≡ canon t = lexemes-canon src (w .passed ++ ls) t a g in
       omega (arith, w .size, ap length c, ap length (octets-both (w .passed) ls), length-append (octetsOfLexemes (w .passed)) (octetsOfLexemes ls))
 
@@ -179,16 +180,16 @@ module _ (src out₀ notes₀ out starts nodeNos notes : List ℕ) (at len r o d
       is-shut : shut (count o d n) ≡ true
       is-shut = sym x ∙ f
 
-      pub convert-more : i < length src → Converts (decode₃ src) out notes₀ notes Refused
+      pub convert-more : i < length src → Converts (decode₃ rules src) out notes₀ notes Refused
       convert-more h = refusal src out notes₀ notes (w .same ∙ past-shut src at i (p .reads) h (count o d n) is-shut)
 
-      pub convert-whole : length src ≤ i → Converts (decode₃ src) out notes₀ notes (Whole len n d)
+      pub convert-whole : length src ≤ i → Converts (decode₃ rules src) out notes₀ notes (Whole len n d)
       unfolding Measures decode₃ prefixed
       convert-whole h =
-          let z : lexemes (drop at src) ≡ some [] = lexemes-end (drop at src) (p .reads ∙ drop-of-length-le src h) in
-          let y : walking (lexemes src) begin ≡ some (count o d n) = w .same ∙ ap (λ (v : Option (List Lexeme)). walking v (count o d n)) z ∙ walking-end (count o d n) ∙ picked _ _ is-shut in
-          let a : lexemes src ≡ some (w .passed ++ []) = w .all ∙ ap (prefixed (w .passed)) z in
-          decodes (lexemes src) (count o d n) y
+          let z : lexemes rules (drop at src) ≡ some [] = lexemes-end (drop at src) (p .reads ∙ drop-of-length-le src h) in
+          let y : walking (lexemes rules src) begin ≡ some (count o d n) = w .same ∙ ap (λ (v : Option (List Lexeme)). walking v (count o d n)) z ∙ walking-end (count o d n) ∙ picked _ _ is-shut in
+          let a : lexemes rules src ≡ some (w .passed ++ []) = w .all ∙ ap (prefixed (w .passed)) z in
+          decodes (lexemes rules src) (count o d n) y
           (λ t g u v.
           let c : octetsOfLexemes (w .passed) ≡ canon t = ap octetsOfLexemes (sym (append-nil (w .passed))) ∙ lexemes-canon src (w .passed ++ []) t a g in
           record {
@@ -205,26 +206,26 @@ module _ (src out₀ notes₀ out starts nodeNos notes : List ℕ) (at len r o d
       not-shut : shut (count o d n) ≡ false
       not-shut = sym x ∙ f
 
-      pub convert-short : length src ≤ i → Converts (decode₃ src) out notes₀ notes Refused
+      pub convert-short : length src ≤ i → Converts (decode₃ rules src) out notes₀ notes Refused
       convert-short h =
-          let z : lexemes (drop at src) ≡ some [] = lexemes-end (drop at src) (p .reads ∙ drop-of-length-le src h) in
+          let z : lexemes rules (drop at src) ≡ some [] = lexemes-end (drop at src) (p .reads ∙ drop-of-length-le src h) in
           refusal src out notes₀ notes (w .same ∙ ap (λ (v : Option (List Lexeme)). walking v (count o d n)) z ∙ walking-end (count o d n) ∙ unpicked _ _ not-shut)
 
       module _ (h : i < length src) where
         -- a lexeme more: what it does to the octets, to the lists that are open and to the notes
-        module _ (l : Lexeme) (out′ starts′ nodeNos′ notes′ : List ℕ) (next e r′ o′ d′ n′ : ℕ) (s : lexeme (drop i src) ≡ got l (drop next src)) (on : i < next) (within : next ≤ length src)
+        module _ (l : Lexeme) (out′ starts′ nodeNos′ notes′ : List ℕ) (next e r′ o′ d′ n′ : ℕ) (s : lexeme rules (drop i src) ≡ got l (drop next src)) (on : i < next) (within : next ≤ length src)
             (g : step l (count o d n) ≡ some (count o′ d′ n′)) (v : Front (octetsOfLexeme l) r out out′ e) (k : e + 3 * i ≤ r + 3 * next) (u : Wrapped e r′)
             (c : (o′ ≤ next) × (d′ ≤ next) × (n′ ≤ next)) (lev : o′ ≤ d′) (j : length notes′ ≡ length notes) (y : Stacked starts′ nodeNos′ (maxCanonical + 1) o′ n′)
             (keeps : (whole : List ℕ) (t : Tree) (ls : List Lexeme) → depth t ≤ maxDepth → r ≡ len → Kept whole starts nodeNos notes r o d n t (l ∷ ls) → Kept whole starts′ nodeNos′ notes′ e o′ d′ n′ t ls) where
-          passes : lexemes (drop at src) ≡ before l (lexemes (drop next src))
+          passes : lexemes rules (drop at src) ≡ before l (lexemes rules (drop next src))
           passes = place-next src at i (p .reads) h l (drop next src) s
 
-          still-coming : (g : Sheetable (decode₃ src) (length notes₀)) → Coming src notes₀ starts′ nodeNos′ notes′ next (len + (e - r)) o′ d′ n′ (g .tree)
+          still-coming : (g : Sheetable (decode₃ rules src) (length notes₀)) → Coming src notes₀ starts′ nodeNos′ notes′ next (len + (e - r)) o′ d′ n′ (g .tree)
           still-coming g =
               let m : Coming src notes₀ starts nodeNos notes at len o d n (g .tree) = w .coming g in
               let f : r ≡ len = w .place (omega (arith, passed-short (g .tree) (m .to-come) (g .is) (m .lexes), g .short)) in
               let b : len + (e - r) ≡ e = omega (arith, v .place) in
-              before-cases l (lexemes (drop next src)) (sym passes ∙ m .lexes)
+              before-cases l (lexemes rules (drop next src)) (sym passes ∙ m .lexes)
               (λ ls x z.
               let a : m .to-come ≡ l ∷ ls = cc in
               let was : Kept (sets notes₀ 0 (noted (g .tree))) starts nodeNos notes r o d n (g .tree) (l ∷ ls) =
@@ -243,8 +244,8 @@ module _ (src out₀ notes₀ out starts nodeNos notes : List ℕ) (at len r o d
                 few = (c .0, c .1, c .2, omega (arith, w .few, p .from));
                 level = lev;
                 passed = w .passed ++ (l ∷ []);
-                all = w .all ∙ ap (prefixed (w .passed)) passes ∙ prefixed-step (w .passed) l (lexemes (drop next src));
-                same = w .same ∙ ap (λ (v : Option (List Lexeme)). walking v (count o d n)) passes ∙ walking-step l (lexemes (drop next src)) (count o d n) (count o′ d′ n′) not-shut g;
+                all = w .all ∙ ap (prefixed (w .passed)) passes ∙ prefixed-step (w .passed) l (lexemes rules (drop next src));
+                same = w .same ∙ ap (λ (v : Option (List Lexeme)). walking v (count o d n)) passes ∙ walking-step l (lexemes rules (drop next src)) (count o d n) (count o′ d′ n′) not-shut g;
                 size = ap length z ∙ length-append (octetsOfLexemes (w .passed)) (octetsOfLexeme l) ∙ omega (arith, w .size, v .place);
                 place = λ m. omega (arith, w .place (omega arith), u .on (omega (arith, w .place (omega arith), v .place)), v .place);
                 front = λ m.
@@ -261,7 +262,7 @@ module _ (src out₀ notes₀ out starts nodeNos notes : List ℕ) (at len r o d
         one-room = omega (arith, enough (length src) (length out₀) at r (w .lent .enough) (w .inside) (w .low) (w .treble), w .long)
 
         -- of one octet
-        one : (l : Lexeme) (b : ℕ) (starts′ nodeNos′ notes′ : List ℕ) (r′ o′ d′ n′ : ℕ) → lexeme (drop i src) ≡ got l (drop (i + 1) src) → step l (count o d n) ≡ some (count o′ d′ n′) → octetsOfLexeme l ≡ b ∷ [] → Wrapped (r + 1) r′
+        one : (l : Lexeme) (b : ℕ) (starts′ nodeNos′ notes′ : List ℕ) (r′ o′ d′ n′ : ℕ) → lexeme rules (drop i src) ≡ got l (drop (i + 1) src) → step l (count o d n) ≡ some (count o′ d′ n′) → octetsOfLexeme l ≡ b ∷ [] → Wrapped (r + 1) r′
             → (o′ ≤ i + 1) × (d′ ≤ i + 1) × (n′ ≤ i + 1) → o′ ≤ d′ → length notes′ ≡ length notes → Stacked starts′ nodeNos′ (maxCanonical + 1) o′ n′
             → ((whole : List ℕ) (t : Tree) (ls : List Lexeme) → depth t ≤ maxDepth → r ≡ len → Kept whole starts nodeNos notes r o d n t (l ∷ ls) → Kept whole starts′ nodeNos′ notes′ (r + 1) o′ d′ n′ t ls)
             → Converting src out₀ notes₀ (set out r b) starts′ nodeNos′ notes′ (i + 1) (len + 1) r′ o′ d′ n′
@@ -272,9 +273,9 @@ module _ (src out₀ notes₀ out starts nodeNos notes : List ℕ) (at len r o d
         pub one-less : length src - (i + 1) < length src - at
         one-less = omega (arith, p .from)
 
-        opens : getD src i 0 ≡ 40 → lexeme (drop i src) ≡ got opening (drop (i + 1) src)
+        opens : getD src i 0 ≡ 40 → lexeme rules (drop i src) ≡ got opening (drop (i + 1) src)
         unfolding lexeme
-        opens e = ap lexeme (one-here src i h) ∙ picked _ _ (eq-eqb _ _ e)
+        opens e = ap (lexeme rules) (one-here src i h) ∙ picked _ _ (eq-eqb _ _ e)
 
         pub open-on : getD src i 0 ≡ 40 → (m : ℕ) → m ≡ max d (o + 1) → (r′ : ℕ) → Wrapped (r + 1) r′ → (starts′ nodeNos′ : List ℕ) → Entered o r n starts nodeNos starts′ nodeNos′
             → Converting src out₀ notes₀ (set out r 40) starts′ nodeNos′ notes (i + 1) (len + 1) r′ (o + 1) m (n + 1)
@@ -285,15 +286,15 @@ module _ (src out₀ notes₀ out starts nodeNos notes : List ℕ) (at len r o d
             (λ whole t ls deep f k. rw g (kept-open whole starts nodeNos notes r o d n t ls k deep (w .stacked .stacks) starts′ nodeNos′ v))
 
         module _ (a : getD src i 0 ≡ 40 → ⊥) (e : getD src i 0 ≡ 41) where
-          closes : lexeme (drop i src) ≡ got closing (drop (i + 1) src)
+          closes : lexeme rules (drop i src) ≡ got closing (drop (i + 1) src)
           unfolding lexeme
-          closes = ap lexeme (one-here src i h) ∙ unpicked _ _ (ne-eqb _ _ a) ∙ picked _ _ (eq-eqb _ _ e)
+          closes = ap (lexeme rules) (one-here src i h) ∙ unpicked _ _ (ne-eqb _ _ a) ∙ picked _ _ (eq-eqb _ _ e)
 
-          pub close-none : o ≡ 0 → Converts (decode₃ src) out notes₀ notes Refused
+          pub close-none : o ≡ 0 → Converts (decode₃ rules src) out notes₀ notes Refused
           unfolding step
           close-none z =
               refusal src out notes₀ notes (w .same ∙ ap (λ (v : Option (List Lexeme)). walking v (count o d n)) (place-next src at i (p .reads) h closing (drop (i + 1) src) closes)
-              ∙ walking-stop closing (lexemes (drop (i + 1) src)) (count o d n) not-shut (picked _ _ (eq-eqb _ _ z)))
+              ∙ walking-stop closing (lexemes rules (drop (i + 1) src)) (count o d n) not-shut (picked _ _ (eq-eqb _ _ z)))
 
           pub close-leaving : (o ≡ 0 → ⊥) → Leaving starts nodeNos (o - 1) n r
           close-leaving z = stacked-leaving starts nodeNos (maxCanonical + 1) o n (w .stacked) r z (omega (arith, w .few, p .from, w .lent .short)) (omega (arith, w .low)) (omega arith)
@@ -310,7 +311,7 @@ module _ (src out₀ notes₀ out starts nodeNos notes : List ℕ) (at len r o d
         node-spare = record { inside = omega arith; short = w .lent .short; space = rw (w .long) (enough (length src) (length out₀) i r (w .lent .enough) (omega arith) (w .low) (omega (arith, w .treble, p .from))) }
 
         module _ (out₁ : List ℕ) (mid end next : ℕ) (s : Nodes src i r out out₁ mid end next) where
-          pub node-none : next ≡ 0 → (b : List ℕ) → Converts (decode₃ src) b notes₀ notes Refused
+          pub node-none : next ≡ 0 → (b : List ℕ) → Converts (decode₃ rules src) b notes₀ notes Refused
           unfolding chain
           node-none z b = refusal src b notes₀ notes (w .same ∙ ap (λ (v : Option (List Lexeme)). walking v (count o d n)) (place-none src at i (p .reads) h (s .none z)))
 

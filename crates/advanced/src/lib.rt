@@ -3,6 +3,7 @@ ghost use mathlib.Core.Path.{_≡_};
 ghost use mathlib.Core.Bool.{true};
 ghost use Prim.Native.Nat.{_+_, _≤_, _<_};
 ghost use lib.ListN.{length, drop, getD};
+ghost use Rattle.model.specs.Grammar.{rules};
 ghost use Rattle.model.specs.Decode.{decode₃};
 ghost use Rattle.model.specs.Limits.{maxSource};
 ghost use Rattle.model.specs.Octets.{isDigit};
@@ -35,7 +36,7 @@ fn decode(
     requires { ⌜ Classed (now classes) ⌝ }
     requires { ⌜ Lettered (now letters) ⌝ }
     requires { ⌜ (at < length (now src)) × Spacious (now src) (at + 1) pos (length (now out)) ⌝ }
-    ensures { λ r. ⌜ Decodes (now (src .entry)) (marked (getD (now (src .entry)) at 0) (drop (at + 1) (now (src .entry)))) at pos (now (out .entry)) (now (out .exit)) (now (count .exit)) r ⌝ }
+    ensures { λ r. ⌜ Decodes (now (src .entry)) (marked rules (getD (now (src .entry)) at 0) (drop (at + 1) (now (src .entry)))) at pos (now (out .entry)) (now (out .exit)) (now (count .exit)) r ⌝ }
 {
     let b = src[at];
     if b == 34 {
@@ -63,7 +64,7 @@ fn framed(
     requires { ⌜ Classed (now classes) ⌝ }
     requires { ⌜ Lettered (now letters) ⌝ }
     requires { ⌜ (at < length (now src)) × Room (now src) at pos (length (now out)) ⌝ }
-    ensures { λ r. ⌜ Spells (now (src .entry)) (marked (getD (now (src .entry)) at 0) (drop (at + 1) (now (src .entry)))) at pos (now (out .entry)) (now (out .exit)) (now (end .exit)) r ⌝ }
+    ensures { λ r. ⌜ Spells (now (src .entry)) (marked rules (getD (now (src .entry)) at 0) (drop (at + 1) (now (src .entry)))) at pos (now (out .entry)) (now (out .exit)) (now (end .exit)) r ⌝ }
 {
     let mut n: usize = 0;
     let next = decode(classes, letters, src, at, out, pos + 3, &mut n);
@@ -87,7 +88,7 @@ fn between(
     requires { ⌜ Classed (now classes) ⌝ }
     requires { ⌜ Lettered (now letters) ⌝ }
     requires { ⌜ (at < length (now src)) × Room (now src) at pos (length (now out)) ⌝ }
-    ensures { λ r. ⌜ Spells (now (src .entry)) (marked (getD (now (src .entry)) at 0) (drop (at + 1) (now (src .entry)))) at pos (now (out .entry)) (now (out .exit)) (now (end .exit)) r ⌝ }
+    ensures { λ r. ⌜ Spells (now (src .entry)) (marked rules (getD (now (src .entry)) at 0) (drop (at + 1) (now (src .entry)))) at pos (now (out .entry)) (now (out .exit)) (now (end .exit)) r ⌝ }
 {
     if src[at] != 34 {
         return framed(classes, letters, src, at, out, pos, end);
@@ -114,7 +115,7 @@ fn after_number(
     requires { ⌜ Classed (now classes) ⌝ }
     requires { ⌜ Lettered (now letters) ⌝ }
     requires { ⌜ Room (now src) at pos (length (now out)) ⌝ }
-    ensures { λ r. ⌜ Spells (now (src .entry)) (afterNumber n (drop at (now (src .entry)))) at pos (now (out .entry)) (now (out .exit)) (now (end .exit)) r ⌝ }
+    ensures { λ r. ⌜ Spells (now (src .entry)) (afterNumber rules n (drop at (now (src .entry)))) at pos (now (out .entry)) (now (out .exit)) (now (end .exit)) r ⌝ }
 {
     if at >= src.len() {
         return 0;
@@ -152,7 +153,7 @@ fn counted(
     requires { ⌜ Classed (now classes) ⌝ }
     requires { ⌜ Lettered (now letters) ⌝ }
     requires { ⌜ (at < length (now src)) × Room (now src) at pos (length (now out)) × (isDigit (getD (now src) at 0) ≡ true) ⌝ }
-    ensures { λ r. ⌜ Spells (now (src .entry)) (bind (decimal (getD (now (src .entry)) at 0) (drop (at + 1) (now (src .entry)))) afterNumber) at pos (now (out .entry)) (now (out .exit)) (now (end .exit)) r ⌝ }
+    ensures { λ r. ⌜ Spells (now (src .entry)) (bind (decimal (getD (now (src .entry)) at 0) (drop (at + 1) (now (src .entry)))) (afterNumber rules)) at pos (now (out .entry)) (now (out .exit)) (now (end .exit)) r ⌝ }
 {
     match decimal_at(src, at) {
         Number::Value { value, next } => {
@@ -175,7 +176,7 @@ pub fn simple(
     requires { ⌜ Classed (now classes) ⌝ }
     requires { ⌜ Lettered (now letters) ⌝ }
     requires { ⌜ Room (now src) at pos (length (now out)) ⌝ }
-    ensures { λ r. ⌜ Spells (now (src .entry)) (simple (drop at (now (src .entry)))) at pos (now (out .entry)) (now (out .exit)) (now (end .exit)) r ⌝ }
+    ensures { λ r. ⌜ Spells (now (src .entry)) (simple rules (drop at (now (src .entry)))) at pos (now (out .entry)) (now (out .exit)) (now (end .exit)) r ⌝ }
 {
     if at >= src.len() {
         return 0;
@@ -290,7 +291,7 @@ pub fn convert(
     requires { ⌜ Classed (now classes) ⌝ }
     requires { ⌜ Lettered (now letters) ⌝ }
     requires { ⌜ Lent (length (now src)) (length (now out)) ⌝ }
-    ensures { λ r. ⌜ Converts (decode₃ (now (src .entry))) (now (out .exit)) (now (notes .entry)) (now (notes .exit)) r ⌝ }
+    ensures { λ r. ⌜ Converts (decode₃ rules (now (src .entry))) (now (out .exit)) (now (notes .entry)) (now (notes .exit)) r ⌝ }
 {
     let mut starts: [usize; limits::DEPTH] = [0; limits::DEPTH];
     let mut numbers: [usize; limits::DEPTH] = [0; limits::DEPTH];

@@ -5,6 +5,7 @@ use mathlib.Core.Path.{_≡_, refl, ap, _∙_}
 use mathlib.Core.Option.{Option, none, some}
 use mathlib.Core.List.{List, [], _∷_}
 use lib.ListN.{length, length-append}
+use Rattle.model.specs.Grammar.{rules}
 use Rattle.model.specs.Lexemes.{Lexeme, lexeme, stay, strictLexeme, before, lexemesBy, lexemes, strictLexemes}
 use Rattle.model.specs.Strings.{Read, got, refused, skip}
 use Rattle.model.proofs.Lexemes.{lexeme-sound, lexed-short}
@@ -64,20 +65,20 @@ module _
 skip-short : (s : List ℕ) → length (skip s) ≤ length s
 skip-short s = whites-size (skip-whites s)
 
-lexeme-short : (s : List ℕ) (l : Lexeme) (k : List ℕ) → lexeme s ≡ got l k → length k < length s
+lexeme-short : (s : List ℕ) (l : Lexeme) (k : List ℕ) → lexeme rules s ≡ got l k → length k < length s
 lexeme-short s l k e = lexed-short (lexeme-sound s e)
 
-pub lexemes-end : (s : List ℕ) → skip s ≡ [] → lexemes s ≡ some []
+pub lexemes-end : (s : List ℕ) → skip s ≡ [] → lexemes rules s ≡ some []
 unfolding lexemes
-lexemes-end s e = at-end skip lexeme skip-short lexeme-short s e
+lexemes-end s e = at-end skip (lexeme rules) skip-short lexeme-short s e
 
-pub lexemes-next : (s : List ℕ) (b : ℕ) (r k : List ℕ) (l : Lexeme) → skip s ≡ b ∷ r → lexeme (b ∷ r) ≡ got l k → lexemes s ≡ before l (lexemes k)
+pub lexemes-next : (s : List ℕ) (b : ℕ) (r k : List ℕ) (l : Lexeme) → skip s ≡ b ∷ r → lexeme rules (b ∷ r) ≡ got l k → lexemes rules s ≡ before l (lexemes rules k)
 unfolding lexemes
-lexemes-next s b r k l e h = at-lexeme skip lexeme skip-short lexeme-short s b r k l e h
+lexemes-next s b r k l e h = at-lexeme skip (lexeme rules) skip-short lexeme-short s b r k l e h
 
-pub lexemes-none : (s : List ℕ) (b : ℕ) (r : List ℕ) → skip s ≡ b ∷ r → lexeme (b ∷ r) ≡ refused → lexemes s ≡ none
+pub lexemes-none : (s : List ℕ) (b : ℕ) (r : List ℕ) → skip s ≡ b ∷ r → lexeme rules (b ∷ r) ≡ refused → lexemes rules s ≡ none
 unfolding lexemes
-lexemes-none s b r e h = at-other skip lexeme skip-short lexeme-short s b r e h
+lexemes-none s b r e h = at-other skip (lexeme rules) skip-short lexeme-short s b r e h
 
 -- ---- form 1
 

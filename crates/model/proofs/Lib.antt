@@ -4,6 +4,7 @@ pub mod Classes
 pub mod Stripped
 pub mod Marks
 pub mod Quoted
+pub mod Apart
 pub mod Simples
 pub mod Rules
 pub mod Streams

@@ -16,6 +16,7 @@ use Rattle.model.specs.Grammar.{no-whitespace, Quotable, escaped-octet, 
 use Rattle.model.specs.Octets.{isWhitespace, isAlpha, isSimplePunc, isTokenStart, isTokenOctet, isPrintable, hexval, find, escape}
 use Rattle.model.specs.Tree.{Tree, plain, hinted, list, Forest, nil, cons, Bytes, no-byte, a-byte, TreeBytes, plain-bytes, hinted-bytes, list-bytes, ForestBytes, nil-bytes, cons-bytes}
 use Rattle.model.specs.Write.{isToken, quoteOne, quoteAll, hexDigit, hexAll, shown, advanced, elements, following}
+use Rattle.model.proofs.Apart.{rules-apart}
 use Rattle.model.proofs.Classes.{hex-unwhite}
 use Rattle.model.proofs.Exact.{complete₃}
 use Rattle.model.proofs.Rules.{hex-unmark, strip-simple}
@@ -36,7 +37,7 @@ runs : (d : List ℕ) {k : List ℕ} → every isTokenOctet d ≡ true → Ends 
 runs [] e z = stops z
 runs (b ∷ d) e z = every-cases isTokenOctet b d e (λ t h. run-more t (runs d h z))
 
-token-shown : (d : List ℕ) {k : List ℕ} → isToken d ≡ true → Ends k → Simple (d ++ k) d k
+token-shown : (d : List ℕ) {k : List ℕ} → isToken d ≡ true → Ends k → Simple rules (d ++ k) d k
 unfolding isToken
 token-shown [] e z = untrue e
 token-shown (b ∷ d) e z = pick-cases (isTokenStart b) _ _ e (λ t h. simple-token t (runs d h z)) (λ t h. untrue h)
@@ -98,7 +99,7 @@ hex-shown (b ∷ d) (a-byte h x) =
 
 -- ---- simple strings
 
-simple-shown : (d : List ℕ) {k : List ℕ} → Bytes d → Ends k → Simple (shown d ++ k) d k
+simple-shown : (d : List ℕ) {k : List ℕ} → Bytes d → Ends k → Simple rules (shown d ++ k) d k
 unfolding shown
 simple-shown d {k} x z =
     by-bool (isToken d)
@@ -153,5 +154,5 @@ mutual
 pub advanced-is : (t : Tree) → TreeBytes t → Advanced rules (advanced t) t
 advanced-is t x = sexp no-whitespace (subst (λ (s : List ℕ). Value rules s t []) (append-nil (advanced t)) (value-shown t [] x at-end)) no-whitespace
 
-pub round-trip₃ : (t : Tree) → TreeBytes t → decode₃ (advanced t) ≡ some t
-round-trip₃ t x = complete₃ (advanced-is t x)
+pub round-trip₃ : (t : Tree) → TreeBytes t → decode₃ rules (advanced t) ≡ some t
+round-trip₃ t x = complete₃ rules-apart (advanced-is t x)

@@ -5,6 +5,7 @@ use mathlib.Core.Option.{Option, none, some}
 use mathlib.Core.List.{List, [], _∷_}
 use lib.Dec.{eqb}
 use Rattle.base.specs.Choice.{pick, chain}
+use Rattle.model.specs.Grammar.{Rules, rules}
 use Rattle.model.specs.Tree.{Tree, plain, hinted, list, Forest, nil, cons}
 use Rattle.model.specs.Strings.{Read, got, refused, upto, unbase, lastly}
 use Rattle.model.specs.Lexemes.{Lexeme, opening, closing, atom, hinting, lexemes, strictLexemes}
@@ -53,17 +54,22 @@ unfoldable pub decode₁ : List ℕ → Option Tree
 decode₁ s = chain (strictLexemes s) nest
 
 -- nothing may stand after the closing brace
-unfoldable pub unbrace : Read (List ℕ) → Option (List ℕ)
-unbrace refused = none
-unbrace (got l k) = lastly (unbase l) k
+unfoldable pub unbrace : Rules → Read (List ℕ) → Option (List ℕ)
+unbrace ρ refused = none
+unbrace ρ (got l k) = lastly (unbase ρ l) k
 
-unfoldable pub decode₂ : List ℕ → Option Tree
-decode₂ [] = none
-decode₂ (b ∷ s) = elim (eqb b 123) [ true ↦ chain (unbrace (upto 125 s)) decode₁ | false ↦ decode₁ (b ∷ s) ]
+unfoldable pub decode₂ : Rules → List ℕ → Option Tree
+decode₂ ρ [] = none
+decode₂ ρ (b ∷ s) = elim (eqb b 123) [ true ↦ chain (unbrace ρ (upto 125 s)) decode₁ | false ↦ decode₁ (b ∷ s) ]
 
-unfoldable pub decode₃ : List ℕ → Option Tree
-decode₃ s = chain (lexemes s) nest
+unfoldable pub decode₃ : Rules → List ℕ → Option Tree
+decode₃ ρ s = chain (lexemes ρ s) nest
 
--- the tree that a text means in a form, if it is in that form's language
+-- the tree that a text means in a form under these rules, if it is in that form's language
+unfoldable pub decodeUnder : Rules → ℕ → List ℕ → Option Tree
+decodeUnder ρ form s = pick (eqb form 1) (decode₁ s) (pick (eqb form 2) (decode₂ ρ s) (pick (eqb form 3) (decode₃ ρ s) none))
+
+-- under those in force, which every promise means
 unfoldable pub decode : ℕ → List ℕ → Option Tree
-decode form s = pick (eqb form 1) (decode₁ s) (pick (eqb form 2) (decode₂ s) (pick (eqb form 3) (decode₃ s) none))
+unfolding decodeUnder
+decode form s = decodeUnder rules form s

@@ -2,6 +2,7 @@
 // takes a text takes it through these, and sees nothing of its form.
 ghost use mathlib.Core.Path.{_≡_};
 ghost use lib.ListN.{length};
+ghost use Rattle.model.specs.Grammar.{rules};
 ghost use Rattle.model.specs.Decode.{decode₁, decode₂, decode};
 ghost use Rattle.octets.specs.Classes.{Classed, Lettered};
 ghost use Rattle.advanced.specs.Converted.{Lent};
@@ -77,7 +78,7 @@ fn take_braced(
     requires { ⌜ Classed (now classes) ⌝ }
     requires { ⌜ Lettered (now letters) ⌝ }
     requires { ⌜ Braced (now text) × Lent (length (now text)) (length (now scratch)) ⌝ }
-    ensures { λ r. ⌜ Taken (decode₂ (now (text .entry))) (now (scratch .exit)) (now (notes .entry)) (now (notes .exit)) r ⌝ }
+    ensures { λ r. ⌜ Taken (decode₂ rules (now (text .entry))) (now (scratch .exit)) (now (notes .entry)) (now (notes .exit)) r ⌝ }
 {
     let mut len: usize = 0;
     let next = marks::base(classes, letters, text, 1, b'}', scratch, 0, &mut len);
