@@ -11,9 +11,9 @@ use Rattle.model.proofs.Sizes.{verbatim-length}
 use Rattle.canonical.specs.Lexed.{Plainly, Hintedly, ItemAt}
 use Rattle.canonical.specs.declared.Item.{Item}
 use Rattle.canonical.specs.declared.Item.the-variants.{Open, Close, Plain, Hinted, Other}
-use Rattle.runs.specs.Runs.{firstSheet}
-use Rattle.runs.proofs.First.{Begins, first-is, first-none}
-use Rattle.runs.proofs.Wanted.{Ends, Wants, Next, lexeme-next, no-lexeme, lexeme-back}
+use Rattle.batch.specs.Runs.{firstSheet}
+use Rattle.batch.proofs.First.{Begins, first-is, first-none}
+use Rattle.batch.proofs.Wanted.{Ends, Wants, Next, lexeme-next, no-lexeme, lexeme-back}
 
 -- with o lists open at a place
 pub record Going (run : List ℕ) (at o : ℕ) : Type 0 where

@@ -9,8 +9,8 @@ use Rattle.base.proofs.Cases.{by-eq}
 use Rattle.model.specs.Tree.{Tree, Forest, nil, cons, canon, canons}
 use Rattle.model.proofs.Exact.{canon-two}
 use Rattle.model.proofs.Unique.{tree-inj}
-use Rattle.runs.specs.Runs.{firstUpTo, firstSheet, Parted, parted, after, partUpTo, partRun, forms}
-use Rattle.runs.proofs.First.{Begins, first-is, first-begins, none-begins}
+use Rattle.batch.specs.Runs.{firstUpTo, firstSheet, Parted, parted, after, partUpTo, partRun, forms}
+use Rattle.batch.proofs.First.{Begins, first-is, first-begins, none-begins}
 
 -- ---- two runs of trees, each followed by octets with which no sheet begins
 

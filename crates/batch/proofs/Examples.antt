@@ -6,7 +6,7 @@ use Rattle.base.specs.Choice.{chain, isNone}
 use Rattle.model.specs.Decode.{nestings, onto, enclose, place, placeIn, onlyTree, onlyIn, nest, decode₁}
 use Rattle.model.specs.Lexemes.{closeStrict, strictLexeme, before, lexemesBy, strictLexemes}
 use Rattle.model.specs.Strings.{bind, number, decimal, first, afterLength, verbatimOf}
-use Rattle.runs.specs.Runs.{firstUpTo, firstSheet, Parted, parted, partUpTo, partRun}
+use Rattle.batch.specs.Runs.{firstUpTo, firstSheet, Parted, parted, partUpTo, partRun}
 
 record Case : Type 0 where
   run : List ℕ

@@ -1,10 +1,10 @@
 use native.Mathlib.Omega.{arith}
 use lib.ListN.{length}
 use Prim.Native.Nat.{_-_}
-use Rattle.runs.proofs.Going.{Going, going-start, going-short, going-other, going-open, going-unopened, going-closed, going-close, plain-less, going-plain, past-plain, hinted-less, going-hinted, past-hinted}
+use Rattle.batch.proofs.Going.{Going, going-start, going-short, going-other, going-open, going-unopened, going-closed, going-close, plain-less, going-plain, past-plain, hinted-less, going-hinted, past-hinted}
 use borrow.Author.Needs.{needs}
-use Rattle.runs.proofs.split.Statement.{statement}
-use Rattle.runs.proofs.split.Tie as tie
+use Rattle.batch.proofs.split.Statement.{statement}
+use Rattle.batch.proofs.split.Tie as tie
 
 abbrev Inv-loop : tie.InvT-loop
 Inv-loop run at₀ opened₀ at opened = Going run at opened

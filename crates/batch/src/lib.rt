@@ -1,6 +1,6 @@
 // Sheets written back to back (02, Ask 14): where the first of them ends.
 ghost use mathlib.Core.Path.{_≡_};
-ghost use Rattle.runs.specs.Runs.{firstSheet};
+ghost use Rattle.batch.specs.Runs.{firstSheet};
 use canonical::Item;
 
 // How many octets of a run are its first sheet, of any size and depth; 0 where none begins. Only these octets are looked at, and of a

@@ -13,7 +13,7 @@ use Rattle.model.specs.Decode.{decode₁}
 use Rattle.model.specs.Tree.{Tree, canon}
 use Rattle.model.proofs.Exact.{canon-sound, canon-complete, canon-two}
 use Rattle.model.proofs.Unique.{tree-inj}
-use Rattle.runs.specs.Runs.{firstUpTo, firstSheet}
+use Rattle.batch.specs.Runs.{firstUpTo, firstSheet}
 
 -- the run begins with a tree's canonical form, and r follows
 pub record Begins (run r : List ℕ) : Type 0 where

@@ -10,7 +10,7 @@ use Rattle.model.specs.Tree.{Tree, plain, hinted, list, Forest, nil, cons, verb
 use Rattle.model.proofs.Exact.{canon-two}
 use Rattle.model.proofs.ReadCases.{never, got-same}
 use Rattle.model.proofs.Strict.{octetsOfLexeme, strict-sound, strict-complete}
-use Rattle.runs.proofs.First.{Begins}
+use Rattle.batch.proofs.First.{Begins}
 
 -- the elements of a list up to its closing parenthesis, and then what P asks for
 pub record Closed (P : List ℕ → Type 0) (s : List ℕ) : Type 0 where
