@@ -112,6 +112,17 @@ module _ (t : Tree) (a b : ℕ) (h : b < nodes t) (o : a + nodes (nodeAt t a) �
       by zero o = absurd (omega arith)
       by (suc a) o = omega arith
 
+  -- the change in node count
+  pub done-nodes : (c : Deed) → nodes (done c t a) + nodes (nodeAt t a) ≡ nodes t + nodess (makes c (nodeAt t a))
+  done-nodes c =
+      let l = locate t a (a-in t a b h o) in
+      let n : nodess (one (l .node)) ≡ nodes (nodeAt t a) = nodess-one (l .node) ∙ ap nodes (sym (l .isNode)) in
+      let q : nodess (makes c (l .node)) ≡ nodess (makes c (nodeAt t a)) = ap (λ (x : Tree). nodess (makes c x)) (sym (l .isNode)) in
+      let x : nodes (done c t a) ≡ nodess (fill (l .place) (makes c (l .node))) =
+      sym (nodess-one (done c t a)) ∙ ap nodess (done-across c t a not-the-whole (a-in t a b h o) ∙ l .edited (makes c)) in
+      let y : nodes t ≡ nodess (fill (l .place) (one (l .node))) = sym (nodess-one t) ∙ ap nodess (l .is) in
+      omega (arith, n, q, x, y, fill-nodes (l .place) (makes c (l .node)), fill-nodes (l .place) (one (l .node)))
+
   pub either-order : (c d : Deed) (b' : ℕ) → b' + nodes (nodeAt t a) ≡ b + nodess (makes c (nodeAt t a)) → done c (done d t b) a ≡ done d (done c t a) b'
   either-order c d b' k =
       let p = nodes-pos (nodeAt t a) in
