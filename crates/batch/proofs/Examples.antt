@@ -37,6 +37,7 @@ unfolding cases firstSheet firstUpTo isNone chain decode₁ strictLexemes lexeme
 firsts = refl
 
 -- 0:(1:a)2: has two sheets, and 2: is left
-all : partRun (48 ∷ 58 ∷ 40 ∷ 49 ∷ 58 ∷ 97 ∷ 41 ∷ 50 ∷ 58 ∷ []) ≡ parted ((48 ∷ 58 ∷ []) ∷ (40 ∷ 49 ∷ 58 ∷ 97 ∷ 41 ∷ []) ∷ []) (50 ∷ 58 ∷ [])
+all : partRun (48 ∷ 58 ∷ 40 ∷ 49 ∷ 58 ∷ 97 ∷ 41 ∷ 50 ∷ 58 ∷ [])
+    ≡ parted ((48 ∷ 58 ∷ []) ∷ (40 ∷ 49 ∷ 58 ∷ 97 ∷ 41 ∷ []) ∷ []) (50 ∷ 58 ∷ [])
 unfolding partRun partUpTo firstSheet firstUpTo isNone chain decode₁ strictLexemes lexemesBy before strictLexeme closeStrict verbatimOf bind number decimal first afterLength nest nestings placeIn place onto enclose onlyIn onlyTree
 all = refl

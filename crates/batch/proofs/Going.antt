@@ -53,13 +53,15 @@ module _ (run : List ℕ) (at o : ℕ) (w : Going run at o) where
   done : (next : ℕ) → next ≤ length run → Wants o (drop at run) (drop next run) → next ≡ firstSheet run
   done next i x =
       let b : Begins run (drop next run) = w .back (drop next run) x in
-      omega (arith, first-is run (drop next run) (b .tree) (b .is), ap length (b .is), length-append (canon (b .tree)) (drop next run), length-drop next run)
+      let l = length-append (canon (b .tree)) (drop next run) in
+      omega (arith, first-is run (drop next run) (b .tree) (b .is), ap length (b .is), l, length-drop next run)
 
   module _ (l : Lexeme) (next : ℕ) (e : strictLexeme (drop at run) ≡ got l (drop next run)) (i : next ≤ length run) where
     ends-here : Next l o (drop next run) (drop next run) → next ≡ firstSheet run
     ends-here x = done next i (lexeme-back o (drop at run) (drop next run) l (drop next run) e x)
 
-    goes-on : (p : ℕ) → p ≤ next → ((r : List ℕ) → Next l o (drop next run) r → Wants p (drop next run) r) → ((r : List ℕ) → Wants p (drop next run) r → Next l o (drop next run) r) → Going run next p
+    goes-on : (p : ℕ) → p ≤ next → ((r : List ℕ) → Next l o (drop next run) r → Wants p (drop next run) r)
+        → ((r : List ℕ) → Wants p (drop next run) r → Next l o (drop next run) r) → Going run next p
     goes-on p f a b =
         record {
           inside = i;
@@ -77,20 +79,26 @@ module _ (run : List ℕ) (at o : ℕ) (w : Going run at o) where
     unfolding ItemAt Next Wants
     going-open z =
         let n : o + 1 ≡ suc o = omega arith in
-        subst (Going run (at + 1)) (sym n) (goes-on opening (at + 1) (subst (ItemAt run at) z v) (omega arith) (suc o) (omega (arith, w .few)) (λ k x. x) (λ k x. x))
+        subst (Going run (at + 1)) (sym n)
+        (goes-on opening (at + 1) (subst (ItemAt run at) z v) (omega arith) (suc o) (omega (arith, w .few)) (λ k x. x) (λ k x. x))
 
     module _ (z : r ≡ Close) where
+      abbrev behind : List ℕ
+      behind = drop (at + 1) run
+
       closes : strictLexeme (drop at run) ≡ got closing (drop (at + 1) run)
       unfolding ItemAt
       closes = subst (ItemAt run at) z v
 
       pub going-unopened : o ≡ 0 → 0 ≡ firstSheet run
       unfolding Next
-      going-unopened q = none (λ k x. subst (λ (n : ℕ). Next closing n (drop (at + 1) run) k) q (lexeme-next o (drop at run) k closing (drop (at + 1) run) closes x))
+      going-unopened q =
+          none (λ k x. subst (λ (n : ℕ). Next closing n behind k) q (lexeme-next o (drop at run) k closing behind closes x))
 
       pub going-closed : o ≡ 1 → at + 1 ≡ firstSheet run
       unfolding Next Ends
-      going-closed q = ends-here closing (at + 1) closes (omega arith) (subst (λ (n : ℕ). Next closing n (drop (at + 1) run) (drop (at + 1) run)) (sym q) refl)
+      going-closed q =
+          ends-here closing (at + 1) closes (omega arith) (subst (λ (n : ℕ). Next closing n behind behind) (sym q) refl)
 
       pub going-close : (o ≡ 0 → ⊥) → (o ≡ 1 → ⊥) → Going run (at + 1) (o - 1)
       unfolding Next Wants
@@ -98,21 +106,24 @@ module _ (run : List ℕ) (at o : ℕ) (w : Going run at o) where
           let p : o ≡ suc (suc (o - 2)) = omega arith in
           let q : o - 1 ≡ suc (o - 2) = omega arith in
           goes-on closing (at + 1) closes (omega arith) (o - 1) (omega (arith, w .few))
-          (λ k x. subst (λ (n : ℕ). Wants n (drop (at + 1) run) k) (sym q) (subst (λ (n : ℕ). Next closing n (drop (at + 1) run) k) p x))
-          (λ k x. subst (λ (n : ℕ). Next closing n (drop (at + 1) run) k) (sym p) (subst (λ (n : ℕ). Wants n (drop (at + 1) run) k) q x))
+          (λ k x. subst (λ (n : ℕ). Wants n behind k) (sym q) (subst (λ (n : ℕ). Next closing n behind k) p x))
+          (λ k x. subst (λ (n : ℕ). Next closing n behind k) (sym p) (subst (λ (n : ℕ). Wants n behind k) q x))
 
     -- a string: no list is open, and the sheet is this string; or it goes on
-    module _ (l : Lexeme) (e : ℕ) (is : strictLexeme (drop at run) ≡ got l (drop e run)) (i : e ≤ length run) (ahead : at < e) (same : (n : ℕ) (k r : List ℕ) → Next l n k r ≡ Ends n k r) where
-      string-done : o ≡ 0 → e ≡ firstSheet run
-      unfolding Ends
-      string-done q =
-          ends-here l e is i (subst (λ (T : Type 0). T) (sym (same o (drop e run) (drop e run))) (subst (λ (n : ℕ). Ends n (drop e run) (drop e run)) (sym q) refl))
+    module _ (l : Lexeme) (e : ℕ) (is : strictLexeme (drop at run) ≡ got l (drop e run)) (i : e ≤ length run) (ahead : at < e)
+        (next-ends : (k r : List ℕ) → Next l o k r → Ends o k r)
+        (ends-next : (k r : List ℕ) → Ends o k r → Next l o k r)
+      where
+        string-done : o ≡ 0 → e ≡ firstSheet run
+        unfolding Ends
+        string-done q =
+            ends-here l e is i (ends-next (drop e run) (drop e run) (subst (λ (n : ℕ). Ends n (drop e run) (drop e run)) (sym q) refl))
 
-      string-on : (o ≡ 0 → ⊥) → Going run e o
-      string-on q =
-          goes-on l e is i o (omega (arith, w .few))
-          (λ k x. wanted o (drop e run) k (omega arith) (subst (λ (T : Type 0). T) (same o (drop e run) k) x))
-          (λ k x. subst (λ (T : Type 0). T) (sym (same o (drop e run) k)) (unwanted o (drop e run) k (omega arith) x))
+        string-on : (o ≡ 0 → ⊥) → Going run e o
+        string-on q =
+            goes-on l e is i o (omega (arith, w .few))
+            (λ k x. wanted o (drop e run) k (omega arith) (next-ends (drop e run) k x))
+            (λ k x. ends-next (drop e run) k (unwanted o (drop e run) k (omega arith) x))
 
     module _ (s e : ℕ) (z : r ≡ Plain s e) where
       plainly : Plainly run at s e
@@ -130,11 +141,11 @@ module _ (run : List ℕ) (at o : ℕ) (w : Going run at o) where
 
       pub going-plain : o ≡ 0 → e ≡ firstSheet run
       unfolding Next
-      going-plain q = string-done (atom (plainly .octets)) e (plainly .reads) plain-within plain-ahead (λ n k r. refl) q
+      going-plain q = string-done (atom (plainly .octets)) e (plainly .reads) plain-within plain-ahead (λ k r x. x) (λ k r x. x) q
 
       pub past-plain : (o ≡ 0 → ⊥) → Going run e o
       unfolding Next
-      past-plain q = string-on (atom (plainly .octets)) e (plainly .reads) plain-within plain-ahead (λ n k r. refl) q
+      past-plain q = string-on (atom (plainly .octets)) e (plainly .reads) plain-within plain-ahead (λ k r x. x) (λ k r x. x) q
 
     module _ (hs he s e : ℕ) (z : r ≡ Hinted hs he s e) where
       hintedly : Hintedly run at hs he s e
@@ -152,8 +163,12 @@ module _ (run : List ℕ) (at o : ℕ) (w : Going run at o) where
 
       pub going-hinted : o ≡ 0 → e ≡ firstSheet run
       unfolding Next
-      going-hinted q = string-done (hinting (hintedly .hint) (hintedly .octets)) e (hintedly .reads) hinted-within hinted-ahead (λ n k r. refl) q
+      going-hinted q =
+          string-done (hinting (hintedly .hint) (hintedly .octets)) e (hintedly .reads) hinted-within hinted-ahead
+          (λ k r x. x) (λ k r x. x) q
 
       pub past-hinted : (o ≡ 0 → ⊥) → Going run e o
       unfolding Next
-      past-hinted q = string-on (hinting (hintedly .hint) (hintedly .octets)) e (hintedly .reads) hinted-within hinted-ahead (λ n k r. refl) q
+      past-hinted q =
+          string-on (hinting (hintedly .hint) (hintedly .octets)) e (hintedly .reads) hinted-within hinted-ahead
+          (λ k r x. x) (λ k r x. x) q

@@ -43,7 +43,8 @@ unfolding partUpTo
 part-stop zero run e = refl
 part-stop (suc n) run e = rw (e, partUpTo)
 
-part-step : (n m : ℕ) (run : List ℕ) → firstSheet run ≡ suc m → partUpTo (suc n) run ≡ after (take (suc m) run) (partUpTo n (drop (suc m) run))
+part-step : (n m : ℕ) (run : List ℕ) → firstSheet run ≡ suc m
+    → partUpTo (suc n) run ≡ after (take (suc m) run) (partUpTo n (drop (suc m) run))
 unfolding partUpTo
 part-step n m run e = rw (e, partUpTo)
 
@@ -78,7 +79,8 @@ stopped : (n : ℕ) (run : List ℕ) → firstSheet run ≡ 0 → Parts run (par
 unfolding canons forms
 stopped n run e = subst (Parts run) (sym (part-stop n run e)) (record { trees = nil; is = refl; sheets = refl; ended = e })
 
-stepped : (n m : ℕ) (run : List ℕ) → firstSheet run ≡ suc m → Parts (drop (suc m) run) (partUpTo n (drop (suc m) run)) → Parts run (partUpTo (suc n) run)
+stepped : (n m : ℕ) (run : List ℕ) → firstSheet run ≡ suc m → Parts (drop (suc m) run) (partUpTo n (drop (suc m) run))
+    → Parts run (partUpTo (suc n) run)
 unfolding canons forms
 stepped n m run e p =
     let b : Begins run (drop (suc m) run) = subst (λ (k : ℕ). Begins run (drop k run)) e (first-begins run (omega (arith, e))) in
@@ -87,7 +89,9 @@ stepped n m run e p =
     (record {
       trees = cons (b .tree) (p .trees);
       is = b .is ∙ ap (λ (x : List ℕ). canon (b .tree) ++ x) (p .is) ∙ sym (append-assoc (canon (b .tree)) (canons (p .trees)) _);
-      sheets = ap₂ (λ (d : List ℕ) (ds : List (List ℕ)). d ∷ ds) (ap (take (suc m)) (b .is) ∙ take-at (canon (b .tree)) (drop (suc m) run) (suc m) l) (p .sheets);
+      sheets =
+          ap₂ (λ (d : List ℕ) (ds : List (List ℕ)). d ∷ ds) (ap (take (suc m)) (b .is)
+          ∙ take-at (canon (b .tree)) (drop (suc m) run) (suc m) l) (p .sheets);
       ended = p .ended;
     })
 
@@ -97,7 +101,9 @@ parts-of zero (b ∷ s) h = absurd (omega arith)
 parts-of (suc n) run h =
     by-eq (firstSheet run) 0
     (λ e. stopped (suc n) run e)
-    (λ e. stepped n (firstSheet run - 1) run (omega arith) (parts-of n (drop (suc (firstSheet run - 1)) run) (omega (arith, length-drop (suc (firstSheet run - 1)) run))))
+    (λ e.
+    let m : ℕ = firstSheet run - 1 in
+    stepped n m run (omega arith) (parts-of n (drop (suc m) run) (omega (arith, length-drop (suc m) run))))
 
 pub parts : (run : List ℕ) → Parts run (partRun run)
 unfolding partRun

@@ -35,7 +35,16 @@ with-tree : (t : Tree) (o : ℕ) (s k r : List ℕ) → s ≡ canon t ++ k → E
 unfolding Wants Ends canons
 with-tree t zero s k r e x = record { tree = t; is = e ∙ ap (λ (z : List ℕ). canon t ++ z) x }
 with-tree t (suc o) s k r e x =
-    record { forest = cons t (x .forest); rest = x .rest; is = e ∙ ap (λ (z : List ℕ). canon t ++ z) (x .is) ∙ sym (append-assoc (canon t) (canons (x .forest)) (41 ∷ x .rest)); on = x .on }
+    record {
+      forest =
+          cons t (x .forest);
+      rest =
+          x .rest;
+      is =
+          e ∙ ap (λ (z : List ℕ). canon t ++ z) (x .is) ∙ sym (append-assoc (canon t) (canons (x .forest)) (41 ∷ x .rest));
+      on =
+          x .on;
+    }
 
 -- a list in front: its elements, and what follows it
 with-list : (o : ℕ) (s k r : List ℕ) → s ≡ 40 ∷ k → Ends (suc o) k r → Wants o s r
@@ -44,14 +53,22 @@ with-list o s k r e x = with-tree (list (x .forest)) o s (x .rest) r (e ∙ ap (
 
 -- ---- and taken apart: what is in front is a tree, or the list's end
 module _ {G : Type 0} (s r : List ℕ) where
-  unfront : (o : ℕ) → Wants o s r → ((t : Tree) (k : List ℕ) → s ≡ canon t ++ k → Ends o k r → G) → ((p k : _) → o ≡ suc p → s ≡ 41 ∷ k → Ends p k r → G) → G
+  unfront : (o : ℕ) → Wants o s r → ((t : Tree) (k : List ℕ) → s ≡ canon t ++ k → Ends o k r → G)
+      → ((p k : _) → o ≡ suc p → s ≡ 41 ∷ k → Ends p k r → G) → G
   unfolding Wants Ends canons
   unfront zero w f g = f (w .tree) r (w .is) refl
   unfront (suc o) w f g = by (w .forest) (w .is)
     where
       by : (x : Forest) → s ≡ canons x ++ 41 ∷ w .rest → G
       by nil e = g o (w .rest) refl e (w .on)
-      by (cons t x) e = f t (canons x ++ 41 ∷ w .rest) (e ∙ append-assoc (canon t) (canons x) (41 ∷ w .rest)) (record { forest = x; rest = w .rest; is = refl; on = w .on })
+      by (cons t x) e =
+          f t (canons x ++ 41 ∷ w .rest) (e ∙ append-assoc (canon t) (canons x) (41 ∷ w .rest)) (record {
+            forest =
+                x;
+            rest = w .rest;
+            is = refl;
+            on = w .on;
+          })
 
 -- ---- one lexeme: what is wanted after it
 unfoldable pub Next : Lexeme → ℕ → List ℕ → List ℕ → Type 0
@@ -71,7 +88,8 @@ record Reads (o : ℕ) (s r : List ℕ) : Type 0 where
 tree-reads : (t : Tree) (o : ℕ) (s k r : List ℕ) → s ≡ canon t ++ k → Ends o k r → Reads o s r
 unfolding Next Ends canon octetsOfLexeme
 tree-reads (plain d) o s k r e x = record { lexeme = atom d; rest = k; reads = ap strictLexeme e ∙ strict-complete (atom d) k; next = x }
-tree-reads (hinted h d) o s k r e x = record { lexeme = hinting h d; rest = k; reads = ap strictLexeme e ∙ strict-complete (hinting h d) k; next = x }
+tree-reads (hinted h d) o s k r e x =
+    record { lexeme = hinting h d; rest = k; reads = ap strictLexeme e ∙ strict-complete (hinting h d) k; next = x }
 tree-reads (list f) o s k r e x =
     record {
       lexeme = opening;

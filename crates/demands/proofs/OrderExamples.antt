@@ -37,12 +37,14 @@ shorter-first room = then (correcting shorter (take room lent) table 11 3 2) lon
 abbrev left : List ℕ
 left = 40 ∷ 52 ∷ 58 ∷ 97 ∷ 97 ∷ 97 ∷ 97 ∷ 49 ∷ 58 ∷ 98 ∷ 41 ∷ []
 
-answers : map (λ (o : Outcome). o .number ∷ o .octets ∷ o .count ∷ []) (longer-first 14 ∷ shorter-first 14 ∷ []) ≡ (0 ∷ 11 ∷ 3 ∷ []) ∷ (0 ∷ 11 ∷ 3 ∷ []) ∷ []
+answers : map (λ (o : Outcome). o .number ∷ o .octets ∷ o .count ∷ []) (longer-first 14 ∷ shorter-first 14 ∷ [])
+    ≡ (0 ∷ 11 ∷ 3 ∷ []) ∷ (0 ∷ 11 ∷ 3 ∷ []) ∷ []
 unfolding correcting equal chain isNone digitsUpTo digits verbatim canon nodes depth flat tableOf rows bind number decimal first afterLength verbatimOf closeStrict strictLexeme before lexemesBy strictLexemes onto enclose place placeIn nestings onlyTree onlyIn nest decode₁ decode join within replace verdict judged noForm the roomChecks textChecks settled fits fitting sheetTree owns ownTree filled replaced replacingChecks replacing
 answers = refl
 
 -- the rest may differ
-rests : map (λ (o : Outcome). o .canonical) (longer-first 14 ∷ shorter-first 14 ∷ []) ≡ (left ++ (0 ∷ 0 ∷ 0 ∷ [])) ∷ (left ++ (9 ∷ 9 ∷ 9 ∷ [])) ∷ []
+rests : map (λ (o : Outcome). o .canonical) (longer-first 14 ∷ shorter-first 14 ∷ [])
+    ≡ (left ++ (0 ∷ 0 ∷ 0 ∷ [])) ∷ (left ++ (9 ∷ 9 ∷ 9 ∷ [])) ∷ []
 unfolding correcting equal chain isNone digitsUpTo digits verbatim canon nodes depth flat tableOf rows bind number decimal first afterLength verbatimOf closeStrict strictLexeme before lexemesBy strictLexemes onto enclose place placeIn nestings onlyTree onlyIn nest decode₁ decode join within replace verdict judged noForm the roomChecks textChecks settled fits fitting sheetTree owns ownTree filled replaced replacingChecks replacing
 rests = refl
 

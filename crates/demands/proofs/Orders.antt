@@ -54,26 +54,46 @@ module _ (canonical table : List ℕ) (len count node : ℕ) where
   quiet : (cs : List Check) (o : Outcome) → judged cs o (λ n. unchanged n canonical table) .number ≡ 0 → verdict cs ≡ 0
   quiet cs o e = no-row (λ (o : Outcome). o .number) cs o (λ (n : ℕ). unchanged n canonical table) (λ n. refl) e
 
-  replace-did : (form : ℕ) (text : List ℕ) → replacing form text canonical table len count node .number ≡ 0 → Did (replacement form text) canonical table len count node
+  replace-did : (form : ℕ) (text : List ℕ) → replacing form text canonical table len count node .number ≡ 0
+      → Did (replacement form text) canonical table len count node
   unfolding correcting deedOf done replacing replacingChecks replaced the
   replace-did form text e =
       let v : verdict (replacingChecks form text canonical table len count node) ≡ 0 = quiet _ _ e in
       found canonical table len count node _ (text-of form text _ v .rest)
-      (λ t i p. record { old = t; own = i; present = p; leaves = judged-accepted _ _ _ v ∙ ap (λ (x : Option Tree). filled (replace (the x) node (the (decode form text))) len count canonical table) i })
+      (λ t i p. record {
+        old = t;
+        own = i;
+        present = p;
+        leaves = judged-accepted _ _ _ v
+            ∙ ap (λ (x : Option Tree). filled (replace (the x) node (the (decode form text))) len count canonical table) i;
+      })
 
-  insert-did : (form : ℕ) (text : List ℕ) (k : ℕ) → inserting form text canonical table len count node k .number ≡ 0 → Did (insertion form text k) canonical table len count node
+  insert-did : (form : ℕ) (text : List ℕ) (k : ℕ) → inserting form text canonical table len count node k .number ≡ 0
+      → Did (insertion form text k) canonical table len count node
   unfolding correcting deedOf done inserting insertingChecks inserted the
   insert-did form text k e =
       let v : verdict (insertingChecks form text canonical table len count node k) ≡ 0 = quiet _ _ e in
       found canonical table len count node _ (text-of form text _ v .rest)
-      (λ t i p. record { old = t; own = i; present = p; leaves = judged-accepted _ _ _ v ∙ ap (λ (x : Option Tree). filled (insert (the x) node k (the (decode form text))) len count canonical table) i })
+      (λ t i p. record {
+        old = t;
+        own = i;
+        present = p;
+        leaves = judged-accepted _ _ _ v
+            ∙ ap (λ (x : Option Tree). filled (insert (the x) node k (the (decode form text))) len count canonical table) i;
+      })
 
   remove-did : removing canonical table len count node .number ≡ 0 → Did removal canonical table len count node
   unfolding correcting deedOf done removing removingChecks removed the
   remove-did e =
       let v : verdict (removingChecks canonical table len count node) ≡ 0 = quiet _ _ e in
       found canonical table len count node _ v
-      (λ t i p. record { old = t; own = i; present = p; leaves = judged-accepted _ _ _ v ∙ ap (λ (x : Option Tree). filled (remove (the x) node) len count canonical table) i })
+      (λ t i p. record {
+        old = t;
+        own = i;
+        present = p;
+        leaves = judged-accepted _ _ _ v
+            ∙ ap (λ (x : Option Tree). filled (remove (the x) node) len count canonical table) i;
+      })
 
   pub did : (c : Correction) → correcting c canonical table len count node .number ≡ 0 → Did c canonical table len count node
   unfolding correcting
@@ -97,36 +117,44 @@ same-left t o p x y =
     (same-tree t (x .len) (x .count) (y .len) (y .count) (x .canonical) (x .table) (y .canonical) (y .table)))
 
 -- ---- one correction after another: the second is of the tree that the first has made
-module _ (c : Correction) (canonical table : List ℕ) (len count node : ℕ) (t : Tree) (own : ownTree canonical len table count ≡ some t) (e : correcting c canonical table len count node .number ≡ 0) where
-  abbrev once : Outcome
-  once = correcting c canonical table len count node
+module _ (c : Correction) (canonical table : List ℕ) (len count node : ℕ) (t : Tree)
+    (own : ownTree canonical len table count ≡ some t)
+    (e : correcting c canonical table len count node .number ≡ 0)
+  where
+    abbrev once : Outcome
+    once = correcting c canonical table len count node
 
-  leaves-it : once ≡ filled (done (deedOf c) t node) len count canonical table
-  leaves-it =
-      let d : Did c canonical table len count node = did canonical table len count node c e in
-      some-same (λ (x : Tree). once ≡ filled (done (deedOf c) x node) len count canonical table) (sym (d .own) ∙ own) (d .leaves)
+    abbrev now : Tree
+    now = done (deedOf c) t node
 
-  counted : once .count ≡ nodes (done (deedOf c) t node)
-  unfolding filled
-  counted = ap (λ (o : Outcome). o .count) leaves-it
+    leaves-it : once ≡ filled now len count canonical table
+    leaves-it =
+        let d : Did c canonical table len count node = did canonical table len count node c e in
+        some-same (λ (x : Tree). once ≡ filled (done (deedOf c) x node) len count canonical table) (sym (d .own) ∙ own) (d .leaves)
 
-  then-leaves : (d : Correction) (n : ℕ) → then once d n .number ≡ 0 → Left (then once d n) (done (deedOf d) (done (deedOf c) t node) n)
-  then-leaves d n f =
-      let x : Did d (once .canonical) (once .table) (once .octets) (once .count) n = did (once .canonical) (once .table) (once .octets) (once .count) n d f in
-      let o : Own (once .canonical) (once .octets) (once .table) (once .count) (x .old) = own-of (once .canonical) (once .octets) (once .table) (once .count) (x .old) (x .own) in
-      let g : canon (x .old) ≡ canon (done (deedOf c) t node) =
-      sym (o .sheet .is) ∙ ap (λ (y : Outcome). take (y .octets) (y .canonical)) leaves-it ∙ front-octets (done (deedOf c) t node) len count canonical table in
-      record {
-        len = once .octets;
-        count = once .count;
-        canonical = once .canonical;
-        table = once .table;
-        is = x .leaves ∙ ap (λ (y : Tree). filled (done (deedOf d) y n) (once .octets) (once .count) (once .canonical) (once .table)) (canon-inj (x .old) (done (deedOf c) t node) g);
-      }
+    counted : once .count ≡ nodes now
+    unfolding filled
+    counted = ap (λ (o : Outcome). o .count) leaves-it
+
+    then-leaves : (d : Correction) (n : ℕ) → then once d n .number ≡ 0 → Left (then once d n) (done (deedOf d) now n)
+    then-leaves d n f =
+        let x = did (once .canonical) (once .table) (once .octets) (once .count) n d f in
+        let o = own-of (once .canonical) (once .octets) (once .table) (once .count) (x .old) (x .own) in
+        let g : canon (x .old) ≡ canon now =
+        sym (o .sheet .is) ∙ ap (λ (y : Outcome). take (y .octets) (y .canonical)) leaves-it ∙ front-octets now len count canonical table in
+        record {
+          len = once .octets;
+          count = once .count;
+          canonical = once .canonical;
+          table = once .table;
+          is = x .leaves
+              ∙ ap (λ (y : Tree). filled (done (deedOf d) y n) (once .octets) (once .count) (once .canonical) (once .table)) (canon-inj (x .old) now g);
+        }
 
 -- ---- two clerks: each has the sheet of the tree t in space lent to him, the same or his own. One corrects node a and then b, the other b
 -- and then a. b is further on and outside a, and where it comes second its number is shifted by the change in node count
-module _ (c d : Correction) (t : Tree) (len count a b b' : ℕ) (outside : a + nodes (nodeAt t a) ≤ b)
+module _ (c d : Correction) (t : Tree) (len count a b b' : ℕ)
+    (outside : a + nodes (nodeAt t a) ≤ b)
     (canonical table : List ℕ) (own : ownTree canonical len table count ≡ some t)
     (canonical' table' : List ℕ) (own' : ownTree canonical' len table' count ≡ some t)
     (a-first : correcting c canonical table len count a .number ≡ 0)
@@ -135,17 +163,24 @@ module _ (c d : Correction) (t : Tree) (len count a b b' : ℕ) (outside : a + n
     (b-first : correcting d canonical' table' len count b .number ≡ 0)
     (a-second : then (correcting d canonical' table' len count b) c a .number ≡ 0)
   where
+    abbrev a-then-b : Outcome
+    a-then-b = then (correcting c canonical table len count a) d b'
+
+    abbrev b-then-a : Outcome
+    b-then-a = then (correcting d canonical' table' len count b) c a
+
     present : b < nodes t
     present = omega (arith, did canonical' table' len count b d b-first .present, own-of canonical' len table' count t own' .counted)
 
     same-trees : done (deedOf d) (done (deedOf c) t a) b' ≡ done (deedOf c) (done (deedOf d) t b) a
     same-trees =
-        sym (either-order t a b present outside (deedOf c) (deedOf d) b'
-        (omega (arith, shift, counted c canonical table len count a t own a-first, own-of canonical len table count t own .counted, done-nodes t a b present outside (deedOf c))))
+        let n = counted c canonical table len count a t own a-first in
+        let m = own-of canonical len table count t own .counted in
+        sym (either-order t a b present outside (deedOf c) (deedOf d) b' (omega (arith, shift, n, m, done-nodes t a b present outside (deedOf c))))
 
     -- 02, "end in the same length, count, octets and table up to these in either order"
-    pub either-way : SameResult (then (correcting c canonical table len count a) d b') (then (correcting d canonical' table' len count b) c a)
+    pub either-way : SameResult a-then-b b-then-a
     either-way =
-        same-left (done (deedOf c) (done (deedOf d) t b) a) (then (correcting c canonical table len count a) d b') (then (correcting d canonical' table' len count b) c a)
-        (subst (Left (then (correcting c canonical table len count a) d b')) same-trees (then-leaves c canonical table len count a t own a-first d b' b-second))
+        same-left (done (deedOf c) (done (deedOf d) t b) a) a-then-b b-then-a
+        (subst (Left a-then-b) same-trees (then-leaves c canonical table len count a t own a-first d b' b-second))
         (then-leaves d canonical' table' len count b t own' b-first c a a-second)

@@ -57,7 +57,8 @@ module _ (t : Tree) (a b : ℕ) (h : b < nodes t) (o : a + nodes (nodeAt t a) �
 
     b-then-a : across e (across d (one t) b) a ≡ both
     b-then-a =
-        ap (λ (f : Forest). across e f a) (m .edited d ∙ ap (λ (p : Place). fill p (d (m .node))) (pair .is-second) ∙ fill-second (pair .two) (one (l .node)) (d (m .node)))
+        ap (λ (f : Forest). across e f a) (m .edited d ∙ ap (λ (p : Place). fill p (d (m .node))) (pair .is-second)
+        ∙ fill-second (pair .two) (one (l .node)) (d (m .node)))
         ∙ second-first e d (pair .two) (l .node) (m .node) a
         (sym (l .num) ∙ ap number (pair .is-first) ∙ number-first (pair .two) (one (m .node)) (d (m .node)))
 
@@ -65,11 +66,13 @@ module _ (t : Tree) (a b : ℕ) (h : b < nodes t) (o : a + nodes (nodeAt t a) �
     a-then-b b' k =
         let n : nodess (one (l .node)) ≡ nodes (nodeAt t a) = nodess-one (l .node) ∙ ap nodes (sym (l .isNode)) in
         let q : nodess (e (l .node)) ≡ nodess (e (nodeAt t a)) = ap (λ (x : Tree). nodess (e x)) (sym (l .isNode)) in
-        ap (λ (f : Forest). across d f b') (l .edited e ∙ ap (λ (p : Place). fill p (e (l .node))) (pair .is-first) ∙ fill-first (pair .two) (e (l .node)) (one (m .node)))
+        ap (λ (f : Forest). across d f b') (l .edited e ∙ ap (λ (p : Place). fill p (e (l .node))) (pair .is-first)
+        ∙ fill-first (pair .two) (e (l .node)) (one (m .node)))
         ∙ first-second e d (pair .two) (l .node) (m .node) b'
         (omega (arith, k, n, q, m .num, ap number (pair .is-second), number-second (pair .two) (one (l .node)) (e (l .node))))
 
-    pub across-either : (b' : ℕ) → b' + nodes (nodeAt t a) ≡ b + nodess (e (nodeAt t a)) → across e (across d (one t) b) a ≡ across d (across e (one t) a) b'
+    pub across-either : (b' : ℕ) → b' + nodes (nodeAt t a) ≡ b + nodess (e (nodeAt t a))
+        → across e (across d (one t) b) a ≡ across d (across e (one t) a) b'
     across-either b' k = b-then-a ∙ sym (a-then-b b' k)
 
     -- the nodes that are there after one of the two
@@ -82,9 +85,12 @@ module _ (t : Tree) (a b : ℕ) (h : b < nodes t) (o : a + nodes (nodeAt t a) �
         let q : nodess (e (l .node)) ≡ nodess (e (nodeAt t a)) = ap (λ (x : Tree). nodess (e x)) (sym (l .isNode)) in
         let s = ap number (pair .is-second) in
         let f : nodess (across e (one t) a) ≡ nodess (fill (second (pair .two) (e (l .node))) (one (m .node))) =
-        ap nodess (l .edited e ∙ ap (λ (p : Place). fill p (e (l .node))) (pair .is-first) ∙ fill-first (pair .two) (e (l .node)) (one (m .node))
+        ap nodess (l .edited e ∙ ap (λ (p : Place). fill p (e (l .node))) (pair .is-first)
+        ∙ fill-first (pair .two) (e (l .node)) (one (m .node))
         ∙ sym (fill-second (pair .two) (e (l .node)) (one (m .node)))) in
-        omega (arith, f, fill-nodes (second (pair .two) (e (l .node))) (one (m .node)), nodess-one (m .node), nodes-pos (m .node), k, n, q, m .num, s, number-second (pair .two) (one (l .node)) (e (l .node)))
+        let v = fill-nodes (second (pair .two) (e (l .node))) (one (m .node)) in
+        let r = number-second (pair .two) (one (l .node)) (e (l .node)) in
+        omega (arith, f, v, nodess-one (m .node), nodes-pos (m .node), k, n, q, m .num, s, r)
 
 -- ---- the changes of a tree as changes of the forest of that tree alone
 pub done-across : (c : Deed) (t : Tree) (k : ℕ) → 0 < k → k < nodes t → one (done c t k) ≡ across (makes c) (one t) k
@@ -123,13 +129,19 @@ module _ (t : Tree) (a b : ℕ) (h : b < nodes t) (o : a + nodes (nodeAt t a) �
       let y : nodes t ≡ nodess (fill (l .place) (one (l .node))) = sym (nodess-one t) ∙ ap nodess (l .is) in
       omega (arith, n, q, x, y, fill-nodes (l .place) (makes c (l .node)), fill-nodes (l .place) (one (l .node)))
 
-  pub either-order : (c d : Deed) (b' : ℕ) → b' + nodes (nodeAt t a) ≡ b + nodess (makes c (nodeAt t a)) → done c (done d t b) a ≡ done d (done c t a) b'
+  pub either-order : (c d : Deed) (b' : ℕ) → b' + nodes (nodeAt t a) ≡ b + nodess (makes c (nodeAt t a))
+      → done c (done d t b) a ≡ done d (done c t a) b'
   either-order c d b' k =
       let p = nodes-pos (nodeAt t a) in
       let x : one (done d t b) ≡ across (makes d) (one t) b = done-across d t b (omega arith) h in
       let y : one (done c t a) ≡ across (makes c) (one t) a = done-across c t a not-the-whole (omega arith) in
       let n : a < nodes (done d t b) = omega (arith, sym (nodess-one (done d t b)) ∙ ap nodess x, after-b t a b h o (makes c) (makes d)) in
-      let r : b' < nodes (done c t a) = omega (arith, sym (nodess-one (done c t a)) ∙ ap nodess y, after-a t a b h o (makes c) (makes d) b' k) in
+      let r : b' < nodes (done c t a) = omega (
+        arith,
+        sym (nodess-one (done c t a))
+            ∙ ap nodess y,
+        after-a t a b h o (makes c) (makes d) b' k,
+      ) in
       only (done-across c (done d t b) a not-the-whole n
       ∙ ap (λ (f : Forest). across (makes c) f a) x
       ∙ across-either t a b h o (makes c) (makes d) b' k

@@ -19,16 +19,19 @@ corrected : replace (replace sheet 4 (s 121)) 2 (s 120) ≡ list (cons (s 97) (c
 unfolding sheet replace within join nodes
 corrected = refl
 
-corrected-too : replace (replace sheet 2 (s 120)) 3 (s 121) ≡ list (cons (s 97) (cons (s 120) (cons (s 121) nil)))
+corrected-too : replace (replace sheet 2 (s 120)) 3 (s 121)
+    ≡ list (cons (s 97) (cons (s 120) (cons (s 121) nil)))
 unfolding sheet replace within join nodes
 corrected-too = refl
 
 -- two insertions at the same place of one list: the later one comes first, so the order tells
-inserted : insert (insert sheet 0 1 (s 120)) 0 1 (s 121) ≡ list (cons (s 97) (cons (s 121) (cons (s 120) (cons (list (cons (s 98) nil)) (cons (s 99) nil)))))
+inserted : insert (insert sheet 0 1 (s 120)) 0 1 (s 121)
+    ≡ list (cons (s 97) (cons (s 121) (cons (s 120) (cons (list (cons (s 98) nil)) (cons (s 99) nil)))))
 unfolding sheet insert putIn put
 inserted = refl
 
-inserted-too : insert (insert sheet 0 1 (s 121)) 0 1 (s 120) ≡ list (cons (s 97) (cons (s 120) (cons (s 121) (cons (list (cons (s 98) nil)) (cons (s 99) nil)))))
+inserted-too : insert (insert sheet 0 1 (s 121)) 0 1 (s 120)
+    ≡ list (cons (s 97) (cons (s 120) (cons (s 121) (cons (list (cons (s 98) nil)) (cons (s 99) nil)))))
 unfolding sheet insert putIn put
 inserted-too = refl
 

@@ -91,8 +91,8 @@ beyond nil q b h e l = record { rest = q; is = refl; fills = e }
 beyond (cons t g) (here c) b h e l = absurd (omega (arith, canon-two t, length-append (canon t) (canons g)))
 beyond (cons t g) (past u q) b h e l =
     let x : t ≡ u = ap head e in
-    let r : Beyond g q b h =
-    beyond g q b h (ap tail e) (omega (arith, l, past-length u q, length-append (canon t) (canons g), ap (λ (z : Tree). length (canon z)) x)) in
+    let y = ap (λ (z : Tree). length (canon z)) x in
+    let r : Beyond g q b h = beyond g q b h (ap tail e) (omega (arith, l, past-length u q, length-append (canon t) (canons g), y)) in
     record { rest = r .rest; is = ap₂ past (sym x) (r .is); fills = r .fills }
 beyond (cons t g) (down q c) b h e l =
     absurd (omega (arith, l, length-append (canon t) (canons g), ap (λ (z : Tree). length (canon z)) (ap head e), list-long q h))
@@ -105,7 +105,8 @@ find-two (here b) q g h e l =
 find-two (past t p) (here c) g h e l = absurd (omega (arith, past-length t p, canon-two t))
 find-two (past t p) (past u q) g h e l =
     let x : t ≡ u = ap head e in
-    let r : Pair p q g h = find-two p q g h (ap tail e) (omega (arith, l, past-length t p, past-length u q, ap (λ (z : Tree). length (canon z)) x)) in
+    let y = ap (λ (z : Tree). length (canon z)) x in
+    let r : Pair p q g h = find-two p q g h (ap tail e) (omega (arith, l, past-length t p, past-length u q, y)) in
     record { two = further t (r .two); is-first = ap (past t) (r .is-first); is-second = ap₂ past (sym x) (r .is-second) }
 find-two (past t p) (down q c) g h e l =
     absurd (omega (arith, l, past-length t p, ap (λ (z : Tree). length (canon z)) (ap head e), list-long q h))
@@ -114,4 +115,9 @@ find-two (down p b) (past u q) g h e l =
     record { two = parted p q; is-first = ap (down p) (ap tail e); is-second = ap (λ (t : Tree). past t q) (sym (ap head e)) }
 find-two (down p b) (down q c) g h e l =
     let r : Pair p q g h = find-two p q g h (ap (λ (f : Forest). elements (head f)) e) (omega arith) in
-    record { two = under (r .two) b; is-first = ap (λ (x : Place). down x b) (r .is-first); is-second = ap₂ down (r .is-second) (sym (ap tail e)) }
+    record {
+      two =
+          under (r .two) b;
+      is-first = ap (λ (x : Place). down x b) (r .is-first);
+      is-second = ap₂ down (r .is-second) (sym (ap tail e));
+    }
