@@ -12,7 +12,7 @@ use Rattle.model.specs.Lexemes.{closeStrict, strictLexeme, before, lexemesBy, s
 use Rattle.model.specs.Strings.{bind, number, decimal, first, afterLength, verbatimOf}
 use Rattle.model.specs.Table.{rows, flat, tableOf}
 use Rattle.model.specs.Tree.{digitsUpTo, digits, verbatim, canon, nodes, depth}
-use Rattle.demands.specs.Conditions.{Correction, replacement, correcting, then}
+use Rattle.demands.specs.Orders.{Errand, replacement, correcting, then}
 
 -- the sheet, and three octets more
 abbrev lent : List ℕ
@@ -21,10 +21,10 @@ lent = (40 ∷ 49 ∷ 58 ∷ 97 ∷ 52 ∷ 58 ∷ 98 ∷ 98 ∷ 98 ∷ 98 ∷ 41
 abbrev table : List ℕ
 table = (2 ∷ 0 ∷ 11 ∷ 3 ∷ 0 ∷ 0 ∷ 1 ∷ 10 ∷ []) ++ (0 ∷ 1 ∷ 4 ∷ 1 ∷ 0 ∷ 0 ∷ 3 ∷ 4 ∷ []) ++ (0 ∷ 4 ∷ 10 ∷ 1 ∷ 0 ∷ 0 ∷ 6 ∷ 10 ∷ [])
 
-abbrev longer : Correction
+abbrev longer : Errand
 longer = replacement 1 (52 ∷ 58 ∷ 97 ∷ 97 ∷ 97 ∷ 97 ∷ [])
 
-abbrev shorter : Correction
+abbrev shorter : Errand
 shorter = replacement 1 (49 ∷ 58 ∷ 98 ∷ [])
 
 -- in so much room

@@ -10,7 +10,7 @@ use lib.ListN.{take}
 use borrow.Author.Tests.{leb-false}
 use Rattle.base.specs.Choice.{isNone}
 use Rattle.base.proofs.Cases.{some-same}
-use Rattle.model.specs.Answers.{Check, when, verdict, judged, the, ownTree, Outcome, unchanged, filled, replaced, replacingChecks, replacing}
+use Rattle.model.specs.Answers.{Check, when, verdict, the, ownTree, Outcome, filled, replaced, replacingChecks, replacing}
 use Rattle.model.specs.Corrections.{inserted, insertingChecks, inserting, removed, removingChecks, removing}
 use Rattle.model.specs.Decode.{decode}
 use Rattle.model.specs.Edit.{replace, insert, remove}
@@ -22,19 +22,20 @@ use Rattle.model.proofs.Unique.{canon-inj}
 use Rattle.lookup.proofs.Sheets.{Own, own-of}
 use Rattle.pairs.specs.Deeds.{Deed, to, with-in, away, done}
 use Rattle.pairs.proofs.Apart.{done-nodes, either-order}
-use Rattle.demands.specs.Conditions.{SameResult, Correction, replacement, insertion, removal, correcting, then}
+use Rattle.demands.specs.Conditions.{SameResult}
+use Rattle.demands.specs.Orders.{Errand, replacement, insertion, removal, correcting, then}
 use Rattle.demands.proofs.Afresh.{front-octets, same-tree}
 use Rattle.demands.proofs.Rooms.{text-of}
 use Rattle.demands.proofs.Rows.{no-row, not-this, there}
 
 -- what is done to the node
-unfoldable pub deedOf : Correction → Deed
+unfoldable pub deedOf : Errand → Deed
 deedOf (replacement form text) = to (the (decode form text))
 deedOf (insertion form text k) = with-in k (the (decode form text))
 deedOf removal = away
 
 -- an accepted correction: what is done is done to a node of the sheet's tree, and the tree that it makes is put where that stood
-pub record Did (c : Correction) (canonical table : List ℕ) (len count node : ℕ) : Type 0 where
+pub record Did (c : Errand) (canonical table : List ℕ) (len count node : ℕ) : Type 0 where
   pub old : Tree
   pub own : ownTree canonical len table count ≡ some old
   pub present : node < count
@@ -50,15 +51,12 @@ found canonical table len count node more v g =
     there (ownTree canonical len table count) (d .0) (λ t i. g t i (leb-false _ _ (e .0)))
 
 module _ (canonical table : List ℕ) (len count node : ℕ) where
-  -- no row applies, where an answer by a list of checks has number 0
-  quiet : (cs : List Check) (o : Outcome) → judged cs o (λ n. unchanged n canonical table) .number ≡ 0 → verdict cs ≡ 0
-  quiet cs o e = no-row (λ (o : Outcome). o .number) cs o (λ (n : ℕ). unchanged n canonical table) (λ n. refl) e
-
   replace-did : (form : ℕ) (text : List ℕ) → replacing form text canonical table len count node .number ≡ 0
       → Did (replacement form text) canonical table len count node
   unfolding correcting deedOf done replacing replacingChecks replaced the
   replace-did form text e =
-      let v : verdict (replacingChecks form text canonical table len count node) ≡ 0 = quiet _ _ e in
+      let v : verdict (replacingChecks form text canonical table len count node) ≡ 0 =
+      no-row (λ (o : Outcome). o .number) _ _ _ (λ n. refl) e in
       found canonical table len count node _ (text-of form text _ v .rest)
       (λ t i p. record {
         old = t;
@@ -72,7 +70,8 @@ module _ (canonical table : List ℕ) (len count node : ℕ) where
       → Did (insertion form text k) canonical table len count node
   unfolding correcting deedOf done inserting insertingChecks inserted the
   insert-did form text k e =
-      let v : verdict (insertingChecks form text canonical table len count node k) ≡ 0 = quiet _ _ e in
+      let v : verdict (insertingChecks form text canonical table len count node k) ≡ 0 =
+      no-row (λ (o : Outcome). o .number) _ _ _ (λ n. refl) e in
       found canonical table len count node _ (text-of form text _ v .rest)
       (λ t i p. record {
         old = t;
@@ -85,7 +84,8 @@ module _ (canonical table : List ℕ) (len count node : ℕ) where
   remove-did : removing canonical table len count node .number ≡ 0 → Did removal canonical table len count node
   unfolding correcting deedOf done removing removingChecks removed the
   remove-did e =
-      let v : verdict (removingChecks canonical table len count node) ≡ 0 = quiet _ _ e in
+      let v : verdict (removingChecks canonical table len count node) ≡ 0 =
+      no-row (λ (o : Outcome). o .number) _ _ _ (λ n. refl) e in
       found canonical table len count node _ v
       (λ t i p. record {
         old = t;
@@ -95,7 +95,7 @@ module _ (canonical table : List ℕ) (len count node : ℕ) where
             ∙ ap (λ (x : Option Tree). filled (remove (the x) node) len count canonical table) i;
       })
 
-  pub did : (c : Correction) → correcting c canonical table len count node .number ≡ 0 → Did c canonical table len count node
+  pub did : (c : Errand) → correcting c canonical table len count node .number ≡ 0 → Did c canonical table len count node
   unfolding correcting
   did (replacement form text) e = replace-did form text e
   did (insertion form text k) e = insert-did form text k e
@@ -117,7 +117,7 @@ same-left t o p x y =
     (same-tree t (x .len) (x .count) (y .len) (y .count) (x .canonical) (x .table) (y .canonical) (y .table)))
 
 -- ---- one correction after another: the second is of the tree that the first has made
-module _ (c : Correction) (canonical table : List ℕ) (len count node : ℕ) (t : Tree)
+module _ (c : Errand) (canonical table : List ℕ) (len count node : ℕ) (t : Tree)
     (own : ownTree canonical len table count ≡ some t)
     (e : correcting c canonical table len count node .number ≡ 0)
   where
@@ -136,7 +136,7 @@ module _ (c : Correction) (canonical table : List ℕ) (len count node : ℕ) (t
     unfolding filled
     counted = ap (λ (o : Outcome). o .count) leaves-it
 
-    then-leaves : (d : Correction) (n : ℕ) → then once d n .number ≡ 0 → Left (then once d n) (done (deedOf d) now n)
+    then-leaves : (d : Errand) (n : ℕ) → then once d n .number ≡ 0 → Left (then once d n) (done (deedOf d) now n)
     then-leaves d n f =
         let x = did (once .canonical) (once .table) (once .octets) (once .count) n d f in
         let o = own-of (once .canonical) (once .octets) (once .table) (once .count) (x .old) (x .own) in
@@ -153,7 +153,7 @@ module _ (c : Correction) (canonical table : List ℕ) (len count node : ℕ) (t
 
 -- ---- two clerks: each has the sheet of the tree t in space lent to him, the same or his own. One corrects node a and then b, the other b
 -- and then a. b is further on and outside a, and where it comes second its number is shifted by the change in node count
-module _ (c d : Correction) (t : Tree) (len count a b b' : ℕ)
+module _ (c d : Errand) (t : Tree) (len count a b b' : ℕ)
     (outside : a + nodes (nodeAt t a) ≤ b)
     (canonical table : List ℕ) (own : ownTree canonical len table count ≡ some t)
     (canonical' table' : List ℕ) (own' : ownTree canonical' len table' count ≡ some t)

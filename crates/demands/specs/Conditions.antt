@@ -5,8 +5,7 @@ use mathlib.Core.Bool.{true, false}
 use mathlib.Core.Option.{some}
 use mathlib.Core.List.{List, [], _∷_, _++_}
 use lib.ListN.{length, take, drop}
-use Rattle.model.specs.Answers.{Check, when, noForm, ownTree, Outcome, replacing}
-use Rattle.model.specs.Corrections.{inserting, removing}
+use Rattle.model.specs.Answers.{Check, when, noForm, ownTree, Outcome}
 use Rattle.model.specs.Decode.{decode}
 use Rattle.model.specs.Edit.{replace}
 use Rattle.model.specs.Grammar.{Language, rules}
@@ -70,21 +69,3 @@ pub record SameResult (corrected fresh : Outcome) : Type 0 where
 -- the numbers of node j's record in a lent table
 unfoldable pub recordAt : List ℕ → ℕ → List ℕ
 recordAt table j = take width (drop (width * j) table)
-
--- ---- 02, Ask 14, "corrections of two different nodes", of which 02, Ask 5 has two kinds more: an insertion into a node and a removal
-pub data Correction : Type 0 where
-  -- form, text
-  replacement : ℕ → List ℕ → Correction
-  -- form, text, the place in the list
-  insertion : ℕ → List ℕ → ℕ → Correction
-  removal : Correction
-
--- what an entry answers to it, and leaves: of the sheet and table lent, with their length and count, and a node
-unfoldable pub correcting : Correction → List ℕ → List ℕ → ℕ → ℕ → ℕ → Outcome
-correcting (replacement form text) canonical table len count node = replacing form text canonical table len count node
-correcting (insertion form text k) canonical table len count node = inserting form text canonical table len count node k
-correcting removal canonical table len count node = removing canonical table len count node
-
--- the same on the sheet and table that a correction has left
-abbrev pub then : Outcome → Correction → ℕ → Outcome
-then o c node = correcting c (o .canonical) (o .table) (o .octets) (o .count) node
