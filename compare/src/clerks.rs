@@ -38,7 +38,7 @@ struct Tally {
     differences: u64,
 }
 
-/// Compares on about `count` pairs; how many differences there are.
+/// Compares on `count` pairs; how many differences there are.
 pub fn compare(seed: u64, count: u64) -> u64 {
     let mut tally = Tally::default();
     let mut rng = Rng::new(seed ^ 1414);
@@ -92,10 +92,12 @@ impl Tally {
     }
 
     fn pair(&mut self, rng: &mut Rng) {
-        let nodes = 2 + rng.below(24);
-        let tree = trees::tree(rng, nodes, 5);
-        let Some((a, b)) = apart(rng, &tree) else {
-            return;
+        let (tree, (a, b)) = loop {
+            let nodes = 2 + rng.below(24);
+            let tree = trees::tree(rng, nodes, 5);
+            if let Some(found) = apart(rng, &tree) {
+                break (tree, found);
+            }
         };
         self.pairs += 1;
         let new = [trees::small(rng), trees::small(rng)];
