@@ -32,7 +32,7 @@
  *   etg_write                 33,552
  *   etg_replace               84,672
  *   etg_replace_records       84,464
- *   etg_same                     912
+ *   etg_same                     864
  *   etg_hint                  33,584
  *   etg_hint_records          33,616
  *   etg_data                  33,584
@@ -54,9 +54,11 @@
  *   etg_extract_own          100,720
  *   etg_extract_records      100,704
  *   etg_extract_own_records  100,704
+ *   etg_split                    184
  *
- * Refusals. Every function but those that find a hint or data, or that go on
- * with an addition to a spool, returns one of these numbers. In a refusal the
+ * Refusals. Every function but those that find a hint or data, that split a
+ * run of sheets, or that go on with an addition to a spool, returns one of
+ * these numbers. In a refusal the
  * values given out are 0, but for `*bad` of etg_week with 12 and for the state
  * of a refused start, and every lent buffer holds what it held.
  */
@@ -268,6 +270,17 @@ uint32_t etg_spool_add_commits(const struct etg_spool_state *state,
  * where a cut may come while it runs, take steps. */
 uint32_t etg_spool_add(uint8_t *area, size_t area_size,
                        const uint8_t *sheet, size_t sheet_size, size_t length);
+
+/* Sheets written back to back can be split in only one way. How many octets of
+ * a run of sheets are its first one; 0 where none begins. The sheet may have any
+ * size and depth: whether it fits is for whoever reads it. Nothing past its end
+ * is looked at, nor the octets of its strings, so that a run of any number of
+ * sheets is split in time that grows with its length and no faster:
+ *
+ *   while ((n = etg_split(run, len)) > 0) { use(run, n); run += n; len -= n; }
+ *
+ * What is then left, if anything, begins no sheet. */
+size_t etg_split(const uint8_t *run, size_t len);
 
 /* Values with a type, and hours */
 

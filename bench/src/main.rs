@@ -4,13 +4,14 @@
 //! `bench READER TEXT TIMES` only reads, for a profiler: READER is `library` or
 //! `plain`, TEXT a name of the first table. `bench beside OBJECT` times reading
 //! beside another build's shared object, `bench lengths` two ways to write a
-//! length.
+//! length, `bench runs` only the splitting of runs.
 
 mod beside;
 mod entries;
 mod lengths;
 mod readers;
 mod records;
+mod runs;
 mod spool;
 
 use std::env;
@@ -30,12 +31,16 @@ fn main() -> ExitCode {
             lengths::table();
             true
         }
+        [word] if word == "runs" => {
+            runs::table();
+            true
+        }
         [word, object] if word == "beside" => beside::table(object).is_some(),
         [reader, text, times] => readers::repeat(reader, text, times).is_some(),
         _ => false,
     };
     if !done {
-        eprintln!("usage: bench [library|plain TEXT TIMES | beside OBJECT | lengths]");
+        eprintln!("usage: bench [library|plain TEXT TIMES | beside OBJECT | lengths | runs]");
     }
     ExitCode::from(if done { 0 } else { 2 })
 }
@@ -52,4 +57,5 @@ fn tables() {
     entries::table();
     records::table();
     spool::table();
+    runs::table();
 }

@@ -1,4 +1,4 @@
-//! The last two tables: a spool opened, and a spool added to.
+//! Two tables: a spool opened, and a spool added to.
 
 use std::hint::black_box;
 use std::ptr;

@@ -1,12 +1,15 @@
 //! `compare SEED COUNT`: the fixed cases and COUNT random ones of the seed, each
 //! answered by the library and by the reference program; then extracts, about as
-//! many random ones again; then spools; then the fixed sheets of values and
-//! hours, and a tenth as many random ones, node by node. Answers and all lent
-//! buffers must be the same. Of what differs the first five of each part are
+//! many random ones again; then spools; then runs of sheets and pairs of
+//! corrections in either order, a tenth as many each; then the fixed sheets of
+//! values and hours, and a tenth as many random ones, node by node. Answers and
+//! all lent buffers must be the same. Of what differs the first five of each part are
 //! shown, the rest counted; the exit status is 1 where anything does.
 
+mod clerks;
 mod extract;
 mod library;
+mod runs;
 mod spool;
 mod values;
 
@@ -61,6 +64,8 @@ fn compare(seed: u64, count: u64) -> ExitCode {
         tally.values().sum::<u64>()
     );
     differences += spool::compare(seed, count);
+    differences += runs::compare(seed, count.div_ceil(10));
+    differences += clerks::compare(seed, count.div_ceil(10));
     let typed = values::compare(seed, count.div_ceil(10));
     println!(
         "{} questions on values and hours, {} differences",

@@ -33,6 +33,7 @@ from ._entries import MAX_CANONICAL, MAX_DEPTH, MAX_NODES, MAX_SOURCE
 from ._entries import Form, Octets, Refusal
 from ._extract import extract
 from ._library import LibraryMissing
+from ._run import Run, split
 from ._sheet import Node, Sheet, read, replace, same, write
 from ._spool import Adding, Opened, spool_add, spool_open, spool_sheets, spool_shown
 from ._spool_file import SpoolFile, SpoolInUse
@@ -53,6 +54,7 @@ __all__ = [
     "Octets",
     "Opened",
     "Refusal",
+    "Run",
     "Sheet",
     "SpoolFile",
     "SpoolInUse",
@@ -60,6 +62,7 @@ __all__ = [
     "read",
     "replace",
     "same",
+    "split",
     "spool_add",
     "spool_open",
     "spool_sheets",

@@ -1,5 +1,5 @@
 //! The C interface, as `include/etglavino.h` declares it; that of extracts is in
-//! `extract.rs`.
+//! `extract.rs`, that of runs in `run.rs`.
 
 use crate::Record;
 

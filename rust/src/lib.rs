@@ -26,6 +26,7 @@ mod ffi;
 mod form;
 mod records;
 mod refusal;
+mod run;
 mod spool;
 #[cfg(target_os = "linux")]
 mod spool_file;
@@ -41,6 +42,7 @@ pub use records::{
     read_records_form, replace_records, replace_records_form, Record,
 };
 pub use refusal::Refusal;
+pub use run::{run, split, Run};
 pub use spool::{spool_add, spool_open, spool_sheets, spool_shown, Adding, Opened, Sheets};
 #[cfg(target_os = "linux")]
 pub use spool_file::{SpoolError, SpoolFile};

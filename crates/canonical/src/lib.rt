@@ -1,7 +1,6 @@
 // Canonical text: the lexeme at a place.
 ghost use Prim.Native.Nat.{_≤_, _<_};
 ghost use lib.ListN.{length};
-ghost use Rattle.model.specs.Limits.{maxSource};
 ghost use Rattle.canonical.specs.Lexed.{Follows, Spans, Closes, ItemAt};
 use decimal::Number;
 
@@ -30,7 +29,7 @@ pub enum Item {
 
 // What follows a length n.
 fn after_length(src: &[u8], at: usize, n: usize) -> Span
-    requires { ⌜ (at ≤ length (now src)) × (length (now src) ≤ maxSource) ⌝ }
+    requires { ⌜ at ≤ length (now src) ⌝ }
     ensures { λ r. ⌜ Follows (now (src .entry)) at n r ⌝ }
 {
     if at >= src.len() {
@@ -51,7 +50,7 @@ fn after_length(src: &[u8], at: usize, n: usize) -> Span
 
 // The verbatim string at a place.
 fn verbatim_at(src: &[u8], at: usize) -> Span
-    requires { ⌜ (at ≤ length (now src)) × (length (now src) ≤ maxSource) ⌝ }
+    requires { ⌜ at ≤ length (now src) ⌝ }
     ensures { λ r. ⌜ Spans (now (src .entry)) at r ⌝ }
 {
     if at >= src.len() {
@@ -72,7 +71,7 @@ fn verbatim_at(src: &[u8], at: usize) -> Span
 
 // What follows a hint that stands from `from` to `to`.
 fn after_hint(src: &[u8], from: usize, to: usize) -> Item
-    requires { ⌜ (to ≤ length (now src)) × (length (now src) ≤ maxSource) ⌝ }
+    requires { ⌜ to ≤ length (now src) ⌝ }
     ensures { λ r. ⌜ Closes (now (src .entry)) from to r ⌝ }
 {
     if to >= src.len() {
@@ -94,7 +93,7 @@ fn after_hint(src: &[u8], from: usize, to: usize) -> Item
 
 // The lexeme at a place.
 pub fn lexeme_at(src: &[u8], at: usize) -> Item
-    requires { ⌜ (at < length (now src)) × (length (now src) ≤ maxSource) ⌝ }
+    requires { ⌜ at < length (now src) ⌝ }
     ensures { λ r. ⌜ ItemAt (now (src .entry)) at r ⌝ }
 {
     let b = src[at];

@@ -1,7 +1,7 @@
 -- Digits at a place of a source.
-use Prim.Native.Nat.{ℕ, _+_, _*_, _-_, _≤_, _<_}
+use Prim.Native.Nat.{ℕ, _+_, _*_, _-_, _≤_, _<_, min}
 use native.Mathlib.Omega.{arith}
-use mathlib.Core.Path.{_≡_, refl, sym, ap, _∙_}
+use mathlib.Core.Path.{_≡_, refl, sym, ap, _∙_, subst}
 use mathlib.Core.Bool.{true, false}
 use mathlib.Core.List.{List, [], _∷_}
 use lib.ListN.{length, drop, getD, length-drop, drop-of-length-le}
@@ -11,7 +11,7 @@ use Rattle.decimal.specs.declared.Number.the-variants.{Value, NoNumber}
 use Rattle.model.specs.Octets.{isDigit}
 use Rattle.model.specs.Strings.{got, number, decimal}
 use Rattle.scan.proofs.Places.{one-here}
-use Rattle.decimal.specs.Numbers.{Numbered}
+use Rattle.decimal.specs.Numbers.{large, Numbered}
 use Rattle.decimal.specs.declared.Number.{Number}
 
 -- a number is always read, and is no smaller than what it began with
@@ -74,6 +74,16 @@ module _ (src : List ℕ) (at v i : ℕ) (t : Counting src at v i) where
     count-huge o =
         let g : Grown (v * 10 + (getD src i 0 - 48)) (drop (i + 1) src) = grows _ _ in
         record { value = g .value; rest = g .rest; large = omega (arith, g .large); reads = sym next ∙ g .reads; short = omega (arith, g .short, length-drop (i + 1) src) }
+
+    -- the same with the value capped, in a source as long as any slice can be
+    module _ (c : ℕ) (k : c ≡ min v large) where
+      pub capped-more : length src < 9223372036854775808 → c * 10 + (getD src i 0 - 48) ≤ length src → Counting src at (c * 10 + (getD src i 0 - 48)) (i + 1)
+      capped-more s o =
+          let e : c ≡ v = omega arith in
+          subst (λ (x : ℕ). Counting src at (x * 10 + (getD src i 0 - 48)) (i + 1)) (sym e) (count-more (omega (arith, e, o)))
+
+      pub capped-huge : length src < c * 10 + (getD src i 0 - 48) → Numbered src (number 0 (drop at src)) at NoNumber
+      capped-huge o = count-huge (omega arith)
 
 -- ---- a decimal: 0 alone, or digits of which the first is not 0
 module _ (src : List ℕ) (at : ℕ) (h : at < length src) where

@@ -8,6 +8,10 @@ use Rattle.model.specs.Tree.{digits}
 use Rattle.decimal.specs.declared.Number.{Number}
 use Rattle.decimal.specs.declared.Number.the-variants.{Value, NoNumber}
 
+-- ten times this is past the length of any slice, which is below 2 ^ 63, and a digit more still fits in 64 bits
+abbrev pub large : ℕ
+large = 1000000000000000000
+
 -- the reading y gives a value, which ends at `next`
 pub record Valued (src : List ℕ) (y : Read ℕ) (at value next : ℕ) : Type 0 where
   pub from : at ≤ next

@@ -3,13 +3,16 @@ mod digits; // digits.rt: a length written
 
 ghost use mathlib.Core.Path.{_≡_};
 ghost use mathlib.Core.Bool.{true};
-ghost use Prim.Native.Nat.{_+_, _≤_, _<_};
+ghost use Prim.Native.Nat.{_+_, _≤_, _<_, min};
 ghost use lib.ListN.{length, drop, getD};
 ghost use Rattle.model.specs.Limits.{maxSource};
 ghost use Rattle.model.specs.Octets.{isDigit};
 ghost use Rattle.model.specs.Strings.{number, decimal};
-ghost use Rattle.decimal.specs.Numbers.{Numbered, Wide};
+ghost use Rattle.decimal.specs.Numbers.{large, Numbered, Wide};
 pub use digits::put_decimal;
+
+// As `large` in specs/Numbers has it.
+const LARGE: usize = 1_000_000_000_000_000_000;
 
 // A number and the place after it. A number beyond the source's length is none: nothing in the source is as long.
 pub enum Number {
@@ -17,9 +20,17 @@ pub enum Number {
     NoNumber,
 }
 
-// Digits. The value is tested at each, so that it never wraps, however many digits there are.
+// A value, or LARGE where it is larger: ten times that is past any source's length.
+fn capped(value: usize) -> usize
+    ensures { λ r. ⌜ r ≡ min value large ⌝ }
+{
+    if value > LARGE { LARGE } else { value }
+}
+
+// Digits. The value is capped before each and tested after it, so that it never wraps, however many digits there are and however
+// long the source is.
 pub fn number_at(src: &[u8], at: usize) -> Number
-    requires { ⌜ (at ≤ length (now src)) × (length (now src) ≤ maxSource) ⌝ }
+    requires { ⌜ at ≤ length (now src) ⌝ }
     ensures { λ r. ⌜ Numbered (now (src .entry)) (number 0 (drop at (now (src .entry)))) at r ⌝ }
 {
     let mut value: usize = 0;
@@ -32,7 +43,7 @@ pub fn number_at(src: &[u8], at: usize) -> Number
         if b > 57 {
             return Number::Value { value, next: i };
         }
-        value = value * 10 + (b - 48) as usize;
+        value = capped(value) * 10 + (b - 48) as usize;
         if value > src.len() {
             return Number::NoNumber;
         }
@@ -43,7 +54,7 @@ pub fn number_at(src: &[u8], at: usize) -> Number
 
 // A decimal, whose first digit is at `at`: 0 stands alone.
 pub fn decimal_at(src: &[u8], at: usize) -> Number
-    requires { ⌜ (at < length (now src)) × (length (now src) ≤ maxSource) × (isDigit (getD (now src) at 0) ≡ true) ⌝ }
+    requires { ⌜ (at < length (now src)) × (isDigit (getD (now src) at 0) ≡ true) ⌝ }
     ensures { λ r. ⌜ Numbered (now (src .entry)) (decimal (getD (now (src .entry)) at 0) (drop (at + 1) (now (src .entry)))) at r ⌝ }
 {
     if src[at] == 48 {

@@ -18,7 +18,7 @@ use Rattle.demands.proofs.Refused.{accepted, conditions}
 
 -- what stands in the front of lent space that a tree was put in, whatever stood there before
 module _ (t : Tree) (oldOctets oldCount : ℕ) (canonical table : List ℕ) where
-  front-octets : take (filled t oldOctets oldCount canonical table .octets) (filled t oldOctets oldCount canonical table .canonical) ≡ canon t
+  pub front-octets : take (filled t oldOctets oldCount canonical table .octets) (filled t oldOctets oldCount canonical table .canonical) ≡ canon t
   unfolding filled settled
   front-octets = take-append-seam (canon t) _
 
@@ -26,7 +26,7 @@ module _ (t : Tree) (oldOctets oldCount : ℕ) (canonical table : List ℕ) wher
   unfolding filled settled
   front-table = take-at (tableOf t) _ (width * nodes t) (table-length t)
 
-same-tree : (t : Tree) (a b c d : ℕ) (l m n o : List ℕ) → SameResult (filled t a b l m) (filled t c d n o)
+pub same-tree : (t : Tree) (a b c d : ℕ) (l m n o : List ℕ) → SameResult (filled t a b l m) (filled t c d n o)
 unfolding filled
 same-tree t a b c d l m n o =
     record {

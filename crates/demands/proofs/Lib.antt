@@ -9,6 +9,8 @@ pub mod Refused
 pub mod Afresh
 pub mod Records
 pub mod Lent
+pub mod Orders
+mod OrderExamples
 pub mod Space
 pub mod Stray
 pub mod Escapes

@@ -15,7 +15,7 @@ use Rattle.model.specs.Answers.{ownTree}
 use Rattle.model.specs.Edit.{one}
 use Rattle.model.specs.Table.{Row, plainRow, listRow, rows, rowss, rowOf}
 use Rattle.model.specs.Tree.{Tree, hinted, list, Forest, nil, cons, canon, canons, nodes, nodess}
-use Rattle.edits.specs.Node.{nodeAt}
+use Rattle.model.specs.Node.{nodeAt}
 use Rattle.edits.specs.Place.{before, after, trail, lead}
 use Rattle.edits.proofs.Whole.{rowss-one, rows-at, locate}
 use Rattle.edits.proofs.Rows.{lead-length}

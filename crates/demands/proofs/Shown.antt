@@ -17,7 +17,7 @@ use Rattle.model.specs.Edit.{one}
 use Rattle.model.specs.Table.{Row, plainRow, hintedRow, listRow, bodyStart, bodyEnd, rows, rowOf}
 use Rattle.model.specs.Tree.{Tree, plain, hinted, list, Forest, digits, verbatim, canon, canons, nodes}
 use Rattle.lookup.proofs.Sheets.{Own, own-of}
-use Rattle.edits.specs.Node.{nodeAt}
+use Rattle.model.specs.Node.{nodeAt}
 use Rattle.edits.specs.Place.{before, after, trail}
 use Rattle.edits.proofs.Whole.{canons-one, octets-at, row-first, locate}
 

@@ -15,7 +15,7 @@ use Rattle.model.specs.Table.{Row, plainRow, hintedRow, listRow, bodyStart, bod
 use Rattle.model.specs.Tree.{Tree, plain, hinted, list, Forest, digits, verbatim, canon, nodes}
 use Rattle.lookup.proofs.Sheets.{Own, own-of}
 use Rattle.lookup.proofs.Shown.{Inside, rows-inside}
-use Rattle.edits.specs.Node.{nodeAt}
+use Rattle.model.specs.Node.{nodeAt}
 use Rattle.typed.specs.Octets.{octets}
 use Rattle.typed.specs.Typed.{kindOf, singleOf, doubleOf, wholeOf, valueAt}
 use Rattle.typed.specs.Coding.{coding}

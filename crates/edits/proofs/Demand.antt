@@ -11,7 +11,8 @@ use Rattle.model.specs.Edit.{one, replace}
 use Rattle.model.specs.Table.{Row, plainRow, rows, flat, tableOf, rowOf}
 use Rattle.model.specs.Tree.{Tree, Forest, nil, canon, canons, nodes, nodess, depth}
 use Rattle.edits.specs.Moves.{Moves, Grows, Shifts}
-use Rattle.edits.specs.Node.{nodeAmong, nodeAt, holds}
+use Rattle.model.specs.Node.{nodeAmong, nodeAt}
+use Rattle.edits.specs.Node.{holds}
 use Rattle.edits.specs.Place.{fill, level, outer, moved, grown, around, kept}
 use Rattle.edits.proofs.Find.{nodes-pos, nodeAt-among, node-at}
 use Rattle.walk.proofs.Tabled.{flat-append}

@@ -7,7 +7,7 @@ use Rattle.base.proofs.Cases.{by-le}
 use Rattle.model.specs.Edit.{join, one, within, across}
 use Rattle.edits.specs.Place.{number, past, Place, here, down, fill, beyond}
 use Rattle.model.specs.Tree.{Tree, plain, hinted, list, Forest, nil, cons, nodes, nodess}
-use Rattle.edits.specs.Node.{nodeIn, nodeAmong, nodeAt}
+use Rattle.model.specs.Node.{nodeIn, nodeAmong, nodeAt}
 use Rattle.edits.proofs.Fill.{fill-nodes}
 
 pub nodes-pos : (t : Tree) → 0 < nodes t

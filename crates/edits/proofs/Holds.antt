@@ -11,7 +11,8 @@ use Rattle.model.specs.Edit.{one}
 use Rattle.edits.specs.Place.{before, number, Place, fill, around}
 use Rattle.model.specs.Table.{Row, rowOf}
 use Rattle.model.specs.Tree.{Tree, nil, canons, nodes, nodess}
-use Rattle.edits.specs.Node.{nodeAmong, nodeAt, holds}
+use Rattle.model.specs.Node.{nodeAmong, nodeAt}
+use Rattle.edits.specs.Node.{holds}
 use Rattle.edits.proofs.Find.{nodes-pos, nodeAt-among, node-fill}
 use Rattle.edits.proofs.Moved.{record-aside, record-around}
 use Rattle.edits.proofs.Sides.{Side, aside, round, sides}

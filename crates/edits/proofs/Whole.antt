@@ -11,7 +11,7 @@ use Rattle.edits.specs.Place.{before, number, Place, fill, after, beyond
 use Rattle.model.specs.Table.{Row, plainRow, rows, rowss, rowOf}
 use Rattle.model.specs.Tree.{Tree, plain, hinted, list, Forest, nil, canon, canons, nodes, nodess, depth, depths}
 use Rattle.edits.specs.Moves.{Moves}
-use Rattle.edits.specs.Node.{nodeAmong, nodeAt}
+use Rattle.model.specs.Node.{nodeAmong, nodeAt}
 use Rattle.edits.proofs.Fill.{fill-canons, fill-nodes, fill-depths, fill-rows}
 use Rattle.edits.proofs.Find.{across-here, across-in, nodeAt-among, across-at, node-at, Found, find-node}
 use Rattle.edits.proofs.Rows.{lead-length, fill-table}

@@ -28,3 +28,26 @@ unfoldable mutual
 unfoldable pub replace : Tree → ℕ → Tree → Tree
 replace t zero u = u
 replace t (suc k) u = within (λ (x : Tree). one u) t k
+
+-- ---- 02, "Insert a text's tree .. as the k-th element of a list node .., and remove any node but node 0"
+
+-- a tree put into a forest as its k-th element, at the end where it has fewer
+unfoldable pub put : Forest → ℕ → Tree → Forest
+put nil k u = one u
+put (cons t f) zero u = cons u (cons t f)
+put (cons t f) (suc k) u = cons t (put f k u)
+
+-- into a list; strings stay as they are, and row 9 refuses them
+unfoldable pub putIn : ℕ → Tree → Tree → Tree
+putIn k u (plain d) = plain d
+putIn k u (hinted h d) = hinted h d
+putIn k u (list f) = list (put f k u)
+
+unfoldable pub insert : Tree → ℕ → ℕ → Tree → Tree
+insert t zero k u = putIn k u t
+insert t (suc n) k u = within (λ (x : Tree). one (putIn k u x)) t n
+
+-- node 0 stays, and row 9 refuses it
+unfoldable pub remove : Tree → ℕ → Tree
+remove t zero = t
+remove t (suc n) = within (λ (x : Tree). nil) t n

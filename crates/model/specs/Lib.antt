@@ -9,5 +9,7 @@ pub mod Decode
 pub mod Write
 pub mod Compare
 pub mod Edit
+pub mod Node
 pub mod Limits
 pub mod Answers
+pub mod Corrections

@@ -49,3 +49,7 @@ NotOwn = 7
 -- no such node
 abbrev pub NoNode : ℕ
 NoNode = 8
+
+-- 02, Ask 5: the node isn't a list, k is too large, or node 0 is to be removed
+abbrev pub NoPlace : ℕ
+NoPlace = 9

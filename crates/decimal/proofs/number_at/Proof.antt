@@ -1,8 +1,8 @@
-use Rattle.decimal.proofs.Reading.{Counting, count-none, count-low, count-high, count-end, count-more, count-huge}
+use Rattle.decimal.proofs.Reading.{Counting, count-none, count-low, count-high, count-end, capped-more, capped-huge}
 use lib.ListN.{length}
 use borrow.Author.Needs.{needs}
 use native.Mathlib.Omega.{arith}
-use Prim.Native.Nat.{_-_}
+use Prim.Native.Nat.{_-_, _<_}
 use Rattle.decimal.proofs.number_at.Statement.{statement}
 use Rattle.decimal.proofs.number_at.Tie as tie
 
@@ -22,10 +22,13 @@ returns-2 : tie.Need-returns-2 Inv-loop μ-loop
 returns-2 c = search (count-high, arith)
 
 returns-3 : tie.Need-returns-3 Inv-loop μ-loop
-returns-3 c = search (count-huge, arith)
+returns-3 c = search (capped-huge, arith)
 
 loop-again : tie.Need-loop-again Inv-loop μ-loop
-loop-again c = search (count-more, arith)
+loop-again c =
+    let entry = c .before .before .before .before .before .before .before .before in
+    let short : length (entry .args .src .now) < 9223372036854775808 = omega (arith, entry .good .0 .1) in
+    search (capped-more, short, arith)
 
 returns-4 : tie.Need-returns-4 Inv-loop μ-loop
 returns-4 c = search (count-end, arith)
@@ -40,6 +43,7 @@ number-at-spec =
     (λ c. search needs)
     returns
     returns-2
+    (λ c κs. search needs)
     (λ c. omega arith)
     (λ c. omega arith)
     (λ c. omega arith)

@@ -1,0 +1,186 @@
+-- 02, Ask 14: corrections of two different nodes, neither inside the other, end in the same length, count, octets and records in either
+-- order. So do insertions and removals.
+use Prim.Native.Nat.{ℕ, _+_, _≤_, _<_}
+use native.Mathlib.Omega.{arith}
+use mathlib.Core.Path.{_≡_, refl, sym, ap, _∙_, subst}
+use mathlib.Core.Option.{Option, some}
+use mathlib.Core.List.{List, _∷_}
+use lib.Dec.{leb}
+use lib.ListN.{take}
+use borrow.Author.Tests.{leb-false}
+use Rattle.base.specs.Choice.{isNone}
+use Rattle.base.proofs.Cases.{some-same}
+use Rattle.model.specs.Answers.{Check, when, verdict, the, ownTree, Outcome, filled, replaced, replacingChecks, replacing}
+use Rattle.model.specs.Corrections.{inserted, insertingChecks, inserting, removed, removingChecks, removing}
+use Rattle.model.specs.Decode.{decode}
+use Rattle.model.specs.Edit.{replace, insert, remove}
+use Rattle.model.specs.Limits.{NotOwn, NoNode}
+use Rattle.model.specs.Node.{nodeAt}
+use Rattle.model.specs.Tree.{Tree, canon, nodes}
+use Rattle.model.proofs.Judging.{judged-accepted}
+use Rattle.model.proofs.Unique.{canon-inj}
+use Rattle.lookup.proofs.Sheets.{Own, own-of}
+use Rattle.pairs.specs.Deeds.{Deed, to, with-in, away, done}
+use Rattle.pairs.proofs.Apart.{done-nodes, either-order}
+use Rattle.demands.specs.Conditions.{SameResult}
+use Rattle.demands.specs.Orders.{Errand, replacement, insertion, removal, correcting, then}
+use Rattle.demands.proofs.Afresh.{front-octets, same-tree}
+use Rattle.demands.proofs.Rooms.{text-of}
+use Rattle.demands.proofs.Rows.{no-row, not-this, there}
+
+-- what is done to the node
+unfoldable pub deedOf : Errand → Deed
+deedOf (replacement form text) = to (the (decode form text))
+deedOf (insertion form text k) = with-in k (the (decode form text))
+deedOf removal = away
+
+-- an accepted correction: what is done is done to a node of the sheet's tree, and the tree that it makes is put where that stood
+pub record Did (c : Errand) (canonical table : List ℕ) (len count node : ℕ) : Type 0 where
+  pub old : Tree
+  pub own : ownTree canonical len table count ≡ some old
+  pub present : node < count
+  pub leaves : correcting c canonical table len count node ≡ filled (done (deedOf c) old node) len count canonical table
+
+-- rows 7 and 8 don't apply
+found : (canonical table : List ℕ) (len count node : ℕ) (more : List Check) {G : Type 0}
+    → verdict (when NotOwn (isNone (ownTree canonical len table count)) ∷ (when NoNode (leb count node) ∷ more)) ≡ 0
+    → ((t : Tree) → ownTree canonical len table count ≡ some t → node < count → G) → G
+found canonical table len count node more v g =
+    let d : _ × _ = not-this 7 (isNone (ownTree canonical len table count)) _ (omega arith) v in
+    let e : _ × _ = not-this 8 (leb count node) _ (omega arith) (d .1) in
+    there (ownTree canonical len table count) (d .0) (λ t i. g t i (leb-false _ _ (e .0)))
+
+module _ (canonical table : List ℕ) (len count node : ℕ) where
+  replace-did : (form : ℕ) (text : List ℕ) → replacing form text canonical table len count node .number ≡ 0
+      → Did (replacement form text) canonical table len count node
+  unfolding correcting deedOf done replacing replacingChecks replaced the
+  replace-did form text e =
+      let v : verdict (replacingChecks form text canonical table len count node) ≡ 0 =
+      no-row (λ (o : Outcome). o .number) _ _ _ (λ n. refl) e in
+      found canonical table len count node _ (text-of form text _ v .rest)
+      (λ t i p. record {
+        old = t;
+        own = i;
+        present = p;
+        leaves = judged-accepted _ _ _ v
+            ∙ ap (λ (x : Option Tree). filled (replace (the x) node (the (decode form text))) len count canonical table) i;
+      })
+
+  insert-did : (form : ℕ) (text : List ℕ) (k : ℕ) → inserting form text canonical table len count node k .number ≡ 0
+      → Did (insertion form text k) canonical table len count node
+  unfolding correcting deedOf done inserting insertingChecks inserted the
+  insert-did form text k e =
+      let v : verdict (insertingChecks form text canonical table len count node k) ≡ 0 =
+      no-row (λ (o : Outcome). o .number) _ _ _ (λ n. refl) e in
+      found canonical table len count node _ (text-of form text _ v .rest)
+      (λ t i p. record {
+        old = t;
+        own = i;
+        present = p;
+        leaves = judged-accepted _ _ _ v
+            ∙ ap (λ (x : Option Tree). filled (insert (the x) node k (the (decode form text))) len count canonical table) i;
+      })
+
+  remove-did : removing canonical table len count node .number ≡ 0 → Did removal canonical table len count node
+  unfolding correcting deedOf done removing removingChecks removed the
+  remove-did e =
+      let v : verdict (removingChecks canonical table len count node) ≡ 0 =
+      no-row (λ (o : Outcome). o .number) _ _ _ (λ n. refl) e in
+      found canonical table len count node _ v
+      (λ t i p. record {
+        old = t;
+        own = i;
+        present = p;
+        leaves = judged-accepted _ _ _ v
+            ∙ ap (λ (x : Option Tree). filled (remove (the x) node) len count canonical table) i;
+      })
+
+  pub did : (c : Errand) → correcting c canonical table len count node .number ≡ 0 → Did c canonical table len count node
+  unfolding correcting
+  did (replacement form text) e = replace-did form text e
+  did (insertion form text k) e = insert-did form text k e
+  did removal e = remove-did e
+
+-- a tree has been put in lent space, whatever stood there
+record Left (o : Outcome) (t : Tree) : Type 0 where
+  len : ℕ
+  count : ℕ
+  canonical : List ℕ
+  table : List ℕ
+  is : o ≡ filled t len count canonical table
+
+-- the same tree, wherever
+same-left : (t : Tree) (o p : Outcome) → Left o t → Left p t → SameResult o p
+same-left t o p x y =
+    subst (λ (z : Outcome). SameResult z p) (sym (x .is))
+    (subst (SameResult (filled t (x .len) (x .count) (x .canonical) (x .table))) (sym (y .is))
+    (same-tree t (x .len) (x .count) (y .len) (y .count) (x .canonical) (x .table) (y .canonical) (y .table)))
+
+-- ---- one correction after another: the second is of the tree that the first has made
+module _ (c : Errand) (canonical table : List ℕ) (len count node : ℕ) (t : Tree)
+    (own : ownTree canonical len table count ≡ some t)
+    (e : correcting c canonical table len count node .number ≡ 0)
+  where
+    abbrev once : Outcome
+    once = correcting c canonical table len count node
+
+    abbrev now : Tree
+    now = done (deedOf c) t node
+
+    leaves-it : once ≡ filled now len count canonical table
+    leaves-it =
+        let d : Did c canonical table len count node = did canonical table len count node c e in
+        some-same (λ (x : Tree). once ≡ filled (done (deedOf c) x node) len count canonical table) (sym (d .own) ∙ own) (d .leaves)
+
+    counted : once .count ≡ nodes now
+    unfolding filled
+    counted = ap (λ (o : Outcome). o .count) leaves-it
+
+    then-leaves : (d : Errand) (n : ℕ) → then once d n .number ≡ 0 → Left (then once d n) (done (deedOf d) now n)
+    then-leaves d n f =
+        let x = did (once .canonical) (once .table) (once .octets) (once .count) n d f in
+        let o = own-of (once .canonical) (once .octets) (once .table) (once .count) (x .old) (x .own) in
+        let g : canon (x .old) ≡ canon now =
+        sym (o .sheet .is) ∙ ap (λ (y : Outcome). take (y .octets) (y .canonical)) leaves-it ∙ front-octets now len count canonical table in
+        record {
+          len = once .octets;
+          count = once .count;
+          canonical = once .canonical;
+          table = once .table;
+          is = x .leaves
+              ∙ ap (λ (y : Tree). filled (done (deedOf d) y n) (once .octets) (once .count) (once .canonical) (once .table)) (canon-inj (x .old) now g);
+        }
+
+-- ---- two clerks: each has the sheet of the tree t in space lent to him, the same or his own. One corrects node a and then b, the other b
+-- and then a. b is further on and outside a, and where it comes second its number is shifted by the change in node count
+module _ (c d : Errand) (t : Tree) (len count a b b' : ℕ)
+    (outside : a + nodes (nodeAt t a) ≤ b)
+    (canonical table : List ℕ) (own : ownTree canonical len table count ≡ some t)
+    (canonical' table' : List ℕ) (own' : ownTree canonical' len table' count ≡ some t)
+    (a-first : correcting c canonical table len count a .number ≡ 0)
+    (shift : b' + count ≡ b + correcting c canonical table len count a .count)
+    (b-second : then (correcting c canonical table len count a) d b' .number ≡ 0)
+    (b-first : correcting d canonical' table' len count b .number ≡ 0)
+    (a-second : then (correcting d canonical' table' len count b) c a .number ≡ 0)
+  where
+    abbrev a-then-b : Outcome
+    a-then-b = then (correcting c canonical table len count a) d b'
+
+    abbrev b-then-a : Outcome
+    b-then-a = then (correcting d canonical' table' len count b) c a
+
+    present : b < nodes t
+    present = omega (arith, did canonical' table' len count b d b-first .present, own-of canonical' len table' count t own' .counted)
+
+    same-trees : done (deedOf d) (done (deedOf c) t a) b' ≡ done (deedOf c) (done (deedOf d) t b) a
+    same-trees =
+        let n = counted c canonical table len count a t own a-first in
+        let m = own-of canonical len table count t own .counted in
+        sym (either-order t a b present outside (deedOf c) (deedOf d) b' (omega (arith, shift, n, m, done-nodes t a b present outside (deedOf c))))
+
+    -- 02, "end in the same length, count, octets and table up to these in either order"
+    pub either-way : SameResult a-then-b b-then-a
+    either-way =
+        same-left (done (deedOf c) (done (deedOf d) t b) a) a-then-b b-then-a
+        (subst (Left a-then-b) same-trees (then-leaves c canonical table len count a t own a-first d b' b-second))
+        (then-leaves d canonical' table' len count b t own' b-first c a a-second)

@@ -1,0 +1,33 @@
+-- The node of a number, and what may be put into it.
+use Prim.Native.Nat.{ℕ, zero, suc, _+_, _-_}
+use mathlib.Core.Bool.{Bool, false}
+use lib.Dec.{leb, ltb}
+use Rattle.base.specs.Choice.{pick}
+use Rattle.model.specs.Tree.{Tree, plain, hinted, list, Forest, nil, cons, nodes}
+
+-- node k of a forest; `nodeIn` counts from the first node inside the tree
+unfoldable mutual
+  pub nodeIn : Tree → ℕ → Tree
+  nodeIn (plain d) k = plain d
+  nodeIn (hinted h d) k = hinted h d
+  nodeIn (list f) k = nodeAmong f k
+
+  pub nodeAmong : Forest → ℕ → Tree
+  nodeAmong nil k = list nil
+  nodeAmong (cons t f) k = pick (ltb k (nodes t)) (elim k [ zero ↦ t | suc n ↦ nodeIn t n ]) (nodeAmong f (k - nodes t))
+
+-- 01, "an entry is a node, told by its number"
+unfoldable pub nodeAt : Tree → ℕ → Tree
+nodeAt t zero = t
+nodeAt t (suc k) = nodeIn t k
+
+-- how many elements a list has, not counting what is in them
+unfoldable pub elements : Forest → ℕ
+elements nil = 0
+elements (cons t f) = 1 + elements f
+
+-- 02, "as the k-th element of a list node (0 up to its element count)": whether there is such a place; a string has none
+unfoldable pub hasPlace : Tree → ℕ → Bool
+hasPlace (plain d) k = false
+hasPlace (hinted h d) k = false
+hasPlace (list f) k = leb k (elements f)

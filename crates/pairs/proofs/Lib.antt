@@ -1,0 +1,4 @@
+pub mod Two
+pub mod Apart
+pub mod Inserted
+mod Examples
