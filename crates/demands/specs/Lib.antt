@@ -1,1 +1,3 @@
 pub mod Conditions
+pub mod Values
+pub mod Lines
