@@ -39,7 +39,7 @@
  *   etg_data_records          33,616
  *   etg_spool_open               864
  *   etg_spool_add_start          928
- *   etg_spool_add_step            40
+ *   etg_spool_add_step            32
  *   etg_spool_add_commits          8
  *   etg_spool_add                944
  *   etg_value                 33,536

@@ -4,7 +4,8 @@
 //! `bench READER TEXT TIMES` only reads, for a profiler: READER is `library` or
 //! `plain`, TEXT a name of the first table. `bench beside OBJECT` times reading
 //! beside another build's shared object, `bench lengths` two ways to write a
-//! length, `bench runs` only the splitting of runs.
+//! length, `bench runs` only the splitting of runs, and `bench spool` only the
+//! spool.
 
 mod beside;
 mod entries;
@@ -35,12 +36,18 @@ fn main() -> ExitCode {
             runs::table();
             true
         }
+        [word] if word == "spool" => {
+            spool::table();
+            true
+        }
         [word, object] if word == "beside" => beside::table(object).is_some(),
         [reader, text, times] => readers::repeat(reader, text, times).is_some(),
         _ => false,
     };
     if !done {
-        eprintln!("usage: bench [library|plain TEXT TIMES | beside OBJECT | lengths | runs]");
+        eprintln!(
+            "usage: bench [library|plain TEXT TIMES | beside OBJECT | lengths | runs | spool]"
+        );
     }
     ExitCode::from(if done { 0 } else { 2 })
 }

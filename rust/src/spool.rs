@@ -151,6 +151,7 @@ impl Adding {
 
     /// Stores one octet. Whether the addition is done, which is told with its
     /// last store; a state that is done stores nothing.
+    #[inline] // a step is then one call
     pub fn step(&mut self, area: &mut [u8], sheet: &[u8]) -> bool {
         // SAFETY: as in `spool_add`.
         let done = unsafe {

@@ -15,5 +15,12 @@ pub mod Space
 pub mod Stray
 pub mod Escapes
 pub mod Typed
+pub mod Valued
+pub mod Standing
 pub mod Lined
+pub mod Hours
+pub mod Given
+pub mod Weekly
+pub mod Summed
+pub mod Totals
 pub mod Extracts

@@ -1,106 +1,178 @@
--- 02, Ask 8, "a shift line is a list of exactly three `f64` strings": of a node that is such a list, the hours are those of the three.
-use Prim.Native.Nat.{ℕ, _+_, _<_}
+-- 02, Ask 8, "a shift line is a list of exactly three `f64` strings": such a list has their doubles as its hours, and where a tree that
+-- stands in a sheet has hours it is such a list.
+use Prim.Native.Nat.{ℕ, suc, _+_}
 use native.Mathlib.Omega.{arith}
-use native.Mathlib.Nat.{add-zero}
-use mathlib.Core.Path.{_≡_, refl, sym, ap, ap₂, _∙_}
-use mathlib.Core.Option.{Option, some}
-use mathlib.Core.List.{List, [], _∷_, _++_, append-assoc}
-use lib.ListN.{length, take, getD, length-append}
-use lib.Seq.{getD-append-add}
+use mathlib.Core.Path.{_≡_, refl, sym, ap, _∙_, subst}
+use mathlib.Core.Bool.{true}
+use mathlib.Core.Option.{Option, none, some}
+use mathlib.Core.List.{List, _++_, append-assoc}
+use lib.Dec.{eqb}
 use lib.Ieee.{Float}
-use borrow.Author.Tests.{eq-eqb}
-use Rattle.base.specs.Choice.{equal}
-use Rattle.base.proofs.Cases.{picked, true-both}
-use Rattle.model.specs.Answers.{ownTree}
+use borrow.Author.Tests.{eq-eqb, eqb-true}
+use Rattle.base.specs.Choice.{both, equal}
+use Rattle.base.proofs.Cases.{picked, pick-cases, true-both, both-true, none-some, some-same}
 use Rattle.model.specs.Edit.{one}
-use Rattle.model.specs.Table.{Row, plainRow, listRow, rows, rowss, rowOf}
-use Rattle.model.specs.Tree.{Tree, hinted, list, Forest, nil, cons, canon, canons, nodes, nodess}
-use Rattle.model.specs.Node.{nodeAt}
-use Rattle.edits.specs.Place.{before, after, trail, lead}
-use Rattle.edits.proofs.Whole.{rowss-one, rows-at, locate}
-use Rattle.edits.proofs.Rows.{lead-length}
-use Rattle.typed.specs.Typed.{kindOf, doubleOf}
-use Rattle.typed.specs.Lines.{typedRow, amountIn, three, hoursAt}
+use Rattle.model.specs.Table.{Row, rows, rowOf}
+use Rattle.model.specs.Tree.{Tree, plain, hinted, list, Forest, nil, cons, canons, nodes, nodess}
+use Rattle.edits.proofs.Find.{nodes-pos}
+use Rattle.typed.specs.Typed.{kindOf, valueAt, doubleOf}
+use Rattle.typed.specs.Lines.{rowKind, typedRow, amountIn, three, rowAmount, hoursAt}
 use Rattle.typed.specs.declared.Line.{Line}
 use Rattle.typed.specs.declared.Typing.{Typing}
-use Rattle.demands.proofs.Shown.{sheet-by}
-use Rattle.demands.proofs.Typed.{hintedAs, hintRow, typed-hinted}
+use Rattle.typed.specs.declared.Typing.the-variants.{Is, Untyped}
+use Rattle.typed.specs.declared.Value.{Value}
+use Rattle.typed.specs.declared.Value.the-variants.{Single, Double, Whole, Raw}
+use Rattle.demands.specs.Lines.{Three}
+use Rattle.demands.specs.Values.{f64, ValueOf, single, double, whole, other, bare}
+use Rattle.demands.proofs.Typed.{typed-hinted, hintedAs}
+use Rattle.demands.proofs.Valued.{valueBy, double-made, value-says}
+use Rattle.demands.proofs.Standing.{Stands, past, inside, first-row, first-list, first-count, stands}
 
--- the rows of a node and of what is in it stand together
-row-in : (t : Tree) (node : ℕ) (h : node < nodes t) (x : Tree) → nodeAt t node ≡ x → (i : ℕ)
-    → rowOf t (node + i) ≡ getD (rows x (length (before ((locate t node h) .place))) ++ trail ((locate t node h) .place) (length (before ((locate t node h) .place)) + length (canons (one ((locate t node h) .node))))) i (plainRow 0 0 0)
-row-in t node h x q i =
-    let a = locate t node h in
-    let y : a .node ≡ x = sym (a .isNode) ∙ q in
-    let first = lead (a .place) 0 (length (canons (one (a .node)))) (nodess (one (a .node))) in
-    let last = trail (a .place) (length (before (a .place)) + length (canons (one (a .node)))) in
-    let k : node + i ≡ length first + i = omega (arith, lead-length (a .place) 0 (length (canons (one (a .node)))) (nodess (one (a .node))), a .num) in
-    ap₂ (λ (l : List Row) (m : ℕ). getD l m (plainRow 0 0 0)) (rows-at t (a .place) (one (a .node)) (a .is)) k
-    ∙ getD-append-add first (rowss (one (a .node)) (length (before (a .place))) ++ last) i (plainRow 0 0 0)
-    ∙ ap (λ (l : List Row). getD (l ++ last) i (plainRow 0 0 0)) (rowss-one (a .node) (length (before (a .place))))
-    ∙ ap (λ (z : Tree). getD (rows z (length (before (a .place))) ++ last) i (plainRow 0 0 0)) y
+-- ---- amounts
 
--- `f64`
-abbrev pub f64 : List ℕ
-f64 = 102 ∷ 54 ∷ 52 ∷ []
+-- an amount is a double's
+amount-double : (r : Typing) (x : Float) → amountIn r ≡ some x → r ≡ Is (Double x)
+amount-double (Is (Single y)) x e = none-some e
+amount-double (Is (Double y)) x e = some-same (λ (z : Float). Is (Double y) ≡ Is (Double z)) e refl
+amount-double (Is (Whole y)) x e = none-some e
+amount-double (Is (Raw s t)) x e = none-some e
+amount-double Untyped x e = none-some e
 
-double-in : (d : List ℕ) (raw : Typing) → amountIn (hintedAs f64 d raw) ≡ amountIn (doubleOf d)
-unfolding kindOf equal
-double-in d raw = refl
+-- the tree is an `f64` string with the double x
+pub record Amount (y : Tree) (x : Float) : Type 0 where
+  pub octets : List ℕ
+  pub is : y ≡ hinted f64 octets
+  pub double : doubleOf octets ≡ Is (Double x)
 
-module _ (canonical : List ℕ) (len : ℕ) (table : List ℕ) (count node : ℕ) (t : Tree) (o : ownTree canonical len table count ≡ some t) (h : node < nodes t) (a b c : List ℕ)
-    (q : nodeAt t node ≡ list (cons (hinted f64 a) (cons (hinted f64 b) (cons (hinted f64 c) nil)))) where
-  abbrev front : List ℕ
-  front = before ((locate t node h) .place)
+double-string : {s e : ℕ} {y : Tree} {v : Value} (x : Float) → ValueOf s e y v → v ≡ Double x → Amount y x
+double-string x (single l f) e = let z : _≡_ {A = ℕ} 0 1 = cc in absurd (omega arith)
+double-string x (double {d} l f) e = record { octets = d; is = refl; double = double-made d l f ∙ ap Is e }
+double-string x (whole l f) e = let z : _≡_ {A = ℕ} 0 1 = cc in absurd (omega arith)
+double-string x (other a b c) e = let z : _≡_ {A = ℕ} 0 1 = cc in absurd (omega arith)
+double-string x bare e = let z : _≡_ {A = ℕ} 0 1 = cc in absurd (omega arith)
 
-  abbrev back : List ℕ
-  back = after ((locate t node h) .place)
+module _ (canonical : List ℕ) (len : ℕ) (t : Tree) where
+  abbrev Here : Forest → ℕ → Type 0
+  Here = Stands canonical len t
 
-  abbrev at : ℕ
-  at = length front
+  -- the value of a tree that stands in the sheet
+  pub typed-at : (x : Tree) (f : Forest) (k : ℕ) → Here (cons x f) k
+      → typedRow canonical (rowOf t k) ≡ valueBy (rowOf t k .dataStart) (rowOf t k .dataEnd) x
+  unfolding rows canons typedRow rowKind valueAt
+  typed-at (plain d) f k s =
+      let r = first-row canonical len t (plain d) f k s in
+      ap (typedRow canonical) r ∙ ap (λ (z : Row). Is (Raw (z .dataStart) (z .dataEnd))) (sym r)
+  typed-at (hinted g d) f k s =
+      let r = first-row canonical len t (hinted g d) f k s in
+      ap (typedRow canonical) r
+      ∙ typed-hinted canonical len (s .pre) (canons f ++ s .post) g d (s .octets ∙ simp append-assoc) _ refl
+      ∙ ap (λ (z : Row). hintedAs g d (Is (Raw (z .dataStart) (z .dataEnd)))) (sym r)
+  typed-at (list g) f k s = ap (typedRow canonical) (first-row canonical len t (list g) f k s)
 
-  abbrev x : List ℕ
-  x = canon (hinted f64 a)
+  amount-is : (x : Tree) (f : Forest) (k : ℕ) → Here (cons x f) k → (a : Float) → rowAmount canonical t k ≡ some a → Amount x a
+  amount-is x f k s a e = double-string a (value-says _ _ x (Double a) (sym (typed-at x f k s) ∙ amount-double _ a e)) refl
 
-  abbrev y : List ℕ
-  y = canon (hinted f64 b)
+  amount-of : (d : List ℕ) (f : Forest) (k : ℕ) → Here (cons (hinted f64 d) f) k → rowAmount canonical t k ≡ amountIn (doubleOf d)
+  unfolding kindOf equal
+  amount-of d f k s = ap amountIn (typed-at (hinted f64 d) f k s)
 
-  abbrev z : List ℕ
-  z = canon (hinted f64 c)
+  -- ---- hours
 
-  whole : take len canonical ≡ front ++ ((40 ∷ (x ++ (y ++ (z ++ []))) ++ 41 ∷ []) ++ back)
-  unfolding canon canons
-  whole = sheet-by canonical len table count node t o h _ q
+  pub hours-here : (a b c : List ℕ) (f : Forest) (k : ℕ) → Here (cons (list (cons (hinted f64 a) (cons (hinted f64 b) (cons (hinted f64 c) nil)))) f) k
+      → hoursAt canonical t k ≡ three (amountIn (doubleOf a)) (amountIn (doubleOf b)) (amountIn (doubleOf c))
+  unfolding hoursAt nodes
+  hours-here a b c f k s =
+      let row = first-list canonical len t _ f k s in
+      let first = inside canonical len t _ f k s in
+      let second = past canonical len t (hinted f64 a) _ (k + 1) first in
+      let third = past canonical len t (hinted f64 b) _ (k + 1 + 1) second in
+      let two : k + 2 ≡ k + 1 + 1 = omega arith in
+      let three' : k + 3 ≡ k + 1 + 1 + 1 = omega arith in
+      picked _ _ (true-both (eq-eqb _ _ (ap (λ (r : Row). r .kind) row)) (eq-eqb _ _ (ap (λ (r : Row). r .count) row)))
+      ∙ rw (two, three', amount-of a _ (k + 1) first, amount-of b _ (k + 1 + 1) second, amount-of c _ (k + 1 + 1 + 1) third)
 
-  list-is : rowOf t node ≡ listRow at (at + length (canon (list (cons (hinted f64 a) (cons (hinted f64 b) (cons (hinted f64 c) nil)))))) 4
+three-cases : {G : Type 0} (o p q : Option Float) (h : Line) → three o p q ≡ some h
+    → (o ≡ some (h .ordinary) → p ≡ some (h .night) → q ≡ some (h .holiday) → G) → G
+three-cases none p q h e g = none-some e
+three-cases (some x) none q h e g = none-some e
+three-cases (some x) (some y) none h e g = none-some e
+three-cases {G = G} (some x) (some y) (some z) h e g =
+    some-same (λ (l : Line). (some x ≡ some (l .ordinary) → some y ≡ some (l .night) → some z ≡ some (l .holiday) → G) → G) e
+    (λ f. f refl refl refl) g
+
+-- the first of the trees is an `f64` string with the double a, and m nodes are left after it
+record Next (canonical : List ℕ) (len : ℕ) (t : Tree) (g : Forest) (k : ℕ) (a : Float) (m : ℕ) : Type 0 where
+  pub octets : List ℕ
+  pub rest : Forest
+  pub is : g ≡ cons (hinted f64 octets) rest
+  pub double : doubleOf octets ≡ Is (Double a)
+  pub stands : Stands canonical len t rest (k + 1)
+  pub left : nodess rest ≡ m
+
+next : (canonical : List ℕ) (len : ℕ) (t : Tree) (g : Forest) (k : ℕ) (a : Float) (m : ℕ) → Stands canonical len t g k
+    → nodess g ≡ suc m → rowAmount canonical t k ≡ some a
+    → Next canonical len t g k a m
+unfolding nodes
+next canonical len t nil k a m s n e = absurd (omega arith)
+next canonical len t (cons x g) k a m s n e =
+    let w : Amount x a = amount-is canonical len t x g k s a e in
+    let one : nodes x ≡ 1 = ap nodes (w .is) in
+    record {
+      octets = w .octets;
+      rest = g;
+      is = ap (λ (y : Tree). cons y g) (w .is);
+      double = w .double;
+      stands = subst (λ (j : ℕ). Stands canonical len t g (k + j)) one (past canonical len t x g k s);
+      left = omega arith;
+    }
+
+none-left : (f : Forest) → nodess f ≡ 0 → f ≡ nil
+unfolding nodess
+none-left nil e = refl
+none-left (cons x f) e = absurd (omega (arith, nodes-pos x))
+
+module _ (canonical : List ℕ) (len : ℕ) (t : Tree) (h : Line) where
+  abbrev Sheet : Forest → ℕ → Type 0
+  Sheet = Stands canonical len t
+
+  pub from-three : (x : Tree) (f : Forest) (k : ℕ) (w : Three x h) → Sheet (cons x f) k → hoursAt canonical t k ≡ some h
+  from-three x f k w s =
+      hours-here canonical len t (w .first) (w .second) (w .third) f k (subst (λ (y : Tree). Sheet (cons y f) k) (w .is) s)
+      ∙ rw (w .ordinary, w .night, w .holiday)
+
+  by-nexts : {g : Forest} {i j k : ℕ} (x : Next canonical len t g i (h .ordinary) 2) (y : Next canonical len t (x .rest) j (h .night) 1)
+      (z : Next canonical len t (y .rest) k (h .holiday) 0)
+      → Three (list g) h
+  by-nexts x y z =
+      let e : z .rest ≡ nil = none-left (z .rest) (z .left) in
+      record { first = x .octets; second = y .octets; third = z .octets; is = cc; ordinary = x .double; night = y .double; holiday = z .double }
+
+  by-amounts : (g : Forest) (k : ℕ) → Sheet g (k + 1) → nodess g ≡ 3 → rowAmount canonical t (k + 1) ≡ some (h .ordinary)
+      → rowAmount canonical t (k + 2) ≡ some (h .night) → rowAmount canonical t (k + 3) ≡ some (h .holiday) → Three (list g) h
+  by-amounts g k s n a b c =
+      let two : k + 2 ≡ k + 1 + 1 = omega arith in
+      let third : k + 3 ≡ k + 1 + 1 + 1 = omega arith in
+      let x = next canonical len t g (k + 1) (h .ordinary) 2 s n a in
+      let y = next canonical len t (x .rest) (k + 1 + 1) (h .night) 1 (x .stands) (x .left) (ap (rowAmount canonical t) (sym two) ∙ b) in
+      by-nexts x y (next canonical len t (y .rest) (k + 1 + 1 + 1) (h .holiday) 0 (y .stands) (y .left) (ap (rowAmount canonical t) (sym third) ∙ c))
+
+  kind-two : (r : Row) → both (eqb (r .kind) 2) (eqb (r .count) 4) ≡ true → (r .kind ≡ 2) × (r .count ≡ 4)
+  kind-two r e = let w : (eqb (r .kind) 2 ≡ true) × (eqb (r .count) 4 ≡ true) = both-true e in (eqb-true _ _ (w .0), eqb-true _ _ (w .1))
+
+  by-row : (x : Tree) (f : Forest) (k : ℕ) → Sheet (cons x f) k → rowOf t k .kind ≡ 2 → rowOf t k .count ≡ 4
+      → three (rowAmount canonical t (k + 1)) (rowAmount canonical t (k + 2)) (rowAmount canonical t (k + 3)) ≡ some h → Three x h
   unfolding rows nodes
-  list-is = ap (rowOf t) (sym (add-zero node)) ∙ row-in t node h _ q 0
+  by-row (plain d) f k s a b e =
+      let z : _≡_ {A = ℕ} 0 2 = sym (ap (λ (r : Row). r .kind) (first-row canonical len t (plain d) f k s)) ∙ a in absurd (omega arith)
+  by-row (hinted g d) f k s a b e =
+      let z : _≡_ {A = ℕ} 1 2 = sym (ap (λ (r : Row). r .kind) (first-row canonical len t (hinted g d) f k s)) ∙ a in absurd (omega arith)
+  by-row (list g) f k s a b e =
+      let n : 1 + nodess g ≡ 4 = sym (first-count canonical len t (list g) f k s) ∙ b in
+      three-cases _ _ _ h e (λ x y z. by-amounts g k (inside canonical len t g f k s) (omega arith) x y z)
 
-  first : amountIn (typedRow canonical (rowOf t (node + 1))) ≡ amountIn (doubleOf a)
-  unfolding rows
-  first =
-      ap (λ (r : Row). amountIn (typedRow canonical r)) (row-in t node h _ q 1)
-      ∙ ap amountIn (typed-hinted canonical len (front ++ (40 ∷ [])) (y ++ (z ++ (41 ∷ back))) f64 a (whole ∙ simp append-assoc) (at + 1) (simp length-append (omega arith)))
-      ∙ double-in a _
-
-  second : amountIn (typedRow canonical (rowOf t (node + 2))) ≡ amountIn (doubleOf b)
-  unfolding rows
-  second =
-      ap (λ (r : Row). amountIn (typedRow canonical r)) (row-in t node h _ q 2)
-      ∙ ap amountIn (typed-hinted canonical len (front ++ (40 ∷ x)) (z ++ (41 ∷ back)) f64 b (whole ∙ simp append-assoc) (at + 1 + length x) (simp length-append (omega arith)))
-      ∙ double-in b _
-
-  third : amountIn (typedRow canonical (rowOf t (node + 3))) ≡ amountIn (doubleOf c)
-  unfolding rows
-  third =
-      ap (λ (r : Row). amountIn (typedRow canonical r)) (row-in t node h _ q 3)
-      ∙ ap amountIn (typed-hinted canonical len (front ++ (40 ∷ (x ++ y))) (41 ∷ back) f64 c (whole ∙ simp append-assoc) (at + 1 + length x + length y) (simp length-append (omega arith)))
-      ∙ double-in c _
-
-  pub hours-of-line : hoursAt canonical t node ≡ three (amountIn (doubleOf a)) (amountIn (doubleOf b)) (amountIn (doubleOf c))
+  pub to-three : (x : Tree) (f : Forest) (k : ℕ) → Sheet (cons x f) k → hoursAt canonical t k ≡ some h → Three x h
   unfolding hoursAt
-  hours-of-line =
-      picked _ _ (true-both (eq-eqb _ _ (ap (λ (r : Row). r .kind) list-is)) (eq-eqb _ _ (ap (λ (r : Row). r .count) list-is)))
-      ∙ ap (λ (f : Option Float). three f (amountIn (typedRow canonical (rowOf t (node + 2)))) (amountIn (typedRow canonical (rowOf t (node + 3))))) first
-      ∙ ap (λ (f : Option Float). three (amountIn (doubleOf a)) f (amountIn (typedRow canonical (rowOf t (node + 3))))) second
-      ∙ ap (λ (f : Option Float). three (amountIn (doubleOf a)) (amountIn (doubleOf b)) f) third
+  to-three x f k s e =
+      pick-cases (both (eqb (rowOf t k .kind) 2) (eqb (rowOf t k .count) 4)) _ _ e
+      (λ a b. let w : (rowOf t k .kind ≡ 2) × (rowOf t k .count ≡ 4) = kind-two (rowOf t k) a in by-row x f k s (w .0) (w .1) b)
+      (λ a b. none-some b)

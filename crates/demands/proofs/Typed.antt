@@ -1,21 +1,19 @@
--- 02, Ask 8, of a node of a sheet with its own table: its value by its hint, and that the value writes back to its data octets.
-use Prim.Native.Nat.{ℕ, _+_, _≤_, _<_}
+-- 02, Ask 8: the value of a string with a hint, wherever it stands in a sheet, and that a node's value writes back to its data octets.
+use Prim.Native.Nat.{ℕ, _+_}
 use native.Mathlib.Omega.{arith}
-use mathlib.Core.Path.{_≡_, refl, sym, ap, ap₂, _∙_, subst}
-use mathlib.Core.Bool.{Bool, true, false}
-use mathlib.Core.Option.{Option, none, some}
+use mathlib.Core.Path.{_≡_, refl, sym, ap, _∙_}
+use mathlib.Core.Option.{Option, some}
 use mathlib.Core.List.{List, [], _∷_, _++_, append-assoc}
 use lib.Dec.{T, eqb}
 use lib.ListN.{length, take, length-append}
 use lib.Seq.{slice}
 use Rattle.base.specs.Choice.{pick}
 use Rattle.base.proofs.Cases.{pick-cases, some-same, none-some}
-use Rattle.model.specs.Answers.{the, ownTree, part, octetsAt}
-use Rattle.model.specs.Table.{Row, plainRow, hintedRow, listRow, bodyStart, bodyEnd, rowOf}
-use Rattle.model.specs.Tree.{Tree, plain, hinted, list, Forest, digits, verbatim, canon, nodes}
+use Rattle.model.specs.Answers.{the, ownTree, octetsAt}
+use Rattle.model.specs.Table.{Row, hintedRow, bodyStart, bodyEnd, rowOf}
+use Rattle.model.specs.Tree.{Tree, hinted, digits, verbatim, canon}
 use Rattle.lookup.proofs.Sheets.{Own, own-of}
 use Rattle.lookup.proofs.Shown.{Inside, rows-inside}
-use Rattle.model.specs.Node.{nodeAt}
 use Rattle.typed.specs.Octets.{octets}
 use Rattle.typed.specs.Typed.{kindOf, singleOf, doubleOf, wholeOf, valueAt}
 use Rattle.typed.specs.Coding.{coding}
@@ -27,7 +25,7 @@ use Rattle.typed.specs.declared.Typing.{Typing}
 use Rattle.typed.specs.declared.Typing.the-variants.{Is, Untyped}
 use Rattle.typed.proofs.Roundtrip.{written-back}
 use Rattle.values.proofs.Laying.{part-slice}
-use Rattle.demands.proofs.Shown.{between, front, back, sheet-by, plain-row, hinted-row, list-row}
+use Rattle.demands.proofs.Shown.{between}
 
 is-value : (r : Typing) (v : Value) → valueIn r ≡ some v → r ≡ Is v
 is-value (Is u) v e = some-same (λ (x : Value). Is u ≡ Is x) e refl
@@ -84,25 +82,3 @@ module _ (canonical : List ℕ) (len : ℕ) (table : List ℕ) (count node : ℕ
       pick-cases (eqb (rowOf t node .kind) 2) Untyped (valueAt (rowKind canonical (rowOf t node)) canonical (rowOf t node .dataStart) (rowOf t node .dataEnd)) is
       (λ p q. none-some (ap valueIn q))
       (λ p q. written-back (rowKind canonical (rowOf t node)) canonical (rowOf t node .dataStart) (rowOf t node .dataEnd) v all (i .octets) (omega (arith, i .ended, w .sheet .size, w .sheet .lent)) q)
-
-  module _ (h : node < nodes t) where
-    -- 02, "A list .. refuse[s] with 11"
-    pub value-of-list : (f : Forest) → nodeAt t node ≡ list f → nodeValue canonical len table count node ≡ none
-    unfolding typedRow
-    value-of-list f q = value-by ∙ ap (λ (r : Row). valueIn (typedRow canonical r)) (list-row canonical len table count node t o h f q)
-
-    -- 02, "Any other hint, or none, is raw"
-    pub value-of-plain : (d : List ℕ) → nodeAt t node ≡ plain d → nodeValue canonical len table count node ≡ some (Raw (rowOf t node .dataStart) (rowOf t node .dataEnd))
-    unfolding typedRow rowKind valueAt
-    value-of-plain d q =
-        let r = plain-row canonical len table count node t o h d q in
-        value-by ∙ ap (λ (x : Row). valueIn (typedRow canonical x)) r ∙ ap (λ (x : Row). some (Raw (x .dataStart) (x .dataEnd))) (sym r)
-
-    -- 02, "Strings now carry numbers, told by hint"
-    pub value-of-hinted : (g d : List ℕ) → nodeAt t node ≡ hinted g d
-        → nodeValue canonical len table count node ≡ valueIn (hintedAs g d (Is (Raw (rowOf t node .dataStart) (rowOf t node .dataEnd))))
-    value-of-hinted g d q =
-        let r = hinted-row canonical len table count node t o h g d q in
-        value-by ∙ ap (λ (x : Row). valueIn (typedRow canonical x)) r
-        ∙ ap valueIn (typed-hinted canonical len (front canonical len table count node t o h) (back canonical len table count node t o h) g d (sheet-by canonical len table count node t o h (hinted g d) q) _ refl)
-        ∙ ap (λ (x : Row). valueIn (hintedAs g d (Is (Raw (x .dataStart) (x .dataEnd))))) (sym r)

@@ -1,2 +1,4 @@
 pub mod Conditions
 pub mod Orders
+pub mod Values
+pub mod Lines

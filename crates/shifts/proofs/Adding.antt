@@ -41,12 +41,12 @@ joined-end n q = let x : n + 0 ≡ n = omega arith in let y : q + 0 ≡ q = omeg
 
 -- ---- elements
 
-no-more : (t : Tree) (f at stop : ℕ) → stop ≤ at → elementsUpTo t f at stop ≡ []
+pub no-more : (t : Tree) (f at stop : ℕ) → stop ≤ at → elementsUpTo t f at stop ≡ []
 unfolding elementsUpTo
 no-more t zero at stop h = refl
 no-more t (suc f) at stop h = unpicked _ _ (le-ltb at stop h)
 
-one-more : (t : Tree) (f at stop : ℕ) → at < stop → elementsUpTo t (suc f) at stop ≡ at ∷ elementsUpTo t f (at + rowOf t at .count) stop
+pub one-more : (t : Tree) (f at stop : ℕ) → at < stop → elementsUpTo t (suc f) at stop ≡ at ∷ elementsUpTo t f (at + rowOf t at .count) stop
 unfolding elementsUpTo
 one-more t f at stop h = picked _ _ (lt-ltb at stop h)
 

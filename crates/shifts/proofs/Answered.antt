@@ -48,38 +48,38 @@ in-sheet c notes count node own k y h = record { known = k .known y; inside = h 
 -- ---- rows 7 and 8, whatever is asked
 
 module _ {A : Type 0} (c : List ℕ) (len : ℕ) (table : List ℕ) (count node : ℕ) (rest : List Check) (accepted : A) (refused : ℕ → A) where
-  not-own : ownTree c len table count ≡ none → judged (nodeChecks c len table count node rest) accepted refused ≡ refused 7
+  pub not-own : ownTree c len table count ≡ none → judged (nodeChecks c len table count node rest) accepted refused ≡ refused 7
   unfolding judged nodeChecks verdict isNone
   not-own e = rw e
 
   module _ (t : Tree) (e : ownTree c len table count ≡ some t) where
-    no-node : count ≤ node → judged (nodeChecks c len table count node rest) accepted refused ≡ refused 8
+    pub no-node : count ≤ node → judged (nodeChecks c len table count node rest) accepted refused ≡ refused 8
     unfolding judged nodeChecks verdict isNone
     no-node h = rw (e, le-leb count node h)
 
-    a-node : node < count → judged (nodeChecks c len table count node rest) accepted refused ≡ judged rest accepted refused
+    pub a-node : node < count → judged (nodeChecks c len table count node rest) accepted refused ≡ judged rest accepted refused
     unfolding judged nodeChecks verdict isNone
     a-node h = rw (e, lt-leb count node h)
 
 -- ---- row 11 or 12, by what there is
 
-value-some : (o : Option Value) (x : Value) → o ≡ some x → judged (when NotTyped (isNone o) ∷ []) (record { accepted = true; number = Accepted; value = o }) (λ n. unvalued n) ≡ valued (valuings.Accepted x)
+pub value-some : (o : Option Value) (x : Value) → o ≡ some x → judged (when NotTyped (isNone o) ∷ []) (record { accepted = true; number = Accepted; value = o }) (λ n. unvalued n) ≡ valued (valuings.Accepted x)
 unfolding judged verdict isNone valued
 value-some o x e = rw e
 
-value-none : (o : Option Value) → o ≡ none → judged (when NotTyped (isNone o) ∷ []) (record { accepted = true; number = Accepted; value = o }) (λ n. unvalued n) ≡ unvalued 11
+pub value-none : (o : Option Value) → o ≡ none → judged (when NotTyped (isNone o) ∷ []) (record { accepted = true; number = Accepted; value = o }) (λ n. unvalued n) ≡ unvalued 11
 unfolding judged verdict isNone
 value-none o e = rw e
 
-line-some : (o : Option Line) (s : Option Total) (l : Line) (u : Total) → o ≡ some l → s ≡ some u → judged (when NotLine (isNone o) ∷ []) (record { accepted = true; number = Accepted; line = o; total = s }) (λ n. unlined n) ≡ lined (linings.Accepted l u)
+pub line-some : (o : Option Line) (s : Option Total) (l : Line) (u : Total) → o ≡ some l → s ≡ some u → judged (when NotLine (isNone o) ∷ []) (record { accepted = true; number = Accepted; line = o; total = s }) (λ n. unlined n) ≡ lined (linings.Accepted l u)
 unfolding judged verdict isNone lined
 line-some o s l u e f = rw (e, f)
 
-line-none : (o : Option Line) (s : Option Total) → o ≡ none → judged (when NotLine (isNone o) ∷ []) (record { accepted = true; number = Accepted; line = o; total = s }) (λ n. unlined n) ≡ unlined 12
+pub line-none : (o : Option Line) (s : Option Total) → o ≡ none → judged (when NotLine (isNone o) ∷ []) (record { accepted = true; number = Accepted; line = o; total = s }) (λ n. unlined n) ≡ unlined 12
 unfolding judged verdict isNone
 line-none o s e = rw e
 
-no-checks : {A : Type 0} (a : A) (f : ℕ → A) → judged [] a f ≡ a
+pub no-checks : {A : Type 0} (a : A) (f : ℕ → A) → judged [] a f ≡ a
 unfolding judged verdict
 no-checks a f = refl
 

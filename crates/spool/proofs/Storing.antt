@@ -1,27 +1,28 @@
 -- The next store of an addition, by the cases of the code.
 use Prim.Native.Nat.{ℕ, zero, suc, _+_, _-_, _≤_, _<_}
 use native.Mathlib.Omega.{arith}
-use mathlib.Core.Path.{_≡_, refl, sym, ap, _∙_}
+use mathlib.Core.Path.{_≡_, refl, sym, ap, _∙_, subst}
 use mathlib.Core.Bool.{Bool, true, false}
 use mathlib.Core.List.{List, _∷_}
 use lib.ListN.{length, length-append, getD, take, set, List·getD-eq-default}
 use lib.Seq.{length-take-le}
 use lib.Dec.{leb, ltb}
-use borrow.Author.Tests.{lt-ltb, le-ltb, le-leb, eq-eqb, ne-eqb, ltb-true, ltb-false, leb-true}
-use Rattle.base.specs.Choice.{both, not}
+use borrow.Author.Tests.{lt-ltb, le-ltb, le-leb, lt-leb, eq-eqb, ne-eqb, ltb-true, ltb-false, leb-true}
+use Rattle.base.specs.Choice.{pick, both, not}
 use Rattle.base.proofs.Cases.{by-bool, by-le, by-eq, picked, unpicked, both-true, true-both, not-true, differ}
 use Rattle.model.specs.Limits.{maxCanonical}
 use Rattle.spools.specs.Adding.{Store, store, lastly, stores, storesOf, going}
-use Rattle.spools.specs.Groups.{groups}
+use Rattle.spools.specs.Groups.{groupsUpTo, groups}
 use Rattle.spools.specs.Spool.{entry}
 use Rattle.spools.proofs.Stored.{stores-length}
 use Rattle.spools.proofs.Three.{groups-three}
 use Rattle.spools.proofs.Order.{stores-behind, stores-at-end, lastly-length, lastly-rest, lastly-first}
 use Rattle.spool.specs.Cases.{stateOf}
 use Rattle.groups.specs.Octets.{Wide, Long}
-use Rattle.spool.specs.Stores.{offsetOf, storesOfLen, nextOf, NextOf}
+use Rattle.groups.proofs.Octets.{entry-data}
+use Rattle.spool.specs.Stores.{offsetOf, storesOfLen, nextOf, Stores, NextOf}
 use Rattle.spool.specs.declared.Adding.{Adding}
-use Rattle.spool.specs.declared.stores.Next.the-variants.{Octet, Nothing}
+use Rattle.spool.specs.declared.stores.Next.the-variants.{Body, Octet, Nothing}
 
 -- ---- how many stores there are
 
@@ -70,6 +71,13 @@ store-is size at e m d h =
     ap (λ (s : List Store). getD s m d) w
     ∙ last-is at e m d (omega (arith, ap length w, lastly-length at e))
     ∙ ap (λ (b : Bool). store (at + offsetOf b (length e) m) (getD e (offsetOf b (length e) m) 0)) (sym t))
+
+-- whether the area has an octet behind the entry, by the room that there is
+same-behind : (at len size : ℕ) → at ≤ size → ltb len (size - at) ≡ ltb (at + len) size
+same-behind at len size h =
+    by-le size (at + len)
+    (λ l. le-ltb len (size - at) (omega arith) ∙ sym (le-ltb (at + len) size l))
+    (λ l. lt-ltb len (size - at) (omega arith) ∙ sym (lt-ltb (at + len) size l))
 
 -- ---- and it lies in the area
 
@@ -155,20 +163,22 @@ module _ (a : Adding) (area sheet : List ℕ) where
   pub stop-large : maxCanonical < a .octets → NextOf a area sheet Nothing
   stop-large e = never (λ g. omega (arith, g .small))
 
-  pub stop-long : (n : ℕ) → Wide (a .octets) n → length area < n + a .octets → NextOf a area sheet Nothing
-  stop-long n w e = never (λ g. omega (arith, g .room, entry-long sheet (a .octets) (n + a .octets) (long-of w) (g .lent)))
+  pub stop-beyond : length area < a .at → NextOf a area sheet Nothing
+  stop-beyond e = never (λ g. omega (arith, g .room))
 
-  pub stop-far : (n : ℕ) → Wide (a .octets) n → n + a .octets ≤ length area → length area - (n + a .octets) < a .at → NextOf a area sheet Nothing
-  stop-far n w k e = never (λ g. omega (arith, g .room, entry-long sheet (a .octets) (n + a .octets) (long-of w) (g .lent)))
+  pub stop-room : (n : ℕ) → Wide (a .octets) n → a .at ≤ length area → length area - a .at < n + a .octets → NextOf a area sheet Nothing
+  stop-room n w k e = never (λ g. omega (arith, g .room, entry-long sheet (a .octets) (n + a .octets) (long-of w) (g .lent)))
 
-  pub stop-made : (n total : ℕ) → Wide (a .octets) n → total ≡ storesOfLen (ltb (a .at + (n + a .octets)) (length area)) (n + a .octets) → total ≤ a .made → NextOf a area sheet Nothing
-  stop-made n total x t e =
+  pub stop-made : (n total : ℕ) → Wide (a .octets) n → a .at ≤ length area → total ≡ storesOfLen (ltb (n + a .octets) (length area - a .at)) (n + a .octets) → total ≤ a .made
+      → NextOf a area sheet Nothing
+  stop-made n total x k t e =
       never
       (λ g.
       let len = n + a .octets in
       let w = entry-long sheet (a .octets) len (long-of x) (g .lent) in
-      let v : length (stores (length area) (a .at) (entry (take (a .octets) sheet))) ≡ storesOfLen (ltb (a .at + len) (length area)) len =
-      total-is (length area) (a .at) (entry (take (a .octets) sheet)) ∙ ap (λ (n : ℕ). storesOfLen (ltb (a .at + n) (length area)) n) w in
+      let v : length (stores (length area) (a .at) (entry (take (a .octets) sheet))) ≡ storesOfLen (ltb len (length area - a .at)) len =
+      total-is (length area) (a .at) (entry (take (a .octets) sheet)) ∙ ap (λ (n : ℕ). storesOfLen (ltb (a .at + n) (length area)) n) w
+      ∙ ap (λ (b : Bool). storesOfLen b len) (sym (same-behind (a .at) len (length area) k)) in
       omega (arith, g .left))
 
 -- ---- where something is
@@ -176,11 +186,11 @@ module _ (a : Adding) (area sheet : List ℕ) (g total i : ℕ) where
   abbrev len : ℕ
   len = g + a .octets
 
-  pub stores-on : a .done ≡ false → a .octets ≤ length sheet → a .octets ≤ maxCanonical → Wide (a .octets) g → len ≤ length area → a .at ≤ length area - len
+  stores-at : a .done ≡ false → a .octets ≤ length sheet → a .octets ≤ maxCanonical → Wide (a .octets) g → len ≤ length area → a .at ≤ length area - len
       → total ≡ storesOfLen (ltb (a .at + len) (length area)) len → a .made < total → i ≡ offsetOf (ltb (a .at + len) (length area)) len (a .made)
-      → NextOf a area sheet (Octet i g (leb total (a .made + 1)))
-  unfolding NextOf storesOf going
-  stores-on d o m x n p t k e =
+      → Stores a area sheet i g (leb total (a .made + 1))
+  unfolding storesOf going
+  stores-at d o m x n p t k e =
       let l : Long (a .octets) len = long-of x in
       let e₀ = entry (take (a .octets) sheet) in
       let w : length e₀ ≡ len = entry-long sheet (a .octets) len l o in
@@ -198,4 +208,72 @@ module _ (a : Adding) (area sheet : List ℕ) (g total i : ℕ) where
         within = stored-within (a .at) len (length area) (a .made) total i t e n p k;
         entried = record { within = o; small = m; wide = x };
         few = omega (arith, made-within (ltb (a .at + len) (length area)) len (a .made) total t k, l .few);
+      }
+
+  module _ (d : a .done ≡ false) (o : a .octets ≤ length sheet) (m : a .octets ≤ maxCanonical) (x : Wide (a .octets) g) (p : a .at ≤ length area) (n : len ≤ length area - a .at) where
+    abbrev behind : Bool
+    behind = ltb len (length area - a .at)
+
+    by-room : total ≡ storesOfLen behind len → a .made < total → i ≡ offsetOf behind len (a .made) → Stores a area sheet i g (leb total (a .made + 1))
+    by-room t k e =
+        let b : behind ≡ ltb (a .at + len) (length area) = same-behind (a .at) len (length area) p in
+        stores-at d o m x (omega arith) (omega arith) (t ∙ ap (λ (y : Bool). storesOfLen y len) b) k (e ∙ ap (λ (y : Bool). offsetOf y len (a .made)) b)
+
+    pub stores-on : total ≡ storesOfLen behind len → a .made < total → i ≡ offsetOf behind len (a .made) → NextOf a area sheet (Octet i g (leb total (a .made + 1)))
+    unfolding NextOf
+    stores-on t k e = by-room t k e
+
+-- ---- and it is an octet of the sheet
+
+some-groups : (f n : ℕ) → 0 < length (groupsUpTo f n)
+unfolding groupsUpTo
+some-groups zero n = omega arith
+some-groups (suc f) n = by-bool (ltb n 128) (λ e. rw (e, groupsUpTo) (omega arith)) (λ e. rw (e, groupsUpTo) (omega arith))
+
+pub wide-some : (n g : ℕ) → Wide n g → 0 < g
+unfolding groups
+wide-some n g w = omega (arith, w .is, some-groups n n)
+
+pub first-end : (b : Bool) (g : ℕ) → b ≡ false → g - 1 ≡ pick b g (g - 1)
+first-end b g e = sym (unpicked _ _ e)
+
+-- which store an octet of the sheet is, and that another follows
+record Within (behind : Bool) (len made i : ℕ) : Type 0 where
+  pub offset : i ≡ offsetOf behind len made
+  pub more : made + 1 < storesOfLen behind len
+
+sheet-store : (behind : Bool) (g octets made : ℕ) → 0 < g → pick behind g (g - 1) ≤ made → made - pick behind g (g - 1) < octets
+    → Within behind (g + octets) made (g + (made - pick behind g (g - 1)))
+unfolding offsetOf storesOfLen
+sheet-store true g octets made h k l =
+    record { offset = rw (ne-eqb made 0 (λ (z : made ≡ 0). omega arith), lt-ltb made (g + octets) (omega arith)) (omega arith); more = omega arith }
+sheet-store false g octets made h k l =
+    record { offset = rw (lt-ltb (made + 1) (g + octets) (omega arith)) (omega arith); more = omega arith }
+
+module _ (a : Adding) (area sheet : List ℕ) (g f : ℕ) where
+  abbrev whole : ℕ
+  whole = g + a .octets
+
+  abbrev after : Bool
+  after = ltb whole (length area - a .at)
+
+  pub copies-on : a .done ≡ false → a .octets ≤ length sheet → a .octets ≤ maxCanonical → Wide (a .octets) g → a .at ≤ length area → whole ≤ length area - a .at
+      → f ≡ pick after g (g - 1) → f ≤ a .made → a .made - f < a .octets → NextOf a area sheet (Body (a .made - f) (a .at + g + (a .made - f)))
+  unfolding NextOf
+  copies-on d o m x p n e k l =
+      let b : Within after whole (a .made) (g + (a .made - f)) = subst (λ (z : ℕ). Within after whole (a .made) (g + (a .made - z))) (sym e)
+      (sheet-store after g (a .octets) (a .made) (wide-some (a .octets) g x) (subst (λ (z : ℕ). z ≤ a .made) e k) (subst (λ (z : ℕ). a .made - z < a .octets) e l)) in
+      let i : ℕ = g + (a .made - f) in
+      let total : ℕ = storesOfLen after whole in
+      let s : Stores a area sheet i g (leb total (a .made + 1)) = by-room a area sheet g total i d o m x p n refl (omega (arith, b .more)) (b .offset) in
+      let j : i - g ≡ a .made - f = omega arith in
+      let q : a .at + i ≡ a .at + g + (a .made - f) = omega arith in
+      record {
+        goes = s .goes;
+        place = s .place ∙ q;
+        octet = s .octet ∙ sym (entry-data sheet (a .octets) g i (s .entried) (omega arith) (omega arith)) ∙ ap (λ (z : ℕ). getD sheet z 0) j;
+        goes-on = sym (lt-leb total (a .made + 1) (b .more)) ∙ s .ends;
+        within = omega (arith, s .within);
+        lent = omega arith;
+        few = s .few;
       }

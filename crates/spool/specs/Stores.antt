@@ -12,7 +12,7 @@ use Rattle.spool.specs.Cases.{stateOf}
 use Rattle.groups.specs.Octets.{Entried}
 use Rattle.spool.specs.declared.Adding.{Adding}
 use Rattle.spool.specs.declared.stores.Next.{Next}
-use Rattle.spool.specs.declared.stores.Next.the-variants.{Octet, Nothing}
+use Rattle.spool.specs.declared.stores.Next.the-variants.{Body, Octet, Nothing}
 
 -- which octet of an entry of so many octets is stored after so many stores
 unfoldable pub offsetOf : Bool → ℕ → ℕ → ℕ
@@ -39,6 +39,17 @@ pub record Stores (a : Adding) (area sheet : List ℕ) (offset groups : ℕ) (la
   pub entried : Entried (length sheet) (a .octets) groups
   pub few : a .made < 16388
 
+-- it is an octet of the sheet, and not the last store
+pub record Copies (a : Adding) (area sheet : List ℕ) (from to : ℕ) : Type 0 where
+  pub goes : going (stateOf a) area sheet ≡ true
+  pub place : nextOf a area sheet .place ≡ to
+  pub octet : nextOf a area sheet .octet ≡ getD sheet from 0
+  pub goes-on : false ≡ leb (length (storesOf (stateOf a) area sheet)) (a .made + 1)
+  pub within : to < length area
+  pub lent : from < length sheet
+  pub few : a .made < 16388
+
 unfoldable pub NextOf : Adding → List ℕ → List ℕ → Next → Type 0
+NextOf a area sheet (Body from to) = Copies a area sheet from to
 NextOf a area sheet (Octet offset groups last) = Stores a area sheet offset groups last
 NextOf a area sheet Nothing = going (stateOf a) area sheet ≡ false
