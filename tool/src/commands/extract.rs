@@ -1,0 +1,30 @@
+//! What a foreman may see.
+
+use etglavino::Form;
+
+use super::convert::deliver;
+use super::edit::TO;
+use crate::args::{Command, Given, FROM, OUTPUT};
+use crate::files;
+use crate::problem::Problem;
+
+pub const COMMAND: Command = Command {
+    name: "extract",
+    takes: "[FILE]",
+    plain: (0, 1),
+    about: "write what a foreman may see of a sheet",
+    details: "\
+Every list, at any depth, whose first element is the unhinted string `private`
+becomes ().",
+    flags: &[FROM, TO, OUTPUT],
+    run,
+};
+
+fn run(given: &Given) -> Result<(), Problem> {
+    let from = given.form("--from", Form::Advanced)?;
+    let to = given.form("--to", from)?;
+    let sheet = files::sheet(given.at(0), from)?;
+    let extract = sheet.extract(Vec::new(), Vec::new());
+    let extract = extract.map_err(|why| Problem::Refused(files::name(given.at(0)), why))?;
+    deliver(given, &files::text(&extract, to))
+}
