@@ -23,7 +23,7 @@ _etglavino() {
     case ${COMP_WORDS[1]} in
         convert | extract) flags='--from --to --output' ;;
         check) flags='--from --threads' ;;
-        show) flags='--from --paths' ;;
+        show) flags='--from --paths --html --output' ;;
         table) flags='--from' ;;
         replace) flags='--from --to --text --output' ;;
         same) flags='--from --hint' ;;

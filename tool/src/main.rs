@@ -5,6 +5,7 @@
 mod args;
 mod commands;
 mod files;
+mod html;
 mod many;
 mod nodes;
 mod problem;

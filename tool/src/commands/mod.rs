@@ -7,7 +7,7 @@ mod extract;
 mod hours;
 mod replace;
 mod same;
-mod show;
+pub mod show;
 mod spool;
 mod table;
 

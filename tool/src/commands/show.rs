@@ -2,9 +2,10 @@
 
 use etglavino::{Form, Kind, Node, OwnedSheet, Value};
 
-use crate::args::{Command, Flag, Given, FROM};
+use super::convert::deliver;
+use crate::args::{Command, Flag, Given, FROM, OUTPUT};
 use crate::problem::Problem;
-use crate::{files, nodes};
+use crate::{files, html, nodes};
 
 pub const COMMAND: Command = Command {
     name: "show",
@@ -14,7 +15,8 @@ pub const COMMAND: Command = Command {
     details: "\
 A string is shown in its advanced spelling, the hint before it; behind it stands its
 value if the hint is f32, f64 or int. A shift line is shown with its hours, a list of
-lines with their sum.",
+lines with their sum. A page needs no network; pointing at a node marks its octets,
+and the other way round.",
     flags: &[
         FROM,
         Flag {
@@ -22,13 +24,23 @@ lines with their sum.",
             value: None,
             about: "print each node's path too",
         },
+        Flag {
+            name: "--html",
+            value: None,
+            about: "write a page in place of lines: tree and octets side by side",
+        },
+        OUTPUT,
     ],
     run,
 };
 
 fn run(given: &Given) -> Result<(), Problem> {
     let sheet = files::sheet(given.at(0), given.form("--from", Form::Advanced)?)?;
-    files::put(tree(&sheet, given.has("--paths")).as_bytes())
+    let out = match given.has("--html") {
+        true => html::page(&sheet, &files::name(given.at(0))),
+        false => tree(&sheet, given.has("--paths")),
+    };
+    deliver(given, out.as_bytes())
 }
 
 fn tree(sheet: &OwnedSheet, paths: bool) -> String {
