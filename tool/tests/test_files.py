@@ -199,8 +199,8 @@ class Process(Case):
         self.assertIn(b"standard output: No space left", run.stderr)
 
     def test_files_are_read_in_parallel(self) -> None:
-        """Each of two readers waits for its own pipe: one thread could not get past
-        the first, whose writer comes last."""
+        # Each of two readers waits for its own pipe: one thread could not get past the
+        # first, whose writer comes last.
         for name in ("a", "b"):
             os.mkfifo(self.folder / name)
         run = subprocess.Popen(

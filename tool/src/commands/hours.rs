@@ -83,24 +83,21 @@ fn rows(sheet: &OwnedSheet) -> Result<Vec<Row>, usize> {
 /// The line that a node is. A list of nothing but `f64` strings has to be one.
 fn line(node: Node<'_>) -> Result<Option<(Line, Total)>, usize> {
     let mut fields = node.children().map(|child| child.hint() == Some(b"f64"));
-    let meant = node.children().next().is_some() && fields.all(|field| field);
-    match node.line() {
-        Ok(line) => Ok(Some(line)),
-        Err(_) if meant => Err(node.number()),
-        Err(_) => Ok(None),
+    if node.children().next().is_none() || !fields.all(|field| field) {
+        return Ok(None);
     }
+    node.line().map(Some).map_err(|_| node.number())
 }
 
 /// The sum of the lines of a node. A list of lists, one of them a line, has to
 /// be a week.
 fn week(node: Node<'_>) -> Result<Option<Total>, usize> {
     let lists = node.children().all(|child| child.kind() == Kind::List);
-    let meant = lists && node.children().any(|child| child.line().is_ok());
-    match node.week() {
-        _ if !meant => Ok(None),
-        Ok(week) => Ok(Some(week.total)),
-        Err(why) => Err(why.node),
+    if !lists || !node.children().any(|child| child.line().is_ok()) {
+        return Ok(None);
     }
+    let week = node.week().map_err(|why| why.node)?;
+    Ok(Some(week.total))
 }
 
 /// Sums of quarters, which doubles hold exactly.

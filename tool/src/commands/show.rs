@@ -89,18 +89,27 @@ pub fn spelled(node: Node<'_>) -> String {
 
 /// What a typed string, a line or a list of lines stands for.
 pub fn meaning(node: Node<'_>) -> String {
-    if node.kind() == Kind::List {
-        return match (node.line(), node.week()) {
-            (Ok((line, total)), _) => format!(
-                " = {:.2} ordinary, {:.2} night, {:.2} holiday: {:.2} hours",
-                line.ordinary, line.night, line.holiday, total.hours
-            ),
-            (_, Ok(week)) if week.lines > 0 => {
-                format!(" = {} lines: {:.2} hours", week.lines, week.total.hours)
-            }
-            _ => String::new(),
-        };
+    match node.kind() {
+        Kind::List => hours(node),
+        Kind::Hinted => value(node),
+        Kind::String => String::new(),
     }
+}
+
+fn hours(node: Node<'_>) -> String {
+    match (node.line(), node.week()) {
+        (Ok((line, total)), _) => format!(
+            " = {:.2} ordinary, {:.2} night, {:.2} holiday: {:.2} hours",
+            line.ordinary, line.night, line.holiday, total.hours
+        ),
+        (_, Ok(week)) if week.lines > 0 => {
+            format!(" = {} lines: {:.2} hours", week.lines, week.total.hours)
+        }
+        _ => String::new(),
+    }
+}
+
+fn value(node: Node<'_>) -> String {
     match node.value() {
         Ok(Value::Raw { .. }) => String::new(),
         Ok(Value::Single(number)) => format!(" = {number:?}"),
