@@ -39,6 +39,8 @@ impl<'a> Night<'a> {
 
     /// All of it, or what differs from what was made.
     pub fn pass(mut self) -> Result<(), String> {
+        let (factories, sheets, seed) = (self.factories, self.sheets, self.seed);
+        println!("{factories} factories, {sheets} sheets each, seed {seed}");
         let made = self.timed("making the week", |night| Ok(night.week()))?;
         let (taken, refused) = self.timed("reading", |_| take(&made))?;
         self.timed("spooling to files", |night| night.spool(&taken))?;
@@ -61,24 +63,20 @@ impl<'a> Night<'a> {
             &long,
             &fate(Fate::TooLong),
         )?;
+        let (taken, workers) = (sheets.len(), hours.len());
         let quarters: u32 = hours.values().map(|(_, quarters)| quarters).sum();
-        println!(
-            "{} factories, {} sheets each, seed {}",
-            self.factories, self.sheets, self.seed
-        );
-        println!(
-            "{} taken, {refused} refused, {long} with a line that is too long",
-            sheets.len()
-        );
-        println!(
-            "{} hours of {} workers, {shown} octets for foremen",
-            f64::from(quarters) / 4.0,
-            hours.len()
-        );
+        let paid = f64::from(quarters) / 4.0;
+        println!("{taken} taken, {refused} refused, {long} with a line that is too long");
+        println!("{paid} hours of {workers} workers, {shown} octets for foremen");
+        self.tell();
+        Ok(())
+    }
+
+    /// What each part took.
+    fn tell(&self) {
         for (what, time) in &self.times {
             println!("{:>9.1} ms  {what}", time.as_secs_f64() * 1e3);
         }
-        Ok(())
     }
 
     fn timed<T>(

@@ -42,45 +42,44 @@ with a hyphen.
 exit status: 0 done; 1 refused, with a number and a sentence on standard error and
 nothing on standard output; 2 wrong use, or a file that can't be read or written";
 
+const VERSION: &str = concat!("etglavino ", env!("CARGO_PKG_VERSION"), "\n");
+
 /// Runs what is asked for.
 pub fn run(given: Vec<OsString>) -> Result<(), Problem> {
     let words: Vec<_> = given.iter().map(|word| word.to_string_lossy()).collect();
-    let Some(first) = words.first() else {
-        return usage("a command is missing; see `etglavino --help`");
-    };
-    match &**first {
-        "--help" | "-h" | "help" => return files::put(help("").as_bytes()),
-        "--version" => {
-            let version = env!("CARGO_PKG_VERSION");
-            return files::put(format!("etglavino {version}\n").as_bytes());
-        }
+    let words: Vec<&str> = words.iter().map(|word| &**word).collect();
+    match words[..] {
+        [] => return usage("a command is missing; see `etglavino --help`"),
+        ["--help" | "-h" | "help", ..] => return files::put(help("").as_bytes()),
+        ["--version", ..] => return files::put(VERSION.as_bytes()),
         _ => (),
     }
     for command in ALL {
-        let name: Vec<_> = command.name.split(' ').collect();
-        if words.starts_with(&name.iter().map(|word| (*word).into()).collect::<Vec<_>>()) {
-            let rest = &given[name.len()..];
-            let flags = rest.iter().take_while(|word| *word != "--");
-            if flags
-                .into_iter()
-                .any(|word| word == "--help" || word == "-h")
-            {
-                return files::put(command.help().as_bytes());
-            }
-            return (command.run)(&command.sort(rest)?);
+        let name: Vec<&str> = command.name.split(' ').collect();
+        if words.starts_with(&name) {
+            return run_one(command, &given[name.len()..]);
         }
     }
-    let within = format!("{first} ");
-    if ALL.iter().any(|command| command.name.starts_with(&within)) {
-        match words.get(1).map(|word| &**word) {
-            Some("--help" | "-h") => return files::put(help(&within).as_bytes()),
-            Some(other) => return usage(format!("there is no command {first} {other}")),
-            None => return usage(format!("{first}: which? See `etglavino {first} --help`")),
-        }
+    let within = format!("{} ", words[0]);
+    let group = ALL.iter().any(|command| command.name.starts_with(&within));
+    match words[..] {
+        [_, "--help" | "-h", ..] if group => files::put(help(&within).as_bytes()),
+        [first, other, ..] if group => usage(format!("there is no command {first} {other}")),
+        [first, ..] if group => usage(format!("{first}: which? See `etglavino {first} --help`")),
+        [first, ..] => usage(format!(
+            "there is no command {first}; see `etglavino --help`"
+        )),
+        [] => unreachable!("a word is there"),
     }
-    usage(format!(
-        "there is no command {first}; see `etglavino --help`"
-    ))
+}
+
+/// Runs a command, or gives its help.
+fn run_one(command: &Command, given: &[OsString]) -> Result<(), Problem> {
+    let mut flags = given.iter().take_while(|word| *word != "--");
+    if flags.any(|word| word == "--help" || word == "-h") {
+        return files::put(command.help().as_bytes());
+    }
+    (command.run)(&command.sort(given)?)
 }
 
 /// The commands whose names begin so, a line each.
