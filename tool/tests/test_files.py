@@ -33,6 +33,13 @@ class Replace(Case):
         self.assertEqual(self.names(), ["link", "list"])
         self.assertTrue((self.folder / "link").is_symlink())
 
+    def test_to_another_place(self) -> None:
+        path = self.file("list", LIST)
+        self.gives(b'(hi [x]"")\n', "replace", "--output", "-", "1", "hi", "list")
+        self.gives(b"", "replace", "--to=canonical", "--output", "new", "1", "hi", "list")
+        self.assertEqual((self.folder / "new").read_bytes(), b"(2:hi[1:x]0:)")
+        self.assertEqual(path.read_bytes(), LIST)
+
     def test_refusals_leave_the_file(self) -> None:
         path = self.file("list", LIST)
         for said, node, text in (
@@ -116,7 +123,10 @@ class Spool(Case):
         self.file("list", LIST)
         self.gives(b"", "spool", "add", "--size", "20", "desk", "list")
         self.fails(1, b"desk, adding list: refused 6: ", "spool", "add", "desk", "list")
-        self.gives(b"", "spool", "add", "--size", "30", "desk", "list")
+        # Room for one more, and not for two: neither is added.
+        two = ("spool", "add", "--size", "30", "desk", "list", "list")
+        self.fails(1, b"desk, adding list: refused 6: ", *two)
+        self.gives(b"", "spool", "add", "desk", "list")
         _, out, _ = self.run_tool("spool", "list", "desk")
         self.assertEqual(out.count(b"\n"), 2)
         self.file("bad", b"\x82\x00()")

@@ -36,7 +36,7 @@ fn run(given: &Given) -> Result<(), Problem> {
 /// Octets to the file of `--output`, or to standard output.
 pub fn deliver(given: &Given, octets: &[u8]) -> Result<(), Problem> {
     match given.value("--output") {
-        Some(path) => files::replace(path, octets, None),
-        None => files::put(octets),
+        Some(path) if path != "-" => files::replace(path, octets, None),
+        _ => files::put(octets),
     }
 }

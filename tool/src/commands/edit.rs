@@ -4,6 +4,7 @@ use std::ffi::OsStr;
 
 use etglavino::{Form, OwnedSheet, Refusal};
 
+use super::convert::deliver;
 use crate::args::{Flag, Given};
 use crate::files;
 use crate::problem::Problem;
@@ -20,7 +21,7 @@ pub const TEXT: Flag = Flag {
 };
 pub const DETAILS: &str = "\
 A FILE is replaced as a whole, after a power cut it is the old one or the new one.
-Without a FILE the corrected sheet goes to standard output.";
+Without a FILE, or with --output -, the corrected sheet goes to standard output.";
 
 /// Reads the sheet of a file, has it changed, and puts it back. What the sheet
 /// is changed by is called by its name where that is what is refused.
@@ -40,9 +41,10 @@ pub fn edit(
         _ => refused(&name, why),
     })?;
     let text = files::text(&sheet, to);
-    match (given.value("--output"), file) {
-        (Some(path), _) => files::replace(path, &text, None),
-        (None, Some(path)) if path != "-" => files::replace(path, &text, Some(&source)),
-        _ => files::put(&text),
+    match file {
+        Some(path) if path != "-" && !given.has("--output") => {
+            files::replace(path, &text, Some(&source))
+        }
+        _ => deliver(given, &text),
     }
 }

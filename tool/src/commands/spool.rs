@@ -1,10 +1,10 @@
 //! Sheets in a spool file: added, listed, taken out and checked.
 
-use std::ffi::OsStr;
+use std::ffi::{OsStr, OsString};
 use std::fs;
 use std::path::Path;
 
-use etglavino::{Form, OwnedSheet, SpoolFile};
+use etglavino::{Form, OwnedSheet, Refusal, SpoolFile};
 
 use super::convert::deliver;
 use crate::args::{Command, Flag, Given, FROM, OUTPUT, THREADS};
@@ -22,10 +22,9 @@ pub const ADD: Command = Command {
     plain: (2, usize::MAX),
     about: "add sheets to a spool file, which is made where it is missing",
     details: "\
-All files are read first: if one is refused, none is added. When the command is done
-the sheets are on the disk; after a power cut the spool has the old sheets, or those
-and the first of the new ones. Where there is no room for a sheet it is refused with
-6: a larger --size makes room.",
+If a file is refused, or there is no room for one (6), none is added; a larger --size
+makes room. When the command is done the sheets are on the disk; after a power cut
+the spool has the old sheets, or those and the first of the new ones.",
     flags: &[
         FROM,
         Flag {
@@ -89,10 +88,26 @@ fn add(given: &Given) -> Result<(), Problem> {
         false => SpoolFile::create(path, size.unwrap_or(SIZE)).map_err(failed)?,
     };
     spool.grow(size.unwrap_or(0)).map_err(failed)?;
-    for (file, sheet) in new.iter().zip(&sheets) {
-        let added = spool.add(sheet.canonical());
+    rehearsed(spool.area(), new, &sheets).map_err(|(file, refusal)| {
         let adding = format!("{name}, adding {}", files::name(Some(file)));
-        added.map_err(|error| Problem::spool(&adding, error))?;
+        Problem::Refused(adding, refusal)
+    })?;
+    sheets
+        .iter()
+        .try_for_each(|sheet| spool.add(sheet.canonical()).map_err(failed))
+}
+
+/// Adds all sheets to a copy of the area: none is added to the file if one of
+/// them is refused.
+fn rehearsed<'a>(
+    area: &[u8],
+    files: &'a [OsString],
+    sheets: &[OwnedSheet],
+) -> Result<(), (&'a OsString, Refusal)> {
+    let mut copy = area.to_vec();
+    for (file, sheet) in files.iter().zip(sheets) {
+        let octets = sheet.canonical();
+        etglavino::spool_add(&mut copy, octets, octets.len()).map_err(|why| (file, why))?;
     }
     Ok(())
 }
