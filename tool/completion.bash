@@ -6,7 +6,7 @@ _etglavino() {
     COMPREPLY=()
 
     case $before in
-        --from | --to | --text)
+        --from | --to | --text | -s)
             mapfile -t COMPREPLY < <(compgen -W 'canonical basic advanced' -- "$word")
             return
             ;;

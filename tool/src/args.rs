@@ -34,7 +34,7 @@ pub struct Flag {
 pub const FROM: Flag = Flag {
     name: "--from",
     value: Some("FORM"),
-    about: "the form of what is read: canonical, basic or advanced (the default)",
+    about: "the form of what is read: canonical, basic, advanced, or any (the default)",
 };
 pub const OUTPUT: Flag = Flag {
     name: "--output",
@@ -156,6 +156,20 @@ impl Given {
                 "{name}: {} is none of canonical, basic and advanced",
                 value.to_string_lossy()
             )),
+        }
+    }
+
+    /// The form of a text that is read, by a flag. Where none is named, or any, a
+    /// text that begins with a brace is basic, which no advanced text does, and
+    /// every other is advanced, which all canonical text is.
+    pub fn form_of(&self, name: &str, text: &[u8]) -> Result<Form, Problem> {
+        let seen = match text.first() {
+            Some(b'{') => Form::Basic,
+            _ => Form::Advanced,
+        };
+        match self.value(name) {
+            Some(value) if value == "any" => Ok(seen),
+            _ => self.form(name, seen),
         }
     }
 

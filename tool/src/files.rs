@@ -9,6 +9,7 @@ use std::process;
 
 use etglavino::{Form, OwnedSheet, MAX_SOURCE};
 
+use crate::args::Given;
 use crate::problem::Problem;
 
 /// How a file is called in a sentence; none, and `-`, are standard input.
@@ -36,10 +37,25 @@ pub fn read(file: Option<&OsStr>) -> Result<Vec<u8>, Problem> {
     }
 }
 
-/// The sheet of a file's text.
-pub fn sheet(file: Option<&OsStr>, form: Form) -> Result<OwnedSheet, Problem> {
+/// A file's text: its octets, the form that it was read in, and its sheet.
+pub struct Taken {
+    pub source: Vec<u8>,
+    pub form: Form,
+    pub sheet: OwnedSheet,
+}
+
+/// Takes a file's text, in the form that `--from` names.
+pub fn take(given: &Given, file: Option<&OsStr>) -> Result<Taken, Problem> {
     let source = read(file)?;
-    OwnedSheet::of_text(form, &source).map_err(|refusal| Problem::Refused(name(file), refusal))
+    let form = given.form_of("--from", &source)?;
+    match OwnedSheet::of_text(form, &source) {
+        Ok(sheet) => Ok(Taken {
+            source,
+            form,
+            sheet,
+        }),
+        Err(refusal) => Err(Problem::Refused(name(file), refusal)),
+    }
 }
 
 /// A sheet's text for a file: advanced text ends with a line feed, which its

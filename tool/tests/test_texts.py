@@ -22,6 +22,14 @@ class Convert(Case):
         self.assertEqual((self.folder / "new").read_bytes(), LIST_BASIC)
         self.assertEqual(self.names(), ["list", "new"])
 
+    def test_the_form_is_seen(self) -> None:
+        for source in FORMS.values():
+            self.gives(LIST, "convert", source=source)
+            self.gives(LIST_ADVANCED, "convert", "-s", "advanced", source=source)
+        # Nothing may stand outside the braces, and brackets and braces don't mix.
+        for source in (LIST_BASIC + b"\n", b" " + LIST_BASIC, b"{", b"({MzphYmM=})"):
+            self.fails(1, SYNTAX, "convert", source=source)
+
     def test_the_names_of_forms(self) -> None:
         for name in ("2", "transport", "basic"):
             self.gives(LIST_BASIC, "convert", "--to", name, source=LIST)
@@ -71,8 +79,12 @@ class Check(Case):
 
     def test_the_form(self) -> None:
         self.file("basic", LIST_BASIC)
-        self.fails(1, SYNTAX, "check", "basic")
+        self.gives(b"", "check", "basic")
+        self.gives(b"", "check", "--from", "any", "basic")
         self.gives(b"", "check", "--from", "basic", "basic")
+        for form in ("advanced", "canonical"):
+            self.fails(1, SYNTAX, "check", "--from", form, "basic")
+        self.fails(2, b"none of canonical, basic and advanced", "check", "--from", "xml", "basic")
 
 
 class Show(Case):
@@ -127,6 +139,7 @@ class Extract(Case):
         text = b"(shift (private sick) (a (private)) (public) private)"
         self.gives(b"(shift () (a ()) (public) private)\n", "extract", source=text)
         self.gives(b"()", "extract", "--to", "canonical", source=b"(private x)")
+        self.gives(b"{KCk=}", "extract", source=b"{KDc6cHJpdmF0ZSk=}")
 
 
 if __name__ == "__main__":

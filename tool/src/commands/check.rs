@@ -1,7 +1,5 @@
 //! Whether files are S-expressions.
 
-use etglavino::Form;
-
 use crate::args::{Command, Given, FROM, THREADS};
 use crate::problem::Problem;
 use crate::{files, many};
@@ -19,9 +17,9 @@ end. The status is 1 if one is refused, and 2 if one can't be read.",
 };
 
 fn run(given: &Given) -> Result<(), Problem> {
-    let from = given.form("--from", Form::Advanced)?;
+    given.form_of("--from", b"")?;
     let threads = given.count("--threads")?;
     many::each(&given.plain, threads, |file| {
-        files::sheet(Some(file), from).map(drop)
+        files::take(given, Some(file)).map(drop)
     })
 }

@@ -12,8 +12,9 @@ pub const COMMAND: Command = Command {
     plain: (0, 1),
     about: "write an S-expression in another form",
     details: "\
-Canonical text is advanced text too, and can be read without --from. Advanced text
-ends with a line feed; in the other forms nothing stands behind the tree.",
+Without --from the form is seen: what begins with a brace is basic, and all else
+advanced, as canonical text is too. Advanced text that is written ends with a line
+feed; in the other forms nothing stands behind the tree.",
     flags: &[
         FROM,
         Flag {
@@ -21,16 +22,21 @@ ends with a line feed; in the other forms nothing stands behind the tree.",
             value: Some("FORM"),
             about: "the form of what is written: canonical (the default), basic or advanced",
         },
+        Flag {
+            name: "-s",
+            value: Some("FORM"),
+            about: "the same, as sexp-conv has it",
+        },
         OUTPUT,
     ],
     run,
 };
 
 fn run(given: &Given) -> Result<(), Problem> {
-    let from = given.form("--from", Form::Advanced)?;
-    let to = given.form("--to", Form::Canonical)?;
-    let sheet = files::sheet(given.at(0), from)?;
-    deliver(given, &files::text(&sheet, to))
+    let to = given.form("-s", Form::Canonical)?;
+    let to = given.form("--to", to)?;
+    let taken = files::take(given, given.at(0))?;
+    deliver(given, &files::text(&taken.sheet, to))
 }
 
 /// Octets to the file of `--output`, or to standard output.

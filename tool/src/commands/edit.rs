@@ -2,7 +2,7 @@
 
 use std::ffi::OsStr;
 
-use etglavino::{Form, OwnedSheet, Refusal};
+use etglavino::{OwnedSheet, Refusal};
 
 use super::convert::deliver;
 use crate::args::{Flag, Given};
@@ -12,12 +12,12 @@ use crate::problem::Problem;
 pub const TO: Flag = Flag {
     name: "--to",
     value: Some("FORM"),
-    about: "the form of what is written (default: that of --from)",
+    about: "the form of what is written (default: the form that was read)",
 };
 pub const TEXT: Flag = Flag {
     name: "--text",
     value: Some("FORM"),
-    about: "the form of TEXT: canonical, basic or advanced (the default)",
+    about: "the form of TEXT: canonical, basic, advanced, or any (the default)",
 };
 pub const DETAILS: &str = "\
 A FILE is replaced as a whole, after a power cut it is the old one or the new one.
@@ -30,20 +30,16 @@ pub fn edit(
     file: Option<&OsStr>,
     change: impl FnOnce(&mut OwnedSheet) -> Result<(), Refusal>,
 ) -> Result<(), Problem> {
-    let from = given.form("--from", Form::Advanced)?;
-    let to = given.form("--to", from)?;
-    let source = files::read(file)?;
-    let name = files::name(file);
-    let refused = |name: &str, refusal| Problem::Refused(name.into(), refusal);
-    let mut sheet = OwnedSheet::of_text(from, &source).map_err(|why| refused(&name, why))?;
-    change(&mut sheet).map_err(|why| match why {
-        Refusal::SourceSize | Refusal::Syntax => refused("TEXT", why),
-        _ => refused(&name, why),
+    let mut taken = files::take(given, file)?;
+    let to = given.form("--to", taken.form)?;
+    change(&mut taken.sheet).map_err(|why| match why {
+        Refusal::SourceSize | Refusal::Syntax => Problem::Refused("TEXT".into(), why),
+        _ => Problem::Refused(files::name(file), why),
     })?;
-    let text = files::text(&sheet, to);
+    let text = files::text(&taken.sheet, to);
     match file {
         Some(path) if path != "-" && !given.has("--output") => {
-            files::replace(path, &text, Some(&source))
+            files::replace(path, &text, Some(&taken.source))
         }
         _ => deliver(given, &text),
     }

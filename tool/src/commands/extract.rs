@@ -1,7 +1,5 @@
 //! What a foreman may see.
 
-use etglavino::Form;
-
 use super::convert::deliver;
 use super::edit::TO;
 use crate::args::{Command, Given, FROM, OUTPUT};
@@ -21,10 +19,9 @@ becomes ().",
 };
 
 fn run(given: &Given) -> Result<(), Problem> {
-    let from = given.form("--from", Form::Advanced)?;
-    let to = given.form("--to", from)?;
-    let sheet = files::sheet(given.at(0), from)?;
-    let extract = sheet.extract(Vec::new(), Vec::new());
+    let taken = files::take(given, given.at(0))?;
+    let to = given.form("--to", taken.form)?;
+    let extract = taken.sheet.extract(Vec::new(), Vec::new());
     let extract = extract.map_err(|why| Problem::Refused(files::name(given.at(0)), why))?;
     deliver(given, &files::text(&extract, to))
 }

@@ -1,6 +1,6 @@
 //! Lines and weeks, as a table or as CSV.
 
-use etglavino::{Form, Kind, Line, Node, OwnedSheet, Refusal, Total};
+use etglavino::{Kind, Line, Node, OwnedSheet, Refusal, Total};
 
 use super::convert::deliver;
 use super::show::spelled;
@@ -37,7 +37,7 @@ const HEAD: [&str; 9] = [
 type Row = [String; HEAD.len()];
 
 fn run(given: &Given) -> Result<(), Problem> {
-    let sheet = files::sheet(given.at(0), given.form("--from", Form::Advanced)?)?;
+    let sheet = files::take(given, given.at(0))?.sheet;
     let rows = rows(&sheet).map_err(|node| {
         let name = format!("{}, node {node}", files::name(given.at(0)));
         Problem::Refused(name, Refusal::NotLine)

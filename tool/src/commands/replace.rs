@@ -2,8 +2,6 @@
 
 use std::os::unix::ffi::OsStrExt;
 
-use etglavino::Form;
-
 use super::edit::{edit, DETAILS, TEXT, TO};
 use crate::args::{Command, Given, FROM, OUTPUT};
 use crate::nodes::Named;
@@ -22,7 +20,7 @@ pub const COMMAND: Command = Command {
 fn run(given: &Given) -> Result<(), Problem> {
     let node = Named::of(&given.plain[0])?;
     let text = given.plain[1].as_bytes();
-    let form = given.form("--text", Form::Advanced)?;
+    let form = given.form_of("--text", text)?;
     edit(given, given.at(2), |sheet| {
         sheet.replace(form, text, node.number(sheet))
     })

@@ -2,8 +2,6 @@
 
 use std::os::unix::ffi::OsStrExt;
 
-use etglavino::Form;
-
 use crate::args::{Command, Flag, Given, FROM};
 use crate::files;
 use crate::problem::{usage, Problem};
@@ -28,13 +26,12 @@ Says `same`, with status 0, or `different`, with status 1.",
 };
 
 fn run(given: &Given) -> Result<(), Problem> {
-    let form = given.form("--from", Form::Advanced)?;
     let hint = given.value("--hint").unwrap_or_default();
     if given.plain.iter().all(|file| file == "-") {
         return usage("same: standard input can be one of the two");
     }
-    let a = files::sheet(given.at(0), form)?;
-    let b = files::sheet(given.at(1), form)?;
+    let a = files::take(given, given.at(0))?.sheet;
+    let b = files::take(given, given.at(1))?.sheet;
     let same = a.same(&b, hint.as_bytes());
     match same.map_err(|refusal| Problem::Refused(files::name(given.at(0)), refusal))? {
         true => files::put(b"same\n"),

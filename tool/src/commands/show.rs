@@ -35,7 +35,7 @@ and the other way round.",
 };
 
 fn run(given: &Given) -> Result<(), Problem> {
-    let sheet = files::sheet(given.at(0), given.form("--from", Form::Advanced)?)?;
+    let sheet = files::take(given, given.at(0))?.sheet;
     let out = match given.has("--html") {
         true => html::page(&sheet, &files::name(given.at(0))),
         false => tree(&sheet, given.has("--paths")),

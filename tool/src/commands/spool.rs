@@ -74,12 +74,11 @@ pub const CHECK: Command = Command {
 };
 
 fn add(given: &Given) -> Result<(), Problem> {
-    let form = given.form("--from", Form::Advanced)?;
     let size = given.count("--size")?;
     let (path, new) = (&given.plain[0], &given.plain[1..]);
     let sheets: Result<Vec<_>, _> = new
         .iter()
-        .map(|file| files::sheet(Some(file), form))
+        .map(|file| Ok(files::take(given, Some(file))?.sheet))
         .collect();
     let (sheets, name) = (sheets?, path.to_string_lossy());
     let failed = |error| Problem::spool(&name, error);

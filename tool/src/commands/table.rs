@@ -1,6 +1,6 @@
 //! The node table, as numbers.
 
-use etglavino::{Form, RECORD};
+use etglavino::RECORD;
 
 use crate::args::{Command, Given, FROM};
 use crate::files;
@@ -20,7 +20,7 @@ are those in the canonical form.",
 };
 
 fn run(given: &Given) -> Result<(), Problem> {
-    let sheet = files::sheet(given.at(0), given.form("--from", Form::Advanced)?)?;
+    let sheet = files::take(given, given.at(0))?.sheet;
     let mut out = String::new();
     for record in sheet.records() {
         let numbers = <[u32; RECORD]>::from(*record).map(|number| number.to_string());
