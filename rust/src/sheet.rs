@@ -43,7 +43,7 @@ pub type LentSheet<'a> = Sheet<&'a mut [u8], &'a mut [Record]>;
 /// let sheet = OwnedSheet::of_text(Form::Advanced, b"(shift ann (from \"22:00\"))")?;
 /// let words: Vec<_> = sheet.root().children().map(|node| node.data()).collect();
 /// assert_eq!(words, [&b"shift"[..], b"ann", b"4:from5:22:00"]);
-/// assert_eq!(sheet.text(Form::Advanced), b"(shift ann (from \"22:00\"))");
+/// assert_eq!(sheet.text(Form::Advanced)?, b"(shift ann (from \"22:00\"))");
 /// # Ok::<(), etglavino::Refusal>(())
 /// ```
 #[cfg(feature = "std")]
@@ -111,14 +111,17 @@ impl<O: AsRef<[u8]>, R: AsRef<[Record]>> Sheet<O, R> {
         crate::write(form, self.octets.as_ref(), self.extent.length, out)
     }
 
-    /// The sheet's text. Only a sheet whose space changed under its hands has
-    /// none, and then this is empty.
+    /// The sheet's text.
+    ///
+    /// # Errors
+    ///
+    /// [`Refusal::NotOwn`], only of a sheet whose space changed under its hands.
     #[cfg(feature = "std")]
-    pub fn text(&self, form: Form) -> Vec<u8> {
+    pub fn text(&self, form: Form) -> Result<Vec<u8>, Refusal> {
         let mut out = vec![0; 2 * self.extent.length + 2];
-        let written = self.write(form, &mut out).unwrap_or(0);
+        let written = self.write(form, &mut out)?;
         out.truncate(written);
-        out
+        Ok(out)
     }
 
     /// Whether both have the same shape, and at each string the same data and

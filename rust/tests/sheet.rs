@@ -143,7 +143,7 @@ fn owned_sheets_grow_up_to_the_limits() {
     assert_eq!(sheet.canonical(), b"4:done");
     let long = vec![b'a'; MAX_CANONICAL];
     assert_eq!(sheet.replace(Form::Advanced, &long, 0), Err(Refusal::Size));
-    assert_eq!(sheet.text(Form::Basic), b"{NDpkb25l}");
+    assert_eq!(sheet.text(Form::Basic).unwrap(), b"{NDpkb25l}");
 }
 
 #[test]

@@ -37,11 +37,13 @@ pub fn read(file: Option<&OsStr>) -> Result<Vec<u8>, Problem> {
     }
 }
 
-/// A file's text: its octets, the form that it was read in, and its sheet.
+/// A file's text: its octets, the form that it was read in, its sheet, and how
+/// the file is called.
 pub struct Taken {
     pub source: Vec<u8>,
     pub form: Form,
     pub sheet: OwnedSheet,
+    pub name: String,
 }
 
 /// Takes a file's text, in the form that `--from` names.
@@ -53,6 +55,7 @@ pub fn take(given: &Given, file: Option<&OsStr>) -> Result<Taken, Problem> {
             source,
             form,
             sheet,
+            name: name(file),
         }),
         Err(refusal) => Err(Problem::Refused(name(file), refusal)),
     }
@@ -60,12 +63,13 @@ pub fn take(given: &Given, file: Option<&OsStr>) -> Result<Taken, Problem> {
 
 /// A sheet's text for a file: advanced text ends with a line feed, which its
 /// grammar lets stand there; that of the other forms doesn't.
-pub fn text(sheet: &OwnedSheet, form: Form) -> Vec<u8> {
-    let mut text = sheet.text(form);
+pub fn text(name: &str, sheet: &OwnedSheet, form: Form) -> Result<Vec<u8>, Problem> {
+    let text = sheet.text(form);
+    let mut text = text.map_err(|refusal| Problem::Refused(name.into(), refusal))?;
     if form == Form::Advanced {
         text.push(b'\n');
     }
-    text
+    Ok(text)
 }
 
 /// Writes all of it to standard output.

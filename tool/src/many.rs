@@ -10,6 +10,8 @@ use crate::problem::{say, Problem};
 
 /// How long nobody minds to see nothing.
 const PATIENCE: Duration = Duration::from_secs(1);
+/// More threads than these would only wait for the disk.
+const MOST: usize = 64;
 /// How often the bar is drawn.
 const BEAT: Duration = Duration::from_millis(100);
 
@@ -21,7 +23,7 @@ pub fn each(
     judge: impl Fn(&OsString) -> Result<(), Problem> + Sync,
 ) -> Result<(), Problem> {
     let threads = threads.unwrap_or_else(|| thread::available_parallelism().map_or(1, usize::from));
-    let answers = answers(files, threads.min(files.len()), &judge);
+    let answers = answers(files, threads.min(files.len()).min(MOST), &judge);
     let (mut refused, mut unread) = (0, 0);
     for problem in answers.iter().filter_map(|answer| answer.as_ref().err()) {
         problem.tell();

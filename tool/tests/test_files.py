@@ -182,7 +182,8 @@ class Process(Case):
             self.assertIn(f"usage: etglavino {name}".encode(), out)
         status, out, _ = self.run_tool("spool", "--help")
         self.assertEqual((status, out.count(b"\n  spool ")), (0, 4))
-        self.gives(b"etglavino 0.1.0\n", "--version")
+        status, out, _ = self.run_tool("--version")
+        self.assertEqual((status, out[:10]), (0, b"etglavino "))
 
     def test_closed_pipes(self) -> None:
         text = b"(" + b"a " * 4000 + b")"

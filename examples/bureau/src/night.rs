@@ -150,11 +150,8 @@ impl<'a> Night<'a> {
             let mut text = Vec::new();
             for (_, sheet) in sheets.iter().filter(|(of, _)| *of == factory) {
                 let extract = sheet.extract(Vec::new(), Vec::new());
-                text.extend(
-                    extract
-                        .map_err(|refusal| refusal.to_string())?
-                        .text(Form::Advanced),
-                );
+                let shown = extract.and_then(|extract| extract.text(Form::Advanced));
+                text.extend(shown.map_err(|refusal| refusal.to_string())?);
                 text.push(b'\n');
             }
             let seen = String::from_utf8_lossy(&text);

@@ -34,9 +34,9 @@ pub fn edit(
     let to = given.form("--to", taken.form)?;
     change(&mut taken.sheet).map_err(|why| match why {
         Refusal::SourceSize | Refusal::Syntax => Problem::Refused("TEXT".into(), why),
-        _ => Problem::Refused(files::name(file), why),
+        _ => Problem::Refused(taken.name.clone(), why),
     })?;
-    let text = files::text(&taken.sheet, to);
+    let text = files::text(&taken.name, &taken.sheet, to)?;
     match file {
         Some(path) if path != "-" && !given.has("--output") => {
             files::replace(path, &text, Some(&taken.source))

@@ -22,6 +22,6 @@ fn run(given: &Given) -> Result<(), Problem> {
     let taken = files::take(given, given.at(0))?;
     let to = given.form("--to", taken.form)?;
     let extract = taken.sheet.extract(Vec::new(), Vec::new());
-    let extract = extract.map_err(|why| Problem::Refused(files::name(given.at(0)), why))?;
-    deliver(given, &files::text(&extract, to))
+    let extract = extract.map_err(|why| Problem::Refused(taken.name.clone(), why))?;
+    deliver(given, &files::text(&taken.name, &extract, to)?)
 }

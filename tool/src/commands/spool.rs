@@ -168,6 +168,6 @@ fn check(given: &Given) -> Result<(), Problem> {
 fn text(path: &OsStr, sheet: &[u8], form: Form) -> Result<Vec<u8>, Problem> {
     let name = path.to_string_lossy();
     let sheet = OwnedSheet::of_text(Form::Canonical, sheet);
-    let sheet = sheet.map_err(|refusal| Problem::Refused(name.into(), refusal))?;
-    Ok(files::text(&sheet, form))
+    let sheet = sheet.map_err(|refusal| Problem::Refused(name.clone().into(), refusal))?;
+    files::text(&name, &sheet, form)
 }
