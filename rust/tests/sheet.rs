@@ -138,7 +138,8 @@ fn owned_sheets_grow_up_to_the_limits() {
         sheet.replace(Form::Advanced, b"a", MAX_NODES),
         Err(Refusal::NoNode)
     );
-    assert_eq!(sheet.replace(Form::Advanced, b"(", 2), Err(Refusal::Syntax));
+    let open = sheet.replace(Form::Advanced, b"(", 2);
+    assert_eq!(open.map_err(Refusal::number), Err(3));
     sheet.replace(Form::Advanced, b"done", 0).unwrap();
     assert_eq!(sheet.canonical(), b"4:done");
     let long = vec![b'a'; MAX_CANONICAL];

@@ -32,8 +32,8 @@ pub fn edit(
 ) -> Result<(), Problem> {
     let mut taken = files::take(given, file)?;
     let to = given.form("--to", taken.form)?;
-    change(&mut taken.sheet).map_err(|why| match why {
-        Refusal::SourceSize | Refusal::Syntax => Problem::Refused("TEXT".into(), why),
+    change(&mut taken.sheet).map_err(|why| match why.number() {
+        2 | 3 => Problem::Refused("TEXT".into(), why),
         _ => Problem::Refused(taken.name.clone(), why),
     })?;
     let text = files::text(&taken.name, &taken.sheet, to)?;
