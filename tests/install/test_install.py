@@ -89,7 +89,7 @@ class Installed(unittest.TestCase):
         self.assertEqual(run(str(self.prefix / "bin/etglavino"), "--version"), f"etglavino {version}\n")
         # As the Rust crate has them.
         rust = (ROOT / "rust/src/refusal.rs").read_text()
-        numbers = dict(re.findall(r"^ +(?:Refusal::)?(\w+)(?: \{ \.\. \})? =>? (\d+),$", rust, re.M))
+        numbers = dict(re.findall(r"^ +(?:Refusal::)?([A-Z]\w+)(?: \{ \.\. \})? =>? (\d+),$", rust, re.M))
         said = dict(re.findall(r'Refusal::(\w+)(?: \{ \.\. \})? => (?:\{\s*)?"(.*)"', rust))
         self.assertEqual(set(numbers), set(said))
         expected = ["accepted"] + ["no refusal has this number"] * 13
