@@ -1,9 +1,10 @@
 /* Etglavino: S-expressions (RFC 9804) read, written, corrected and compared.
  *
- * Build the library with `rt staticlib etglavino_c`; link
- * target/staticlib/libetglavino_c.a. It needs nothing but the C library's
- * memset and memcpy, allocates nothing, keeps nothing between calls and never
- * fails otherwise than by the number that it returns.
+ * `make install` puts it where `pkg-config etglavino` finds it; or build it
+ * with `rt staticlib etglavino_c` and link target/staticlib/libetglavino_c.a.
+ * It needs nothing but the C library's memset and memcpy, allocates nothing,
+ * keeps nothing between calls and never fails otherwise than by the number that
+ * it returns.
  *
  * What a caller lends
  *   Pointers are never null: where a count is 0, any valid pointer will do.
@@ -109,6 +110,9 @@ enum {
     ETG_RAW = 4     /* any other hint, or none */
 };
 
+/* The version of this header. */
+#define ETG_VERSION "0.1.0"
+
 /* The most that a source, a canonical form, a table and an output can take. */
 #define ETG_MOST_SOURCE 32768
 #define ETG_MOST_CANONICAL 16384
@@ -119,6 +123,14 @@ enum {
 struct etg_record {
     uint32_t kind, start, end, nodes, hint_start, hint_end, data_start, data_end;
 };
+
+/* The version of the library that is linked. This and the next one are in what
+ * `make` builds and installs, and not in the archive of `rt staticlib` alone. */
+const char *etg_version(void);
+
+/* What a refusal's number means, in a sentence without capital and full stop;
+ * never null. */
+const char *etg_refusal_text(uint32_t number);
 
 /* Reads `source` in `form` into canonical octets and their table.
  *

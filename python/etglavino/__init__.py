@@ -24,9 +24,9 @@ file, and `spool_open`, `spool_add` and `Adding` work in octets of the caller's.
 
 Whatever is bad raises `Refusal`, which has a number and a sentence.
 
-The library is found in this repository's target folder and built by `rt` where
-it is missing; or it is in the folder that the environment variable
-ETGLAVINO_LIB names. A C compiler makes a shared object of it, once.
+A wheel carries the library. In the repository it is found in the target folder
+and built by `rt` where it is missing; or it is in the folder that the environment
+variable ETGLAVINO_LIB names. A C compiler makes a shared object of it, once.
 """
 
 from ._entries import MAX_CANONICAL, MAX_DEPTH, MAX_NODES, MAX_SOURCE

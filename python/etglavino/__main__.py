@@ -1,47 +1,32 @@
-"""Converts an S-expression on standard input from one form to another."""
+"""`python3 -m etglavino`: the command `etglavino`, with the same arguments."""
 
 from __future__ import annotations
 
-import argparse
+import os
+import shutil
 import sys
+import sysconfig
+from pathlib import Path
 
-from . import MAX_SOURCE, Form, LibraryMissing, Refusal, read
-
-FORMS = {form.name.lower(): form for form in Form}
-
-STATUS = """\
-exit status: 0 converted; 1 refused, with the number and what is wrong on
-standard error; 2 bad usage, or a library that cannot be loaded"""
+from ._library import BUNDLED, ROOT
 
 
-def arguments(given: list[str] | None = None) -> argparse.Namespace:
-    """The command line's options."""
-    parser = argparse.ArgumentParser(prog="python3 -m etglavino", description=__doc__, epilog=STATUS)
-    for option, default, what in (
-        ("--from", "advanced", "the form of the input"),
-        ("--to", "canonical", "the form of the output"),
-    ):
-        parser.add_argument(
-            option, choices=FORMS, default=default, help=f"{what} (default: %(default)s)"
-        )
-    return parser.parse_args(given)
+def command() -> str | None:
+    """Where the command is: beside this Python where a wheel was installed, in
+    this repository, or wherever a shell would find it."""
+    installed = Path(sysconfig.get_path("scripts"), "etglavino")
+    built = ROOT / "tool/target/release/etglavino"
+    path = installed if BUNDLED.is_file() else built
+    return str(path) if path.is_file() else shutil.which("etglavino")
 
 
 def main() -> int:
-    """Converts, and gives the exit status."""
-    options = vars(arguments())
-    # One octet more than a source may have, so that a longer one is refused.
-    source = sys.stdin.buffer.read(MAX_SOURCE + 1)
-    try:
-        text = read(FORMS[options["from"]], source).write(FORMS[options["to"]])
-    except Refusal as refusal:
-        print(refusal, file=sys.stderr)
-        return 1
-    except LibraryMissing as error:
-        print(f"etglavino: {error}", file=sys.stderr)
+    """Becomes the command, if there is one."""
+    path = command()
+    if path is None:
+        print("etglavino: the command is not there: `make` builds it", file=sys.stderr)
         return 2
-    sys.stdout.buffer.write(text)
-    return 0
+    os.execv(path, ["etglavino", *sys.argv[1:]])
 
 
 if __name__ == "__main__":

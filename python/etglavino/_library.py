@@ -1,5 +1,6 @@
-"""Finds the library's archive, or builds it with `rt`, and loads it as a shared
-object, which a C compiler makes of it."""
+"""Loads the library: the shared object that a wheel carries; or the archive,
+which is built by `rt` where it is missing and made a shared object by a C
+compiler."""
 
 from __future__ import annotations
 
@@ -13,6 +14,8 @@ from pathlib import Path
 
 ARCHIVE = "libetglavino_c.a"
 ROOT = Path(__file__).resolve().parents[2]
+BUNDLED = Path(__file__).resolve().with_name("libetglavino.so")
+"""What a wheel carries."""
 
 
 class LibraryMissing(Exception):
@@ -22,7 +25,8 @@ class LibraryMissing(Exception):
 @functools.cache
 def load() -> ctypes.CDLL:
     """The library, with its functions' types declared."""
-    shared = _shared_object(_archive())
+    carried = BUNDLED.is_file() and not os.environ.get("ETGLAVINO_LIB")
+    shared = BUNDLED if carried else _shared_object(_archive())
     try:
         library = ctypes.CDLL(str(shared))
     except OSError as error:

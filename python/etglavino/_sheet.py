@@ -2,12 +2,12 @@
 
 from __future__ import annotations
 
-from collections.abc import Iterable
+from collections.abc import Iterable, Iterator
 from itertools import chain
 from typing import NamedTuple, Union, final
 
 from . import _entries
-from ._entries import RECORD, Octets, Table, octets_of, table_of
+from ._entries import RECORD, Octets, Refusal, Table, octets_of, table_of
 
 
 class Node(NamedTuple):
@@ -31,26 +31,37 @@ class Node(NamedTuple):
 @final
 class Sheet:
     """A tree's canonical octets and the records of its nodes, kept together.
-    Sheets never change. Two are equal if their octets are.
+    Sheets never change. Two are equal if their octets are. One iterates over its
+    records, and its length is how many there are.
+
+    >>> sheet = read(3, b"(a (b c) d)")
+    >>> [node.kind for node in sheet]
+    [2, 0, 2, 0, 0, 0]
+    >>> sheet.children(0), sheet.parent(4), sheet.path(4), sheet.at("0/1/1")
+    ((1, 2, 5), 2, '0/1/1', 4)
 
     `read` makes them. One that is put together by hand is taken as it is: what
     is wrong with it shows when it is used, as refusal 7."""
 
-    __slots__ = ("_canonical", "_nodes", "_table")
+    __slots__ = ("_canonical", "_nodes", "_own", "_table")
 
     _canonical: bytes
     _table: Table
     _nodes: tuple[Node, ...] | None
+    _own: bool
+    """Whether the table is known to be the octets' own."""
 
     def __init__(self, canonical: Octets, nodes: Iterable[Node]) -> None:
         self._canonical = octets_of(canonical)
         self._nodes = tuple(Node(*node) for node in nodes)
         self._table = table_of(list(chain.from_iterable(self._nodes)))
+        self._own = False
 
     @classmethod
     def _of(cls, canonical: bytes, table: Table) -> Sheet:
         sheet = cls.__new__(cls)
         sheet._canonical, sheet._table, sheet._nodes = canonical, table, None
+        sheet._own = True
         return sheet
 
     @property
@@ -66,6 +77,59 @@ class Sheet:
             places = range(0, len(numbers), RECORD)
             self._nodes = tuple(Node(*numbers[at : at + RECORD]) for at in places)
         return self._nodes
+
+    def __iter__(self) -> Iterator[Node]:
+        return iter(self.nodes)
+
+    def __len__(self) -> int:
+        return len(self._table) // RECORD
+
+    def children(self, node: int) -> tuple[int, ...]:
+        """The numbers of a list's elements; a string has none. Refusals: 7, 8."""
+        end = node + self._record(node).nodes
+        found, at = [], node + 1
+        while at < end:
+            found.append(at)
+            at += self.nodes[at].nodes
+        return tuple(found)
+
+    def parent(self, node: int) -> int | None:
+        """The number of the list directly around a node; the whole has none.
+        Refusals: 7, 8."""
+        self._record(node)
+        before = range(node - 1, -1, -1)
+        # Of all that hold it the nearest began last.
+        return next((at for at in before if at + self.nodes[at].nodes > node), None)
+
+    def path(self, node: int) -> str:
+        """A node's path from the whole, as `0/3/1`: elements level by level, each
+        by its place from 0. Refusals: 7, 8."""
+        parent = self.parent(node)
+        if parent is None:
+            return "0"
+        return f"{self.path(parent)}/{self.children(parent).index(node)}"
+
+    def at(self, path: str) -> int:
+        """The number of the node at a path, which starts at any node's number.
+        Refusals: 7, 8."""
+        start, *places = (int(part) for part in path.split("/"))
+        self._record(start)
+        for place in places:
+            children = self.children(start)
+            if not 0 <= place < len(children):
+                raise Refusal(8)
+            start = children[place]
+        return start
+
+    def _record(self, node: int) -> Node:
+        """A node's record, of a table that is the octets' own."""
+        if not self._own:
+            if _entries.data(self._canonical, self._table, 0) is None:
+                raise Refusal(7)
+            self._own = True
+        if not 0 <= node < len(self):
+            raise Refusal(8)
+        return self.nodes[node]
 
     def hint(self, node: int, default: Octets = b"") -> bytes:
         """The node's hint if it is a string with one, which may be empty; in

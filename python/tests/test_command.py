@@ -1,4 +1,5 @@
-"""The command line, and what is said where the library is missing."""
+"""The command as Python starts it, and what is said where the library is
+missing."""
 
 import os
 import shutil
@@ -9,17 +10,27 @@ import unittest
 from pathlib import Path
 from unittest import mock
 
-from etglavino import LibraryMissing, _library
+from etglavino import LibraryMissing, __main__, _library
 
 from . import LIST
 
 PACKAGE = Path(__file__).resolve().parents[1]
+READS = """\
+import sys
+from etglavino import LibraryMissing, read
+try:
+    sys.stdout.buffer.write(read(3, sys.stdin.buffer.read()).canonical)
+except LibraryMissing as error:
+    print(error, file=sys.stderr)
+    sys.exit(2)
+"""
 
 
-def run(source: bytes, *options: str, **environment: str) -> tuple[int, bytes, bytes]:
-    """Exit status, standard output and standard error."""
+def run(source: bytes, *python: str, **environment: str) -> tuple[int, bytes, bytes]:
+    """Exit status, standard output and standard error of a Python in the
+    package's folder."""
     done = subprocess.run(
-        [sys.executable, "-m", "etglavino", *options],
+        [sys.executable, *(python or ("-c", READS))],
         cwd=PACKAGE,
         input=source,
         capture_output=True,
@@ -30,35 +41,23 @@ def run(source: bytes, *options: str, **environment: str) -> tuple[int, bytes, b
 
 
 class Command(unittest.TestCase):
-    def test_from_advanced_to_canonical(self) -> None:
-        self.assertEqual(run(b'(abc [x] "")\n'), (0, LIST, b""))
+    """One command line, whoever starts it. What it does is tested with it."""
 
-    def test_every_form_to_every_form(self) -> None:
-        texts = {
-            "canonical": LIST,
-            "basic": b"{KDM6YWJjWzE6eF0wOik=}",
-            "advanced": b'(abc [x]"")',
-        }
-        for given, source in texts.items():
-            for wanted, text in texts.items():
-                answer = run(source, "--from", given, "--to", wanted)
-                self.assertEqual(answer, (0, text, b""))
-
-    def test_refusals(self) -> None:
-        sentence = b"refused 3: the source is not in the form's language\n"
-        self.assertEqual(run(b"(abc"), (1, b"", sentence))
-        self.assertEqual(run(b"abc", "--from", "canonical"), (1, b"", sentence))
-        longest = b"a".ljust(32_768)
-        self.assertEqual(run(longest), (0, b"1:a", b""))
-        status, out, said = run(longest + b" ")
+    def test_the_command_is_started(self) -> None:
+        module = ("-m", "etglavino")
+        self.assertEqual(run(b'(abc [x] "")', *module, "convert"), (0, LIST, b""))
+        status, out, said = run(b"(", *module, "convert", "--to", "basic")
         self.assertEqual((status, out), (1, b""))
-        self.assertEqual(said, b"refused 2: the source has over 32,768 octets\n")
+        self.assertIn(b"refused 3: ", said)
+        self.assertEqual(run(b"", *module)[0], 2)
 
-    def test_bad_usage(self) -> None:
-        for options in (["--to", "xml"], ["--from"], ["file"]):
-            status, out, said = run(b"()", *options)
-            self.assertEqual((status, out), (2, b""))
-            self.assertIn(b"usage: python3 -m etglavino", said)
+    def test_no_command(self) -> None:
+        with tempfile.TemporaryDirectory() as empty:
+            nowhere = mock.patch.dict(os.environ, {"PATH": empty})
+            with mock.patch.object(__main__, "ROOT", Path(empty)), nowhere:
+                self.assertIsNone(__main__.command())
+                with mock.patch("sys.stderr"):
+                    self.assertEqual(__main__.main(), 2)
 
 
 class Missing(unittest.TestCase):

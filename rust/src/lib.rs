@@ -20,31 +20,45 @@
 //! assert_eq!(&out[..written], b"(hi [x]\"\")");
 //! # Ok::<(), etglavino::Refusal>(())
 //! ```
+//!
+//! A [`Sheet`] keeps octets, records and counts together, in lent space or in
+//! vectors, and has iterators over its nodes. Without the feature `std`, which
+//! is on by default, the crate needs no standard library: what is owned, and
+//! the spool in a file, are missing then.
+#![cfg_attr(not(feature = "std"), no_std)]
 
 mod extract;
 mod ffi;
 mod form;
+mod node;
 mod records;
 mod refusal;
+mod room;
 mod run;
+mod sheet;
 mod spool;
-#[cfg(target_os = "linux")]
+#[cfg(all(feature = "std", target_os = "linux"))]
 mod spool_file;
-#[cfg(target_os = "linux")]
+#[cfg(all(feature = "std", target_os = "linux"))]
 mod spool_map;
 mod table;
 mod value;
 
 pub use extract::{extract, extract_own, extract_own_records, extract_records};
 pub use form::Form;
+pub use node::{Children, Kind, Node, Nodes};
 pub use records::{
     data_records, data_records_part, hint_records, hint_records_part, read_records,
     read_records_form, replace_records, replace_records_form, Record,
 };
 pub use refusal::Refusal;
+pub use room::Room;
 pub use run::{run, split, Run};
+#[cfg(feature = "std")]
+pub use sheet::OwnedSheet;
+pub use sheet::{LentSheet, Sheet};
 pub use spool::{spool_add, spool_open, spool_sheets, spool_shown, Adding, Opened, Sheets};
-#[cfg(target_os = "linux")]
+#[cfg(all(feature = "std", target_os = "linux"))]
 pub use spool_file::{SpoolError, SpoolFile};
 pub use value::{
     line, line_records, put_value, total, value, value_records, week, week_records, Line, NoWeek,

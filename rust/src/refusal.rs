@@ -1,6 +1,6 @@
 //! Why something was refused.
 
-use std::fmt;
+use core::fmt;
 
 /// Why something was refused, by the number that every interface of the
 /// library gives it.
@@ -86,4 +86,4 @@ impl fmt::Display for Refusal {
     }
 }
 
-impl std::error::Error for Refusal {}
+impl core::error::Error for Refusal {}

@@ -2,7 +2,7 @@
 
 mod ffi;
 
-use std::fmt;
+use core::fmt;
 
 use crate::{Extent, Record, Refusal};
 
@@ -70,7 +70,7 @@ impl fmt::Display for NoWeek {
     }
 }
 
-impl std::error::Error for NoWeek {}
+impl core::error::Error for NoWeek {}
 
 /// A node's value.
 ///

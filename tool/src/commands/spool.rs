@@ -1,0 +1,173 @@
+//! Sheets in a spool file: added, listed, taken out and checked.
+
+use std::ffi::{OsStr, OsString};
+use std::fs;
+use std::path::Path;
+
+use etglavino::{Form, OwnedSheet, Refusal, SpoolFile};
+
+use super::convert::deliver;
+use crate::args::{Command, Flag, Given, FROM, OUTPUT, THREADS};
+use crate::problem::{usage, Problem};
+use crate::{files, many};
+
+/// Octets of a spool file that is made, where nothing else is said.
+const SIZE: usize = 1 << 20;
+/// Columns of a sheet's text in a list.
+const COLUMNS: usize = 60;
+
+pub const ADD: Command = Command {
+    name: "spool add",
+    takes: "SPOOL FILE...",
+    plain: (2, usize::MAX),
+    about: "add sheets to a spool file, which is made where it is missing",
+    details: "\
+If a file is refused, or there is no room for one (6), none is added; a larger --size
+makes room. When the command is done the sheets are on the disk; after a power cut
+the spool has the old sheets, or those and the first of the new ones.",
+    flags: &[
+        FROM,
+        Flag {
+            name: "--size",
+            value: Some("N"),
+            about: "octets that the spool file has at least (1048576 for a new one)",
+        },
+    ],
+    run: add,
+};
+
+pub const LIST: Command = Command {
+    name: "spool list",
+    takes: "SPOOL",
+    plain: (1, 1),
+    about: "print the sheets of a spool file: number, octets, beginning",
+    details: "",
+    flags: &[],
+    run: list,
+};
+
+pub const GET: Command = Command {
+    name: "spool get",
+    takes: "SPOOL N",
+    plain: (2, 2),
+    about: "write a sheet of a spool file, by its number from 0",
+    details: "",
+    flags: &[
+        Flag {
+            name: "--to",
+            value: Some("FORM"),
+            about: "the form of what is written: canonical, basic or advanced (the default)",
+        },
+        OUTPUT,
+    ],
+    run: get,
+};
+
+pub const CHECK: Command = Command {
+    name: "spool check",
+    takes: "SPOOL...",
+    plain: (1, usize::MAX),
+    about: "say which spool files are damaged",
+    details: "Nothing is said of good ones.",
+    flags: &[THREADS],
+    run: check,
+};
+
+fn add(given: &Given) -> Result<(), Problem> {
+    let size = given.count("--size")?;
+    let (path, new) = (&given.plain[0], &given.plain[1..]);
+    let sheets: Result<Vec<_>, _> = new
+        .iter()
+        .map(|file| Ok(files::take(given, Some(file))?.sheet))
+        .collect();
+    let (sheets, name) = (sheets?, path.to_string_lossy());
+    let failed = |error| Problem::spool(&name, error);
+    let mut spool = match Path::new(path).exists() {
+        true => SpoolFile::open(path).map_err(failed)?,
+        false => SpoolFile::create(path, size.unwrap_or(SIZE)).map_err(failed)?,
+    };
+    spool.grow(size.unwrap_or(0)).map_err(failed)?;
+    rehearsed(spool.area(), new, &sheets).map_err(|(file, refusal)| {
+        let adding = format!("{name}, adding {}", files::name(Some(file)));
+        Problem::Refused(adding, refusal)
+    })?;
+    sheets
+        .iter()
+        .try_for_each(|sheet| spool.add(sheet.canonical()).map_err(failed))
+}
+
+/// Adds all sheets to a copy of the area: none is added to the file if one of
+/// them is refused.
+fn rehearsed<'a>(
+    area: &[u8],
+    files: &'a [OsString],
+    sheets: &[OwnedSheet],
+) -> Result<(), (&'a OsString, Refusal)> {
+    let mut copy = area.to_vec();
+    for (file, sheet) in files.iter().zip(sheets) {
+        let octets = sheet.canonical();
+        etglavino::spool_add(&mut copy, octets, octets.len()).map_err(|why| (file, why))?;
+    }
+    Ok(())
+}
+
+/// The octets of a spool file. No lock is taken: whoever reads from the front
+/// while a sheet is added sees the old sheets, or those and the new one.
+fn area(path: &OsStr) -> Result<Vec<u8>, Problem> {
+    fs::read(path).map_err(|error| Problem::File(files::name(Some(path)), error))
+}
+
+/// What opening an area gives, or why not.
+fn opened<'a>(path: &OsStr, area: &'a [u8]) -> Result<etglavino::Sheets<'a>, Problem> {
+    let name = path.to_string_lossy();
+    etglavino::spool_sheets(area).map_err(|refusal| Problem::Refused(name.into(), refusal))
+}
+
+fn list(given: &Given) -> Result<(), Problem> {
+    let path = &given.plain[0];
+    let area = area(path)?;
+    let mut out = String::new();
+    for (number, sheet) in opened(path, &area)?.enumerate() {
+        let text = String::from_utf8_lossy(&text(path, sheet, Form::Advanced)?).into_owned();
+        let text = text.trim_end();
+        let beginning = match text.get(..COLUMNS) {
+            Some(beginning) if text.len() > COLUMNS => format!("{beginning}..."),
+            _ => text.into(),
+        };
+        out += &format!("{number:>4}  {:>5}  {beginning}\n", sheet.len());
+    }
+    files::put(out.as_bytes())
+}
+
+fn get(given: &Given) -> Result<(), Problem> {
+    let path = &given.plain[0];
+    let shown = given.plain[1].to_string_lossy();
+    let form = given.form("--to", Form::Advanced)?;
+    let Ok(number) = shown.parse::<usize>() else {
+        return usage(format!("spool get: {shown} is no number"));
+    };
+    let area = area(path)?;
+    let mut sheets = opened(path, &area)?;
+    let count = sheets.len();
+    match sheets.nth(number) {
+        Some(sheet) => deliver(given, &text(path, sheet, form)?),
+        None => usage(format!(
+            "{}: there is no sheet {shown}, there are {count} from 0",
+            path.to_string_lossy()
+        )),
+    }
+}
+
+fn check(given: &Given) -> Result<(), Problem> {
+    many::each(&given.plain, given.count("--threads")?, |path| {
+        opened(path, &area(path)?).map(drop)
+    })
+}
+
+/// A spooled sheet as a text.
+fn text(path: &OsStr, sheet: &[u8], form: Form) -> Result<Vec<u8>, Problem> {
+    let name = path.to_string_lossy();
+    let sheet = OwnedSheet::of_text(Form::Canonical, sheet);
+    let sheet = sheet.map_err(|refusal| Problem::Refused(name.clone().into(), refusal))?;
+    files::text(&name, &sheet, form)
+}

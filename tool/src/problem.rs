@@ -1,0 +1,72 @@
+//! What goes wrong: how it is said, and with which exit status.
+
+use std::fmt;
+use std::io::{self, ErrorKind, Write};
+
+use etglavino::{Refusal, SpoolError};
+
+/// Why a command did not do what it was asked for.
+#[derive(Debug)]
+pub enum Problem {
+    /// Wrong use, with what is wrong about it.
+    Usage(String),
+    /// A file, by its name, that can't be read or written.
+    File(String, io::Error),
+    /// Standard output can't be written.
+    Output(io::Error),
+    /// The library refused something, by its name.
+    Refused(String, Refusal),
+    /// All has been told already, and this is the status.
+    Told(u8),
+}
+
+impl Problem {
+    /// 1 for a refusal, 2 for wrong use and files.
+    pub fn status(&self) -> u8 {
+        match self {
+            Problem::Refused(..) => 1,
+            Problem::Told(status) => *status,
+            Problem::Usage(_) | Problem::File(..) | Problem::Output(_) => 2,
+        }
+    }
+
+    /// Says it on standard error. Who closes the pipe knows that it is closed.
+    pub fn tell(&self) {
+        match self {
+            Problem::Told(_) => (),
+            Problem::Output(error) if error.kind() == ErrorKind::BrokenPipe => (),
+            _ => say(&format!("etglavino: {self}")),
+        }
+    }
+
+    /// A problem with a spool file.
+    pub fn spool(name: &str, error: SpoolError) -> Problem {
+        match error {
+            SpoolError::Refused(refusal) => Problem::Refused(name.into(), refusal),
+            SpoolError::File(error) => Problem::File(name.into(), error),
+            SpoolError::InUse => Problem::File(name.into(), io::Error::other("it is in use")),
+        }
+    }
+}
+
+impl fmt::Display for Problem {
+    fn fmt(&self, f: &mut fmt::Formatter<'_>) -> fmt::Result {
+        match self {
+            Problem::Usage(what) => write!(f, "{what}"),
+            Problem::File(name, error) => write!(f, "{name}: {error}"),
+            Problem::Output(error) => write!(f, "standard output: {error}"),
+            Problem::Refused(name, refusal) => write!(f, "{name}: {refusal}"),
+            Problem::Told(status) => write!(f, "status {status}"),
+        }
+    }
+}
+
+/// A line on standard error, if anybody listens there.
+pub fn say(line: &str) {
+    let _ = writeln!(io::stderr(), "{line}");
+}
+
+/// Wrong use.
+pub fn usage<T>(what: impl Into<String>) -> Result<T, Problem> {
+    Err(Problem::Usage(what.into()))
+}
