@@ -12,6 +12,7 @@ pub mod Lent
 pub mod Space
 pub mod Stray
 pub mod Escapes
+pub mod Larger
 pub mod Typed
 pub mod Lined
 pub mod Extracts
