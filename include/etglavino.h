@@ -28,26 +28,26 @@
  *
  * Stack that a call takes at most, in octets (x86-64), besides what the C
  * library's memset and memcpy take:
- *   etg_read                  84,896
- *   etg_read_records          84,112
- *   etg_write                 33,552
- *   etg_replace               84,672
- *   etg_replace_records       84,464
- *   etg_same                     864
- *   etg_hint                  33,584
- *   etg_hint_records          33,616
- *   etg_data                  33,584
- *   etg_data_records          33,616
- *   etg_spool_open               864
- *   etg_spool_add_start          928
- *   etg_spool_add_step            32
+ *   etg_read                 120,744
+ *   etg_read_records         119,960
+ *   etg_write                 35,096
+ *   etg_replace              120,520
+ *   etg_replace_records      120,312
+ *   etg_same                   2,456
+ *   etg_hint                  67,896
+ *   etg_hint_records          67,816
+ *   etg_data                  67,896
+ *   etg_data_records          67,816
+ *   etg_spool_open             2,408
+ *   etg_spool_add_start        2,472
+ *   etg_spool_add_step            40
  *   etg_spool_add_commits          8
- *   etg_spool_add                944
- *   etg_value                 33,536
- *   etg_value_records         33,504
+ *   etg_spool_add              2,488
+ *   etg_value                 67,848
+ *   etg_value_records         67,816
  *   etg_put_value                 16
- *   etg_line                  33,536
- *   etg_line_records          33,504
+ *   etg_line                  67,848
+ *   etg_line_records          67,816
  *   etg_total                     72
  *   etg_week                  33,536
  *   etg_week_records          33,520
@@ -56,11 +56,16 @@
  *   etg_extract_records      100,704
  *   etg_extract_own_records  100,704
  *   etg_split                    184
+ *   etg_week                  67,848
+ *   etg_week_records          67,832
+ *   etg_extract              136,568
+ *   etg_extract_own          136,568
+ *   etg_extract_records      136,552
+ *   etg_extract_own_records  136,552
  *
  * Refusals. Every function but those that find a hint or data, that split a
  * run of sheets, or that go on with an addition to a spool, returns one of
- * these numbers. In a refusal the
- * values given out are 0, but for `*bad` of etg_week with 12 and for the state
+ * these numbers. In a refusal the values given out are 0, but for `*bad` of etg_week with 12 and for the state
  * of a refused start, and every lent buffer holds what it held.
  */
 #ifndef ETGLAVINO_H
@@ -84,8 +89,8 @@ enum {
     ETG_FORM = 1,       /* the form is not 1, 2 or 3 */
     ETG_SOURCE_SIZE = 2, /* the source has over 32,768 octets */
     ETG_SYNTAX = 3,     /* the source is not in the form's language */
-    ETG_DEPTH = 4,      /* lists nest over 32 deep */
-    ETG_NODES = 5,      /* over 4,096 nodes, or more than records are lent */
+    ETG_DEPTH = 4,      /* lists nest over 128 deep */
+    ETG_NODES = 5,      /* more nodes than records are lent */
     ETG_SIZE = 6,       /* the canonical form has over 16,384 octets, or the
                            result more than are lent */
     ETG_NOT_OWN = 7,    /* not the canonical form of one tree that fits, or the
@@ -113,10 +118,11 @@ enum {
 /* The version of this header. */
 #define ETG_VERSION "0.1.0"
 
-/* The most that a source, a canonical form, a table and an output can take. */
+/* The most that a source, a canonical form, a table and an output can take.
+   Nodes have no limit of their own: each takes two octets or more. */
 #define ETG_MOST_SOURCE 32768
 #define ETG_MOST_CANONICAL 16384
-#define ETG_MOST_NODES 4096
+#define ETG_MOST_NODES 8192
 #define ETG_RECORD 8 /* numbers to a record */
 
 /* A node's record: the eight numbers of a flat table, in the same order. */

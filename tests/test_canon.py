@@ -13,9 +13,9 @@ from pathlib import Path
 CANON = Path(__file__).parent.parent / "target" / "bin" / "canon"
 OCTETS = bytes(range(256))
 
-# 01: source at most 32,768 octets; lists nest at most 32 deep; the program's table has 2,048 records;
+# 01: source at most 32,768 octets; lists nest at most 128 deep (02); the program's table has 2,048 records;
 # the canonical form has at most 16,384 octets.
-SOURCE, DEPTH, RECORDS, CANONICAL = 32768, 32, 2048, 16384
+SOURCE, DEPTH, RECORDS, CANONICAL = 32768, 128, 2048, 16384
 
 
 def output(stdin) -> bytes:

@@ -137,6 +137,11 @@ fn mixed() -> Vec<u8> {
     }
 }
 
+/// A list of that many empty strings, canonical: as many nodes as octets can hold.
+fn empties(count: usize) -> Vec<u8> {
+    format!("({})", "0:".repeat(count)).into_bytes()
+}
+
 /// Texts in each form and of each kind of string.
 pub fn texts() -> Vec<Text> {
     let tokens = list(token, as_it_is);
@@ -159,6 +164,8 @@ pub fn texts() -> Vec<Text> {
         full("one quoted", 3, single(words, quoted)),
         full("one hexadecimal", 3, single(binary, hexadecimal)),
         full("one base-64", 3, single(binary, base_64)),
+        full("8,192 nodes", 1, empties(MAX_NODES - 1)),
+        full("1,000 nodes", 1, empties(999)),
         short("short, canonical", 1, canonical_of(SHORT)),
         short("short, advanced", 3, SHORT.to_vec()),
     ]
@@ -188,7 +195,7 @@ fn short(name: &'static str, form: u32, source: Vec<u8>) -> Text {
 
 /// The canonical octets of an advanced text that fits, by the reference program.
 pub fn canonical_of(text: &[u8]) -> Vec<u8> {
-    let (mut canonical, mut table) = (vec![0; MAX_CANONICAL], vec![0; 4_096 * 8]);
+    let (mut canonical, mut table) = (vec![0; MAX_CANONICAL], vec![0; MAX_NODES * 8]);
     match entries::read(3, text, &mut canonical, &mut table) {
         Reading::Accepted { length, .. } => canonical[..length].to_vec(),
         Reading::Refused(number) => panic!("refused {number}"),

@@ -136,25 +136,26 @@ fn not_starred() {
 fn lists_in_lists() {
     let nested = |depth| [vec![b'('; depth], vec![b')'; depth]].concat();
     let mut records = Vec::new();
-    for level in 0..32 {
-        let end = 64 - level;
-        records.push([2, level, end, 32 - level, 0, 0, level + 1, end - 1]);
+    for level in 0..128 {
+        let end = 256 - level;
+        records.push([2, level, end, 128 - level, 0, 0, level + 1, end - 1]);
     }
-    accepted(3, &nested(32), &nested(32), &records);
-    refused(3, &nested(33), Refusal::Depth);
-    refused(3, &[b'('; 33], Refusal::Syntax);
+    accepted(3, &nested(128), &nested(128), &records);
+    refused(3, &nested(129), Refusal::Depth);
+    refused(3, &[b'('; 129], Refusal::Syntax);
 }
 
 #[test]
 fn empty_strings() {
     let empties = |count| format!("({})", "0:".repeat(count)).into_bytes();
-    let mut records = vec![[2, 0, 8_192, 4_096, 0, 0, 1, 8_191]];
-    for string in 0..4_095 {
+    let mut records = vec![[2, 0, 16_384, 8_192, 0, 0, 1, 16_383]];
+    for string in 0..8_191 {
         let start = 1 + 2 * string;
         records.push([0, start, start + 2, 1, 0, 0, start + 2, start + 2]);
     }
-    accepted(3, &empties(4_095), &empties(4_095), &records);
-    refused(3, &empties(4_096), Refusal::Nodes);
+    accepted(3, &empties(8_191), &empties(8_191), &records);
+    // Two octets too many, in records enough.
+    refused(3, &empties(8_192), Refusal::Size);
 }
 
 #[test]

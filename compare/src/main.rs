@@ -1,13 +1,14 @@
-//! `compare SEED COUNT`: the fixed cases and COUNT random ones of the seed, each
-//! answered by the library and by the reference program; then extracts, about as
-//! many random ones again; then spools; then runs of sheets and pairs of
-//! corrections in either order, a tenth as many each; then the fixed sheets of
-//! values and hours, and a tenth as many random ones, node by node. Answers and
-//! all lent buffers must be the same. Of what differs the first five of each part are
-//! shown, the rest counted; the exit status is 1 where anything does.
+//! `compare SEED COUNT`: the fixed cases, COUNT random ones of the seed and the
+//! largest sheets, each answered by the library and by the reference program; then
+//! extracts, about as many random ones again; then spools; then runs of sheets and
+//! pairs of corrections in either order, a tenth as many each; then the fixed
+//! sheets of values and hours, and a tenth as many random ones, node by node.
+//! Answers and all lent buffers must be the same. Of what differs the first five of
+//! each part are shown, the rest counted; the exit status is 1 where anything does.
 
 mod clerks;
 mod extract;
+mod larger;
 mod library;
 mod runs;
 mod spool;
@@ -40,7 +41,7 @@ fn main() -> ExitCode {
 fn compare(seed: u64, count: u64) -> ExitCode {
     let mut tally: BTreeMap<(&'static str, u32), u64> = BTreeMap::new();
     let mut differences = 0;
-    for (number, case) in (0..).zip(cases(seed, count)) {
+    for (number, case) in (0..).zip(cases(seed, count).chain(larger::cases())) {
         let expected = run(&case);
         *tally.entry((case.name(), expected.answer)).or_default() += 1;
         for (way, answered) in library::answers(&case) {

@@ -14,9 +14,10 @@ MAX_SOURCE = 32_768
 """Most octets of a source."""
 MAX_CANONICAL = 16_384
 """Most octets of a canonical form."""
-MAX_NODES = 4_096
-"""Most nodes of a tree."""
-MAX_DEPTH = 32
+MAX_NODES = MAX_CANONICAL // 2
+"""Most nodes that a sheet can have, since each takes two octets or more; there is
+no limit of its own."""
+MAX_DEPTH = 128
 """How deep lists may nest; an outermost list is 1."""
 RECORD = 8
 """Numbers to a node."""
@@ -47,8 +48,8 @@ class Refusal(Exception):
         1: "the form is not 1, 2 or 3",
         2: "the source has over 32,768 octets",
         3: "the source is not in the form's language",
-        4: "lists nest over 32 deep",
-        5: "over 4,096 nodes",
+        4: "lists nest over 128 deep",
+        5: "over 8,192 nodes, more than the octets of a sheet hold",
         6: "over 16,384 canonical octets, or over the room that there is",
         7: "not one tree's canonical form with its own table, or a place outside what is lent",
         8: "there is no node of that number",
@@ -152,7 +153,7 @@ def _room(octets: int, least: int = 0, numbers: int = 0) -> tuple[Any, Any]:
     """Room for any tree that fits and takes at most so many octets, two of which
     make a node at most, and for what is there already."""
     fitting = min(octets, MAX_CANONICAL)
-    records = min(fitting // 2, MAX_NODES)
+    records = fitting // 2
     return (
         ctypes.create_string_buffer(max(fitting, least)),
         (ctypes.c_uint32 * max(RECORD * records, numbers))(),

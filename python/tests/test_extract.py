@@ -28,7 +28,7 @@ class Extract(unittest.TestCase):
                 self.assertEqual(left.nodes, read(1, shown).nodes)
 
     def test_refusals(self) -> None:
-        for bad in (b"", b"abc", b"()()", nested(33), empties(4_096), verbatim(16_379)):
+        for bad in (b"", b"abc", b"()()", nested(129), empties(8_192), verbatim(16_379)):
             with self.assertRaises(Refusal) as caught:
                 extract(bad)
             self.assertEqual(caught.exception.number, 7)

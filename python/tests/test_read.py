@@ -49,26 +49,26 @@ class Read(unittest.TestCase):
         self.refused(3, Form.BASIC, b"{K}")
 
     def test_each_limit_and_one_past_it(self) -> None:
-        for most in (nested(32), empties(4_095), verbatim(16_378)):
+        for most in (nested(128), empties(8_191), verbatim(16_378)):
             self.assertEqual(read(1, most).canonical, most)
-        self.refused(4, 1, nested(33))
-        self.refused(5, 1, empties(4_096))
+        self.refused(4, 1, nested(129))
+        self.refused(5, 1, empties(8_192))
         self.refused(6, 1, verbatim(16_379))
         self.assertEqual(read(3, LIST.ljust(MAX_SOURCE)).canonical, LIST)
         self.refused(2, 3, LIST.ljust(MAX_SOURCE + 1))
         # The shortest source of each octet and node that come of it.
         self.assertEqual(read(3, b"a").canonical, b"1:a")
-        self.assertEqual(len(read(3, b"(" + b"()" * 4_095 + b")").nodes), 4_096)
+        self.assertEqual(len(read(3, b"(" + b"()" * 8_191 + b")").nodes), 8_192)
 
     def test_the_first_refusal_that_applies(self) -> None:
         for form in (0, 4, -1, 2**32 + 1, 2**64 + 3):
             self.refused(1, form, b")" * (MAX_SOURCE + 1))
         self.refused(2, 1, b")" * (MAX_SOURCE + 1))
-        self.refused(3, 1, b"(" * 33)
-        self.refused(3, 1, empties(4_096)[:-1])
+        self.refused(3, 1, b"(" * 129)
+        self.refused(3, 1, empties(8_192)[:-1])
         self.refused(3, 1, b"(" + verbatim(16_379))
-        self.refused(4, 1, b"(" + nested(33) + b"0:" * 4_096 + b")")
-        self.refused(5, 1, b"(" + verbatim(16_379) + b"0:" * 4_096 + b")")
+        self.refused(4, 1, b"(" + nested(129) + b"0:" * 8_192 + b")")
+        self.refused(5, 1, b"(" + verbatim(15_000) + b"0:" * 8_192 + b")")
 
     def test_what_octets_are(self) -> None:
         for source in (bytearray(b"()"), memoryview(b"()"), memoryview(b"( ) ")[::2]):

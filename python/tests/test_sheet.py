@@ -47,7 +47,7 @@ class Write(Case):
     def test_refusals(self) -> None:
         for form in (0, 4, -1, 2**32 + 1):
             self.refused(1, write, form, b"abc")
-        for bad in (b"", b"abc", b"()()", nested(33), empties(4_096), verbatim(16_379)):
+        for bad in (b"", b"abc", b"()()", nested(129), empties(8_192), verbatim(16_379)):
             for form in Form:
                 self.refused(7, write, form, bad)
 
@@ -66,8 +66,8 @@ class Replace(Case):
         self.assertEqual((sheet.canonical, sheet.nodes), (LIST, LIST_NODES))
 
     def test_growing_and_shrinking(self) -> None:
-        sheet = read(1, LIST).replace(1, empties(4_093), 1)
-        self.assertEqual(len(sheet.nodes), 4_096)
+        sheet = read(1, LIST).replace(1, empties(8_186), 1)
+        self.assertEqual(len(sheet.nodes), 8_189)
         self.assertEqual(sheet.replace(1, b"3:abc", 1).nodes, LIST_NODES)
         self.assertEqual(read(1, LIST).replace(2, b"{KCk=}", 0).canonical, b"()")
         # What a text grows by, in octets and in nodes.
@@ -85,8 +85,9 @@ class Replace(Case):
         self.refused(3, sheet.replace, 1, b"hi", 1)
         for node in (3, -1, 2**64, 2**64 + 1, -(2**64) + 1):
             self.refused(8, sheet.replace, 3, b"hi", node)
-        self.refused(4, sheet.replace, 1, nested(32), 1)
-        self.refused(5, sheet.replace, 1, empties(4_094), 1)
+        self.refused(4, sheet.replace, 1, nested(128), 1)
+        self.refused(5, sheet.replace, 1, empties(8_192), 1)
+        self.refused(6, sheet.replace, 1, empties(8_187), 1)
         self.refused(6, sheet.replace, 1, verbatim(16_370), 1)
 
     def test_a_sheet_that_is_not_its_own(self) -> None:
@@ -124,7 +125,7 @@ class Same(Case):
         self.assertIs(read(1, b"1:a").same(read(1, b"[0:]1:a")), True)
 
     def test_refusals(self) -> None:
-        for bad in (b"", b"abc", nested(33), empties(4_096), verbatim(16_379)):
+        for bad in (b"", b"abc", nested(129), empties(8_192), verbatim(16_379)):
             self.refused(7, same, bad, LIST)
             self.refused(7, same, LIST, bad)
 

@@ -204,7 +204,7 @@ pub(crate) fn placed(tree: &Tree, room: usize, records: usize) -> Result<Layout,
         return Err(TOO_DEEP);
     }
     let layout = tree.layout();
-    if layout.records.len() > MAX_NODES.min(records) {
+    if layout.records.len() > records {
         return Err(TOO_MANY_NODES);
     }
     if layout.octets.len() > MAX_CANONICAL.min(room) {
@@ -218,7 +218,7 @@ pub(crate) fn placed(tree: &Tree, room: usize, records: usize) -> Result<Layout,
 pub(crate) fn tree_of_canonical(canonical: &[u8], length: usize) -> Result<Tree, u32> {
     let octets = canonical.get(..length).ok_or(NOT_OWN)?;
     let tree = canonical::parse(octets).ok_or(NOT_OWN)?;
-    placed(&tree, MAX_CANONICAL, MAX_NODES).map_err(|_| NOT_OWN)?;
+    placed(&tree, MAX_CANONICAL, usize::MAX).map_err(|_| NOT_OWN)?;
     Ok(tree)
 }
 

@@ -3,11 +3,12 @@
 /// Most octets of a source or of a replacement text.
 pub const MAX_SOURCE: usize = 32_768;
 /// Deepest nesting of lists; an outermost list has depth 1.
-pub const MAX_DEPTH: usize = 32;
-/// Most nodes of a tree.
-pub const MAX_NODES: usize = 4_096;
+pub const MAX_DEPTH: usize = 128;
 /// Most octets of a canonical form.
 pub const MAX_CANONICAL: usize = 16_384;
+/// Nodes that so many octets hold at most, since each takes two or more. It is
+/// no limit, and only sizes buffers and cases.
+pub const MAX_NODES: usize = MAX_CANONICAL / 2;
 
 /// Numbers in one record of a node table.
 pub const RECORD: usize = 8;
@@ -29,7 +30,7 @@ pub const SOURCE_TOO_LONG: u32 = 2;
 pub const NOT_IN_LANGUAGE: u32 = 3;
 /// Refusal: lists nest deeper than [`MAX_DEPTH`].
 pub const TOO_DEEP: u32 = 4;
-/// Refusal: more nodes than [`MAX_NODES`] or than the records lent.
+/// Refusal: more nodes than records lent.
 pub const TOO_MANY_NODES: u32 = 5;
 /// Refusal: more octets than [`MAX_CANONICAL`] or than the room lent.
 pub const TOO_LARGE: u32 = 6;

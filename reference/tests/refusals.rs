@@ -21,16 +21,16 @@ fn reading_goes_1_to_6() {
     assert_eq!(canonical(9, &long), Err(1));
     assert_eq!(canonical(3, &long), Err(2));
     // 3 before 4, 5 and 6, however late the fault shows.
-    assert_eq!(canonical(3, &[b'('; 33]), Err(3));
-    assert_eq!(canonical(1, &[&empties(5_000)[..], b"?"].concat()), Err(3));
+    assert_eq!(canonical(3, &[b'('; 129]), Err(3));
+    assert_eq!(canonical(1, &[&empties(9_000)[..], b"?"].concat()), Err(3));
     assert_eq!(
         canonical(1, &[&verbatim(b'n', 20_000)[..], b"?"].concat()),
         Err(3)
     );
     assert_eq!(read_into(3, b"?", 0, 0), Err(3));
     // 4 before 5 and 6.
-    assert_eq!(read_into(3, &nested(33), 0, 0), Err(4));
-    let all = [&[b'('; 33][..], &b"0:".repeat(9_000), &[b')'; 33]].concat();
+    assert_eq!(read_into(3, &nested(129), 0, 0), Err(4));
+    let all = [&[b'('; 129][..], &b"0:".repeat(9_000), &[b')'; 129]].concat();
     assert_eq!(canonical(1, &all), Err(4));
     // 5 before 6.
     assert_eq!(canonical(1, &empties(8_200)), Err(5));
@@ -53,8 +53,11 @@ fn reading_into_exact_room() {
     );
     assert_eq!(read_into(3, b"a", 3, 7), Err(5));
     assert_eq!(read_into(3, b"a", 2, 8), Err(6));
-    // The limits hold however much is lent.
-    assert_eq!(read_into(1, &empties(4_096), 99_999, 99_999), Err(5));
+    // The limits hold however much is lent, and nodes have none but the records.
+    assert_eq!(read_into(1, &empties(8_192), 99_999, 8_192 * 8), Err(5));
+    assert_eq!(read_into(1, &empties(8_192), 99_999, 8_193 * 8), Err(6));
+    assert_eq!(read_into(1, &empties(8_191), 16_384, 8_192 * 8 - 1), Err(5));
+    assert!(read_into(1, &empties(8_191), 16_384, 8_192 * 8).is_ok());
     assert_eq!(
         read_into(1, &verbatim(b'n', 16_379), 99_999, 99_999),
         Err(6)
@@ -102,10 +105,10 @@ fn writing_takes_one_fitting_canonical_form() {
     ] {
         assert_eq!(write(1, octets, octets.len(), 100), Err(7));
     }
-    assert_eq!(write(1, &nested(32), 64, 100), Ok(64));
-    assert_eq!(write(1, &nested(33), 66, 100), Err(7));
-    assert_eq!(write(1, &empties(4_095), 8_192, 9_000), Ok(8_192));
-    assert_eq!(write(1, &empties(4_096), 8_194, 9_000), Err(7));
+    assert_eq!(write(1, &nested(128), 256, 300), Ok(256));
+    assert_eq!(write(1, &nested(129), 258, 300), Err(7));
+    assert_eq!(write(1, &empties(8_191), 16_384, 17_000), Ok(16_384));
+    assert_eq!(write(1, &empties(8_192), 16_386, 17_000), Err(7));
     assert_eq!(write(1, &verbatim(0, 16_378), 16_384, 16_384), Ok(16_384));
     assert_eq!(write(1, &verbatim(0, 16_379), 16_385, 20_000), Err(7));
 }
@@ -123,17 +126,17 @@ fn replacing_goes_1_2_3_7_8_4_5_6() {
     assert_eq!(foreign().refusal(9, &long, 3), 1);
     assert_eq!(foreign().refusal(3, &long, 3), 2);
     assert_eq!(foreign().refusal(3, b"?", 3), 3);
-    assert_eq!(foreign().refusal(3, &nested(33), 3), 7);
+    assert_eq!(foreign().refusal(3, &nested(129), 3), 7);
     assert_eq!(own().refusal(3, b"?", 3), 3);
-    assert_eq!(own().refusal(3, &nested(33), 3), 8);
-    assert_eq!(exact().refusal(3, &nested(33), 3), 8);
-    // 32 lists at node 1 are the 33rd with the one around.
-    assert_eq!(exact().refusal(3, &nested(32), 1), 4);
-    assert_eq!(exact().refusal(3, &nested(31), 1), 5);
+    assert_eq!(own().refusal(3, &nested(129), 3), 8);
+    assert_eq!(exact().refusal(3, &nested(129), 3), 8);
+    // 128 lists at node 1 are 129 with the one around.
+    assert_eq!(exact().refusal(3, &nested(128), 1), 4);
+    assert_eq!(exact().refusal(3, &nested(127), 1), 5);
     assert_eq!(exact().refusal(3, b"(a b c d e f)", 1), 5);
     assert_eq!(exact().refusal(3, b"abcdef", 1), 6);
     // A text over a limit alone says nothing while 7 and 8 apply.
-    assert_eq!(foreign().refusal(1, &empties(5_000), 0), 7);
+    assert_eq!(foreign().refusal(1, &empties(10_000), 0), 7);
     assert_eq!(own().refusal(1, &verbatim(b'n', 20_000), 3), 8);
 }
 
@@ -146,7 +149,7 @@ fn comparing_refuses_with_7_only() {
         (LIST, usize::MAX),
         (b"a", 1),
         (b"", 0),
-        (&nested(33), 66),
+        (&nested(129), 258),
     ];
     for (octets, length) in bad {
         assert_eq!(entries::same(octets, length, LIST, 14, b""), refused);

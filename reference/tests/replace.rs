@@ -161,7 +161,7 @@ fn room_for_the_corrected_tree_and_no_more() {
 
 #[test]
 fn the_limits_of_the_corrected_tree() {
-    let wide = || Pair::new(b"(1:a1:b)", 20_000, 40_000);
+    let wide = || Pair::new(b"(1:a1:b)", 20_000, 70_000);
     // Without node 1, five octets and two nodes stay.
     let reading = wide().replace(1, &verbatim(b'm', 16_373), 1);
     assert_eq!(
@@ -172,24 +172,27 @@ fn the_limits_of_the_corrected_tree() {
         }
     );
     assert_eq!(wide().refusal(1, &verbatim(b'm', 16_374), 1), 6);
-    let reading = wide().replace(1, &empties(4_093), 1);
+    let reading = wide().replace(1, &empties(8_188), 1);
     assert_eq!(
         reading,
         Reading::Accepted {
-            length: 8_193,
-            nodes: 4_096
+            length: 16_383,
+            nodes: 8_191
         }
     );
-    assert_eq!(wide().refusal(1, &empties(4_094), 1), 5);
-    let reading = wide().replace(1, &nested(31), 1);
+    assert_eq!(wide().refusal(1, &empties(8_189), 1), 6);
+    let few = || Pair::new(b"(1:a1:b)", 20_000, 8_191 * 8 - 1);
+    assert_eq!(few().refusal(1, &empties(8_188), 1), 5);
+    assert_eq!(few().refusal(1, &empties(8_189), 1), 5);
+    let reading = wide().replace(1, &nested(127), 1);
     assert_eq!(
         reading,
         Reading::Accepted {
-            length: 67,
-            nodes: 33
+            length: 259,
+            nodes: 129
         }
     );
-    assert_eq!(wide().refusal(1, &nested(32), 1), 4);
+    assert_eq!(wide().refusal(1, &nested(128), 1), 4);
     assert_eq!(wide().refusal(1, &nested(16_384), 1), 4);
 }
 
@@ -218,14 +221,14 @@ fn what_is_replaced_makes_room() {
             nodes: 1
         }
     );
-    let mut deep = Pair::roomy(&nested(32));
-    let reading = deep.replace(3, b"( ( ) )", 30);
+    let mut deep = Pair::roomy(&nested(128));
+    let reading = deep.replace(3, b"( ( ) )", 126);
     assert_eq!(
         reading,
         Reading::Accepted {
-            length: 64,
-            nodes: 32
+            length: 256,
+            nodes: 128
         }
     );
-    assert_eq!(Pair::roomy(&nested(32)).refusal(3, b"(())", 31), 4);
+    assert_eq!(Pair::roomy(&nested(128)).refusal(3, b"(())", 127), 4);
 }

@@ -157,24 +157,28 @@ fn the_correction_of_document_01() {
 #[test]
 fn depth() {
     for form in [1, 2, 3] {
-        assert_eq!(canonical(form, &nested(32)), Ok(nested(32)));
-        assert_eq!(canonical(form, &nested(33)), Err(4));
-        assert_eq!(canonical(form, &[b'('; 33]), Err(3));
+        assert_eq!(canonical(form, &nested(127)), Ok(nested(127)));
+        assert_eq!(canonical(form, &nested(128)), Ok(nested(128)));
+        assert_eq!(canonical(form, &nested(129)), Err(4));
+        assert_eq!(canonical(form, &[b'('; 129]), Err(3));
         assert_eq!(canonical(form, &nested(16_384)), Err(4));
         assert_eq!(canonical(form, &vec![b'('; 32_768]), Err(3));
-        assert_eq!(canonical(form, &nested(33)[1..]), Err(3));
+        assert_eq!(canonical(form, &nested(129)[1..]), Err(3));
     }
 }
 
 #[test]
 fn node_count() {
-    let (octets, records) = read(1, &empties(4_095)).unwrap();
-    assert_eq!(octets, empties(4_095));
-    assert_eq!(records.len(), 4_096);
-    assert_eq!(records[0], [2, 0, 8_192, 4_096, 0, 0, 1, 8_191]);
-    assert_eq!(records[4_095], [0, 8_189, 8_191, 1, 0, 0, 8_191, 8_191]);
-    assert_eq!(canonical(1, &empties(4_096)), Err(5));
-    assert_eq!(canonical(1, &empties(4_096)[..8_193]), Err(3));
+    let (octets, records) = read(1, &empties(8_191)).unwrap();
+    assert_eq!(octets, empties(8_191));
+    assert_eq!(records.len(), 8_192);
+    assert_eq!(records[0], [2, 0, 16_384, 8_192, 0, 0, 1, 16_383]);
+    assert_eq!(records[8_191], [0, 16_381, 16_383, 1, 0, 0, 16_383, 16_383]);
+    // 02: 5 in 8,192 records, 6 in more.
+    let over = empties(8_192);
+    assert_eq!(read_into(1, &over, 20_000, 8_192 * 8).unwrap_err(), 5);
+    assert_eq!(read_into(1, &over, 20_000, 8_193 * 8).unwrap_err(), 6);
+    assert_eq!(canonical(1, &over[..16_385]), Err(3));
 }
 
 #[test]

@@ -69,10 +69,11 @@ pub use value::{
 pub const MAX_SOURCE: usize = 32_768;
 /// Most octets of a canonical form.
 pub const MAX_CANONICAL: usize = 16_384;
-/// Most nodes of a tree.
-pub const MAX_NODES: usize = 4_096;
+/// Most nodes that a sheet can have: each takes two octets or more. There is no
+/// limit of its own, so that a table of as many records is enough for any sheet.
+pub const MAX_NODES: usize = MAX_CANONICAL / 2;
 /// How deep lists may nest; an outermost list is 1.
-pub const MAX_DEPTH: usize = 32;
+pub const MAX_DEPTH: usize = 128;
 /// Numbers to a record of the flat table.
 pub const RECORD: usize = 8;
 

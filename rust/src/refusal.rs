@@ -13,9 +13,9 @@ pub enum Refusal {
     SourceSize = 2,
     /// 3: the source is not in the form's language.
     Syntax = 3,
-    /// 4: lists nest over 32 deep.
+    /// 4: lists nest over 128 deep.
     Depth = 4,
-    /// 5: over 4,096 nodes, or more than records are lent.
+    /// 5: more nodes than records are lent.
     Nodes = 5,
     /// 6: over 16,384 canonical octets, or a result over the lent room.
     Size = 6,
@@ -48,8 +48,8 @@ impl Refusal {
             Refusal::Form => "the form is not 1, 2 or 3",
             Refusal::SourceSize => "the source has over 32,768 octets",
             Refusal::Syntax => "the source is not in the form's language",
-            Refusal::Depth => "lists nest over 32 deep",
-            Refusal::Nodes => "over 4,096 nodes, or more than records are lent",
+            Refusal::Depth => "lists nest over 128 deep",
+            Refusal::Nodes => "more nodes than records are lent",
             Refusal::Size => "over 16,384 canonical octets, or a result over the lent room",
             Refusal::NotOwn => {
                 "not one tree's canonical form with its own table, or a place outside what is lent"

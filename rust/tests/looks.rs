@@ -36,7 +36,7 @@ fn the_same_or_not() {
 
 #[test]
 fn sheets_that_cannot_be_compared() {
-    let large = [nested(33), empties(4_096), verbatim(16_379)];
+    let large = [nested(129), empties(8_192), verbatim(16_379)];
     let small = [&b""[..], b"abc", b"()()"];
     for bad in large.iter().map(Vec::as_slice).chain(small) {
         assert_eq!(same(bad, LIST, b""), Err(Refusal::NotOwn));

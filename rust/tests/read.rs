@@ -106,10 +106,13 @@ fn not_in_the_language() {
 
 #[test]
 fn each_limit_and_one_past_it() {
-    assert_eq!(canonical(1, &nested(32)), Ok(nested(32)));
-    assert_eq!(canonical(1, &nested(33)), Err(Refusal::Depth));
-    assert_eq!(canonical(1, &empties(4_095)), Ok(empties(4_095)));
-    assert_eq!(canonical(1, &empties(4_096)), Err(Refusal::Nodes));
+    assert_eq!(canonical(1, &nested(128)), Ok(nested(128)));
+    assert_eq!(canonical(1, &nested(129)), Err(Refusal::Depth));
+    assert_eq!(canonical(1, &empties(8_191)), Ok(empties(8_191)));
+    // Nodes have no limit but the records lent: one over is over in octets too.
+    let over = empties(8_192);
+    assert_eq!(read_in(1, &over, 20_000, 8_192 * 8), Err(Refusal::Nodes));
+    assert_eq!(read_in(1, &over, 20_000, 8_193 * 8), Err(Refusal::Size));
     assert_eq!(canonical(1, &verbatim(16_378)), Ok(verbatim(16_378)));
     assert_eq!(canonical(1, &verbatim(16_379)), Err(Refusal::Size));
     let text = b"(3:abc[1:x]0:)";
@@ -138,13 +141,13 @@ fn the_first_refusal_that_applies() {
         assert_eq!(read(form, &long), Err(Refusal::Form));
     }
     assert_eq!(read(1, &long), Err(Refusal::SourceSize));
-    // 33 opened and none closed; too many nodes, too many octets, no end.
-    assert_eq!(read(1, &[b'('; 33]), Err(Refusal::Syntax));
-    let open = &empties(4_096)[..8_193];
+    // 129 opened and none closed; too many nodes, too many octets, no end.
+    assert_eq!(read(1, &[b'('; 129]), Err(Refusal::Syntax));
+    let open = &empties(8_192)[..16_385];
     assert_eq!(read(1, open), Err(Refusal::Syntax));
     let open = [b"(", &verbatim(16_379)[..]].concat();
     assert_eq!(read(1, &open), Err(Refusal::Syntax));
     // Too deep with too few records; too many nodes with too little room.
-    assert_eq!(read_in(1, &nested(33), 99, 32 * 8), Err(Refusal::Depth));
+    assert_eq!(read_in(1, &nested(129), 99, 128 * 8), Err(Refusal::Depth));
     assert_eq!(read_in(1, LIST, 13, 23), Err(Refusal::Nodes));
 }

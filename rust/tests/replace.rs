@@ -3,7 +3,7 @@
 mod common;
 
 use common::*;
-use etglavino::{Extent, Form, Refusal, MAX_SOURCE};
+use etglavino::{Extent, Form, Refusal, MAX_SOURCE, RECORD};
 
 #[test]
 fn document_01s_correction() {
@@ -103,28 +103,33 @@ fn each_refusal() {
     for node in [3, 4, usize::MAX] {
         assert_eq!(replaced(3, b"hi", node), Err(Refusal::NoNode));
     }
-    // The node is an element of the outermost list, so that 31 lists fit.
+    // The node is an element of the outermost list, so that 127 lists fit.
     let mut sheet = Sheet::of(LIST);
-    assert_eq!(sheet.replace(1, &nested(32), 1), Err(Refusal::Depth));
-    assert!(sheet.replace(1, &nested(31), 1).is_ok());
+    assert_eq!(sheet.replace(1, &nested(128), 1), Err(Refusal::Depth));
+    assert!(sheet.replace(1, &nested(127), 1).is_ok());
 }
 
 #[test]
 fn the_limits_speak_of_the_corrected_tree() {
-    // Two nodes stay, so that 4,094 fit in place of the third.
+    // Nine octets and two nodes stay; 16,374 octets of 8,187 nodes fill it up but
+    // for one octet.
     let mut sheet = Sheet::of(LIST);
-    assert_eq!(sheet.replace(1, &empties(4_094), 1), Err(Refusal::Nodes));
-    assert!(sheet.replace(1, &empties(4_093), 1).is_ok());
-    assert_eq!(sheet.extent.nodes, 4_096);
+    assert_eq!(sheet.replace(1, &empties(8_187), 1), Err(Refusal::Size));
+    assert!(sheet.replace(1, &empties(8_186), 1).is_ok());
+    assert_eq!(sheet.extent.nodes, 8_189);
+    // With a record too few it has too many nodes.
+    let mut sheet = Sheet::of(LIST);
+    sheet.table.truncate(8_188 * RECORD);
+    assert_eq!(sheet.replace(1, &empties(8_186), 1), Err(Refusal::Nodes));
     // Nine octets stay, and five digits and a colon stand before the string's.
     let mut sheet = Sheet::of(LIST);
     assert_eq!(sheet.replace(1, &verbatim(16_370), 1), Err(Refusal::Size));
     assert!(sheet.replace(1, &verbatim(16_369), 1).is_ok());
     assert_eq!(sheet.extent.length, 16_384);
     // Of the tree that node 0 was, nothing counts any more.
-    let mut sheet = Sheet::of(&nested(32));
-    assert_eq!(sheet.replace(1, &nested(33), 0), Err(Refusal::Depth));
-    assert!(sheet.replace(1, &empties(4_095), 0).is_ok());
+    let mut sheet = Sheet::of(&nested(128));
+    assert_eq!(sheet.replace(1, &nested(129), 0), Err(Refusal::Depth));
+    assert!(sheet.replace(1, &empties(8_191), 0).is_ok());
     assert!(sheet.replace(1, &verbatim(16_378), 0).is_ok());
 }
 
@@ -159,8 +164,8 @@ fn the_first_refusal_that_applies() {
     assert_eq!(bad.replace(3, b"(", 9), Err(Refusal::Syntax));
     assert_eq!(bad.replace(3, b"()", 9), Err(Refusal::NotOwn));
     let mut tight = Sheet::exact(LIST, &LIST_TABLE);
-    assert_eq!(tight.replace(1, &nested(32), 9), Err(Refusal::NoNode));
-    assert_eq!(tight.replace(1, &nested(32), 1), Err(Refusal::Depth));
+    assert_eq!(tight.replace(1, &nested(128), 9), Err(Refusal::NoNode));
+    assert_eq!(tight.replace(1, &nested(128), 1), Err(Refusal::Depth));
     assert_eq!(tight.replace(1, b"(4:more)", 1), Err(Refusal::Nodes));
     assert_eq!(tight.replace(1, b"4:more", 1), Err(Refusal::Size));
     assert_eq!(tight, Sheet::exact(LIST, &LIST_TABLE));

@@ -58,14 +58,15 @@ struct Tree {
 }
 
 /// As long as texts are that are taken in the least space, in more, in more yet
-/// and in the most. The last is as large as a tree can be in all respects.
+/// and in the most. The last is as long and as deep as a tree can be; the most
+/// nodes has `empties(8_191)`.
 const TREES: [Tree; 4] = [
     Tree::new(2, 5, 1),
     Tree::new(32, 100, 10),
     Tree::new(32, 1_000, 32),
     FULL,
 ];
-const FULL: Tree = Tree::new(32, 4_032, 32);
+const FULL: Tree = Tree::new(128, 3_984, 32);
 
 impl Tree {
     const fn new(lists: usize, twos: usize, fours: usize) -> Tree {
@@ -279,12 +280,15 @@ fn reading<T: Table>(read: Read<T>) {
         }
     }
     for form in [1, 2, 3] {
-        let (mut lent, text) = (Sheet::<T>::empty(), hinted());
-        let (canonical, table) = (&mut lent.canonical, &mut lent.table);
-        let case = case("read", form, &text);
-        let answer = tight(&case, || read(form, &text, canonical, table));
-        assert_eq!(answer, Ok(FULL.extent()), "{case}");
-        assert!(lent.canonical == text, "{case}");
+        for (text, nodes) in [(hinted(), 4_096), (empties(8_191), 8_192)] {
+            let mut lent = Sheet::<T>::empty();
+            let (canonical, table) = (&mut lent.canonical, &mut lent.table);
+            let case = case("read", form, &text);
+            let answer = tight(&case, || read(form, &text, canonical, table));
+            let length = MAX_CANONICAL;
+            assert_eq!(answer, Ok(Extent { length, nodes }), "{case}");
+            assert!(lent.canonical == text, "{case}");
+        }
     }
     for (form, text, refusal) in bad_texts() {
         let mut lent = Sheet::<T>::empty();
@@ -324,13 +328,13 @@ fn replacing<T: Table>(replace: Replace<T>) {
                 let octets = tree.canonical();
                 assert!(sheet.canonical[..octets.len()] == octets);
             }
-            // The last string is in 32 lists.
+            // The last string is in as many lists as there may be.
             let refused = replaced(replace, &mut full.clone(), (form, &text), last);
             assert_eq!(refused, Err(Refusal::Depth));
             let missing = replaced(replace, &mut full.clone(), (form, &text), last + 1);
             assert_eq!(missing, Err(Refusal::NoNode));
             let mut bad = full.clone();
-            *bad.table.last_mut().expect("a record") = T::other();
+            bad.table[FULL.extent().nodes * T::WIDTH - 1] = T::other();
             let refused = replaced(replace, &mut bad, (form, &text), 0);
             assert_eq!(refused, Err(Refusal::NotOwn));
         }
@@ -341,16 +345,16 @@ fn replacing<T: Table>(replace: Replace<T>) {
             let mut sheet = full.clone();
             let answer = replaced(replace, &mut sheet, (3, &text), last);
             assert_eq!(answer, Ok(FULL.extent()));
-            let end = [&b"4:wxyz"[..], &[b')'; 32]].concat();
+            let end = [&b"4:wxyz"[..], &[b')'; FULL.lists]].concat();
             assert!(sheet.canonical.ends_with(&end));
         }
     }
-    let one_list = Sheet::<T>::of(&Tree::new(1, 4_094, 1).canonical());
+    let one_list = Sheet::<T>::of(&empties(8_191));
     for (text, refusal) in [
         (&b"(ab)"[..], Refusal::Nodes),
         (&verbatim(20_000), Refusal::Size),
     ] {
-        let refused = replaced(replace, &mut one_list.clone(), (3, text), last);
+        let refused = replaced(replace, &mut one_list.clone(), (3, text), 8_191);
         assert_eq!(refused, Err(refusal));
     }
     for (form, text, refusal) in bad_texts() {
@@ -361,19 +365,21 @@ fn replacing<T: Table>(replace: Replace<T>) {
 
 type Look<T> = fn(&[u8], &[T], Extent, usize) -> Option<(usize, usize)>;
 
-/// A list as large as can be in which half of the strings have hints, the last
+/// A list as long as can be in which half of the strings have hints, the last
 /// one too.
 fn hinted() -> Vec<u8> {
     let (plain, hinted) = ("0:".repeat(2_047), "[0:]0:".repeat(2_048));
     format!("({plain}{hinted})").into_bytes()
 }
 
-/// The places of the last node's hint or data in `hinted` and in the full tree;
-/// then the same over tables and sheets that are not good.
+/// The places of the last node's hint or data in `hinted` and in the full tree,
+/// and in the sheet with the most nodes; then the same over tables and sheets that
+/// are not good.
 fn looking<T: Table>(look: Look<T>, in_hinted: (usize, usize), in_full: Option<(usize, usize)>) {
     let sheets = [
         (Sheet::<T>::of(&hinted()), Some(in_hinted)),
         (Sheet::of(&FULL.canonical()), in_full),
+        (Sheet::of(&empties(8_191)), in_full.map(|_| DATA)),
     ];
     for (sheet, expected) in sheets {
         let Sheet {
@@ -397,11 +403,11 @@ fn looking<T: Table>(look: Look<T>, in_hinted: (usize, usize), in_full: Option<(
     }
 }
 
-/// Of the last node of `hinted`.
+/// Of the last node of `hinted`; the data also of `empties(8_191)`.
 const HINT: (usize, usize) = (16_380, 16_380);
 const DATA: (usize, usize) = (16_383, 16_383);
 /// Of the last node of the full tree.
-const FULL_DATA: (usize, usize) = (16_348, 16_352);
+const FULL_DATA: (usize, usize) = (16_252, 16_256);
 
 fn writing() {
     let mut outputs = Vec::new();
@@ -448,7 +454,7 @@ fn writing() {
 fn not_sheets() -> Vec<Vec<u8>> {
     let open = FULL.canonical()[..MAX_CANONICAL - 1].to_vec();
     let deep = [b"(", &FULL.canonical()[..], b")"].concat();
-    vec![open, deep, nested(33), empties(4_096), verbatim(16_379)]
+    vec![open, deep, nested(129), empties(8_192), verbatim(16_379)]
 }
 
 fn comparing() {

@@ -80,7 +80,7 @@ fn sheets_that_are_not_one_fitting_canonical_form() {
             assert_eq!(write(form, octets, 100), Err(Refusal::NotOwn));
         }
     }
-    let large = [nested(33), empties(4_096), verbatim(16_379)];
+    let large = [nested(129), empties(8_192), verbatim(16_379)];
     for octets in &large {
         assert_eq!(write(1, octets, 40_000), Err(Refusal::NotOwn));
     }

@@ -6,7 +6,7 @@
 mod octets;
 mod strings;
 
-use etglavino::{Extent, Refusal, MAX_CANONICAL, MAX_DEPTH, MAX_NODES, MAX_SOURCE, RECORD};
+use etglavino::{Extent, Refusal, MAX_CANONICAL, MAX_DEPTH, MAX_SOURCE, RECORD};
 use octets::is_whitespace;
 
 /// A reader, with the vectors that it works in.
@@ -67,7 +67,7 @@ impl Reader {
         if self.deepest > MAX_DEPTH {
             return Err(Refusal::Depth);
         }
-        if nodes > MAX_NODES.min(table.len() / RECORD) {
+        if nodes > table.len() / RECORD {
             return Err(Refusal::Nodes);
         }
         if length > MAX_CANONICAL.min(canonical.len()) {

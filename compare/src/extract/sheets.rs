@@ -40,7 +40,7 @@ pub fn pairs_at_limits() -> [[Tree; 2]; 2] {
     };
     // Around the string's octets stand (1:a(7:private, its length with a colon, and )).
     let long = Tree::text(&vec![b'x'; MAX_CANONICAL - 22]);
-    let many = vec![Tree::text(b""); 4_000];
+    let many = vec![Tree::text(b""); 8_000];
     [vec![long], many].map(|hidden| [within(Vec::new()), within(hidden)])
 }
 

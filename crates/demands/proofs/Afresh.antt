@@ -70,7 +70,6 @@ module _ (form : ℕ) (text canonical table : List ℕ) (len count node : ℕ) (
       = ap (λ (s : List ℕ). reading 1 s canonical′ table′) corrected-sheet
       ∙ reads-canonical now canonical′ table′ (record {
         shallow = c .room .shallow;
-        few = c .room .few;
         recorded = subst (λ (n : ℕ). nodes now ≤ n / width) (sym k) (c .room .recorded);
         small = c .room .small;
         roomy = omega (arith, c .room .roomy);

@@ -14,6 +14,7 @@ mod OrderExamples
 pub mod Space
 pub mod Stray
 pub mod Escapes
+pub mod Larger
 pub mod Typed
 pub mod Valued
 pub mod Standing

@@ -12,7 +12,7 @@ use Rattle.base.specs.Choice.{either, isNone}
 use Rattle.base.proofs.Cases.{unpicked, neither}
 use Rattle.model.specs.Answers.{Check, verdict, noForm, roomChecks, textChecks}
 use Rattle.model.specs.Decode.{decode}
-use Rattle.model.specs.Limits.{maxSource, maxDepth, maxNodes, maxCanonical}
+use Rattle.model.specs.Limits.{maxSource, maxDepth, maxCanonical}
 use Rattle.model.specs.Table.{records}
 use Rattle.model.specs.Tree.{Tree, canon, nodes, depth}
 use Rattle.demands.specs.Conditions.{Room}
@@ -23,7 +23,7 @@ module _ (t : Tree) (canonical table : List ℕ) where
   unfolding roomChecks
   room-none r =
       past 4 _ _ (le-ltb maxDepth (depth t) (r .shallow))
-      (past 5 _ _ (unpicked _ _ (le-ltb maxNodes (nodes t) (r .few)) ∙ le-ltb (records table) (nodes t) (r .recorded))
+      (past 5 _ _ (le-ltb (records table) (nodes t) (r .recorded))
       (past 6 _ _ (unpicked _ _ (le-ltb maxCanonical (length (canon t)) (r .small)) ∙ le-ltb (length canonical) (length (canon t)) (r .roomy))
       none-applies))
 
@@ -31,11 +31,10 @@ module _ (t : Tree) (canonical table : List ℕ) where
   unfolding roomChecks
   room-of e =
       let a : _ × _ = not-this 4 (ltb maxDepth (depth t)) _ (omega arith) e in
-      let b : _ × _ = not-this 5 (either (ltb maxNodes (nodes t)) (ltb (records table) (nodes t))) _ (omega arith) (a .1) in
+      let b : _ × _ = not-this 5 (ltb (records table) (nodes t)) _ (omega arith) (a .1) in
       let c : _ × _ = not-this 6 (either (ltb maxCanonical (length (canon t))) (ltb (length canonical) (length (canon t)))) _ (omega arith) (b .1) in
-      let g : _ × _ = neither _ _ (b .0) in
       let h : _ × _ = neither _ _ (c .0) in
-      record { shallow = ltb-false _ _ (a .0); few = ltb-false _ _ (g .0); recorded = ltb-false _ _ (g .1); small = ltb-false _ _ (h .0); roomy = ltb-false _ _ (h .1) }
+      record { shallow = ltb-false _ _ (a .0); recorded = ltb-false _ _ (b .0); small = ltb-false _ _ (h .0); roomy = ltb-false _ _ (h .1) }
 
 -- a text that is taken: its tree, and what the checks after it say
 pub record Taken (form : ℕ) (text : List ℕ) (more : List Check) : Type 0 where

@@ -35,9 +35,9 @@ reads-back form c n out canonical table b e h k =
     let t : Tree = w .tree in
     let s : Sheet c n t = sheet-of c n t (w .is) in
     let y : the (sheetTree c n) ≡ t = ap the (w .is) in
-    let f : fits t ≡ true = fitted t (s .fitting .deep) (s .fitting .many) (s .fitting .long) in
+    let f : fits t ≡ true = fitted t (s .fitting .deep) (s .fitting .long) in
     let j : nodes t ≤ records table = subst (λ (u : Tree). nodes u ≤ records table) y k in
     let d : decode form (encode form t) ≡ some t = round-trip form t (w .known) (tree-bytes t (subst Bytes (s .is) b)) in
     ap (λ (x : List ℕ). reading form x canonical table) (text-left form c n out e)
-    ∙ reads form (encode form t) canonical table t (w .known) (written-within-source form t f) d (record { shallow = s .fitting .deep; few = s .fitting .many; recorded = j; small = s .fitting .long; roomy = omega (arith, s .size) })
+    ∙ reads form (encode form t) canonical table t (w .known) (written-within-source form t f) d (record { shallow = s .fitting .deep; recorded = j; small = s .fitting .long; roomy = omega (arith, s .size) })
     ∙ rw (y, s .size, s .is)

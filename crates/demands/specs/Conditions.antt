@@ -9,14 +9,13 @@ use Rattle.model.specs.Answers.{Check, when, noForm, ownTree, Outcome}
 use Rattle.model.specs.Decode.{decode}
 use Rattle.model.specs.Edit.{replace}
 use Rattle.model.specs.Grammar.{Language, rules}
-use Rattle.model.specs.Limits.{maxSource, maxDepth, maxNodes, maxCanonical}
+use Rattle.model.specs.Limits.{maxSource, maxDepth, maxCanonical}
 use Rattle.model.specs.Table.{width, records}
 use Rattle.model.specs.Tree.{Tree, canon, nodes, depth}
 
--- 01, "the limits and the room lent are rows 4 to 6"
+-- 01, "the limits and the room lent are rows 4 to 6"; 02, "Demands 2 and 3 read the new limits"
 pub record Room (t : Tree) (canonical table : List ℕ) : Type 0 where
   pub shallow : depth t ≤ maxDepth
-  pub few : nodes t ≤ maxNodes
   pub recorded : nodes t ≤ records table
   pub small : length (canon t) ≤ maxCanonical
   pub roomy : length (canon t) ≤ length canonical

@@ -4,7 +4,7 @@ use mathlib.Core.Path.{_≡_}
 use mathlib.Core.Bool.{Bool}
 use mathlib.Core.Option.{Option}
 use mathlib.Core.List.{List}
-use Rattle.model.specs.Limits.{maxNodes}
+use Rattle.model.specs.Limits.{mostNodes}
 use Rattle.model.specs.Table.{width, tableOf}
 use Rattle.model.specs.Tree.{Tree}
 use Rattle.model.specs.Answers.{Outcome, settled, replacing}
@@ -16,7 +16,7 @@ use Rattle.plan.specs.Planned.{Lends, replaceTree}
 
 -- notes for every tree of at most `more` nodes beside those of a sheet
 pub record Noteable (count more room : ℕ) : Type 0 where
-  pub enough : min (count + more) maxNodes ≤ room
+  pub enough : min (count + more) mostNodes ≤ room
 
 -- accepted: the notes are a tree's, which has room in n records where `old` were in use, and with its table, and zeros past it, the answer
 -- is the one told
@@ -24,7 +24,7 @@ pub record Giving (Lent : List ℕ → Type 0) (answer : List ℕ → Outcome) (
   pub tree : Tree
   pub held : Holds notes count tree
   pub recorded : (count ≤ n) × (old ≤ n)
-  pub few : (count ≤ maxNodes) × (old ≤ maxNodes)
+  pub few : (count ≤ mostNodes) × (old ≤ mostNodes)
   pub is : (table : List ℕ) → Lent table → outcome (reading.Accepted len count) c (settled table (width * old) (tableOf tree)) ≡ answer table
 
 -- the answer for every table that is spoken of

@@ -13,7 +13,7 @@ use Rattle.base.specs.Choice.{pick, both, not, isNone, chain, equal}
 use Rattle.base.proofs.Cases.{none-some, some-same}
 use Rattle.base.proofs.Stores.{sets-all}
 use Rattle.model.specs.Answers.{Outcome, verdict, judged, the, unchanged, fitting, sheetTree, owns, ownTree, reading}
-use Rattle.model.specs.Limits.{maxCanonical, maxDepth, maxNodes}
+use Rattle.model.specs.Limits.{maxCanonical, maxDepth, mostNodes}
 use Rattle.model.specs.Table.{width, records, tableOf}
 use Rattle.model.specs.Tree.{Tree, plain, hinted, list, canon, nodes}
 use Rattle.walk.specs.declared.Extent.{Extent}
@@ -29,7 +29,7 @@ use Rattle.reader.specs.Stored.{Accepting, Puts}
 use Rattle.reader.proofs.Storing.{puts-refused}
 use Rattle.lookup.specs.Noted as lookup
 use Rattle.lookup.proofs.Noting.{noted-whole}
-use Rattle.lookup.proofs.Sheets.{tree-of, none-of, Sheet, sheet-of, sheet-beyond, sheet-long, sheet-none, sheet-deep, sheet-whole}
+use Rattle.lookup.proofs.Sheets.{tree-of, none-of, Sheet, sheet-of, sheet-beyond, sheet-long, sheet-none, sheet-deep}
 use Rattle.extracts.specs.Extract.{extract}
 use Rattle.extracts.specs.Extracting.{extractOf, extracting, extractingOwn}
 use Rattle.extracts.proofs.Answered.{own-sheet}
@@ -92,19 +92,15 @@ module _ (c : List ℕ) (n : ℕ) (before notes : List ℕ) (r : Extent) (v : No
     pub note-deep : maxDepth < deep → Judges (sheetTree c n) c n notes 0 (ltb 0 0)
     note-deep h = unsheeted c n notes (sheet-deep c n lent r (v .measures) len count deep e h)
 
-    module _ (short : n ≤ maxCanonical) (shallow : deep ≤ maxDepth) where
-      pub note-many : maxNodes < count → Judges (sheetTree c n) c n notes 0 (ltb 0 0)
-      note-many h = unsheeted c n notes (sym (lt-leb count maxNodes h) ∙ sheet-whole c n lent r (v .measures) len count deep e shallow short)
-
-      pub note-whole : count ≤ maxNodes → maxNodes ≤ length before → Judges (sheetTree c n) c n notes count (ltb 0 count)
-      unfolding lookup.Sheeted isNone
-      note-whole few room =
-          let s : lookup.Sheet c n count count notes = noted-whole c n count count before notes r v lent len count deep e short few (omega arith) refl shallow (record { enough = omega arith }) in
-          record {
-            tells = lt-ltb 0 count (omega (arith, counted (s .tree), s .held .counted)) ∙ sym (ap (λ (o : Option Tree). not (isNone o)) (s .is));
-            sheeted = λ t f. f;
-            held = λ t f. subst (Holds notes count) (some-same (λ (u : Tree). s .tree ≡ u) (sym (s .is) ∙ f) refl) (s .held);
-          }
+    pub note-whole : n ≤ maxCanonical → deep ≤ maxDepth → mostNodes ≤ length before → Judges (sheetTree c n) c n notes count (ltb 0 count)
+    unfolding lookup.Sheeted isNone
+    note-whole short shallow room =
+        let s : lookup.Sheet c n count count notes = noted-whole c n count count before notes r v lent len count deep e short (omega arith) refl shallow (record { enough = omega arith }) in
+        record {
+          tells = lt-ltb 0 count (omega (arith, counted (s .tree), s .held .counted)) ∙ sym (ap (λ (o : Option Tree). not (isNone o)) (s .is));
+          sheeted = λ t f. f;
+          held = λ t f. subst (Holds notes count) (some-same (λ (u : Tree). s .tree ≡ u) (sym (s .is) ∙ f) refl) (s .held);
+        }
 
 -- ---- with its table
 

@@ -36,9 +36,6 @@ fn note(sheet: &[u8], octets: usize, notes: &mut [usize; limits::NODES]) -> usiz
             if depth > limits::DEPTH {
                 return 0;
             }
-            if nodes > limits::NODES {
-                return 0;
-            }
             nodes
         }
         Extent::Refused => 0,

@@ -5,13 +5,13 @@
 pub const SOURCE: usize = 32768;
 
 // Lists within each other.
-pub const DEPTH: usize = 32;
-
-// Nodes of a tree.
-pub const NODES: usize = 4096;
+pub const DEPTH: usize = 128;
 
 // Octets of a canonical form.
 pub const CANONICAL: usize = 16384;
+
+// Nodes that so many octets hold at most, each node having two or more: no limit, but what local space is made for.
+pub const NODES: usize = CANONICAL / 2;
 
 // Numbers of a record.
 pub const WIDTH: usize = 8;

@@ -11,12 +11,13 @@ use lib.Dec.{leb}
 use borrow.Author.Tests.{eq-eqb}
 use Rattle.base.specs.Choice.{pick, not, chain, isNone}
 use Rattle.base.proofs.Cases.{by-bool, differ, picked, unpicked, some-same}
-use Rattle.model.specs.Limits.{maxCanonical, maxDepth, maxNodes, maxSource}
+use Rattle.model.specs.Limits.{maxCanonical, maxDepth, mostNodes, maxSource}
 use Rattle.model.specs.Answers.{fits, fitting, sheetTree, owns, ownTree, hintPart, dataPart}
 use Rattle.model.specs.Decode.{decode₁}
 use Rattle.model.specs.Table.{width, numbers, records, rowOf}
 use Rattle.model.specs.Tree.{Tree, canon, nodes, depth}
 use Rattle.model.proofs.Exact.{canon-sound}
+use Rattle.model.proofs.Laws.{small-nodes}
 use Rattle.walk.specs.Extent.{Wholly, Measures}
 use Rattle.walk.specs.declared.Extent.{Extent}
 use Rattle.walk.specs.declared.Extent.the-variants.{Whole, Refused}
@@ -30,7 +31,7 @@ use Rattle.answers.specs.Cases.{placed}
 use Rattle.answers.specs.declared.Place.{Place}
 use Rattle.answers.specs.declared.Place.the-variants.{Part, NoPart}
 use Rattle.lookup.specs.Noted.{Notes, Sheet, Sheeted, Owned, Owning, Readables, Shows}
-use Rattle.lookup.proofs.Sheets.{no-tree, tree-of, none-of, fitted, within, sheet-none, sheet-deep, Own, own-of, own-beyond, own-long, own-many, own-unlent}
+use Rattle.lookup.proofs.Sheets.{no-tree, tree-of, none-of, fitted, within, sheet-none, sheet-deep, Own, own-of, own-beyond, own-long, own-unlent}
 use Rattle.lookup.proofs.Shown.{table-at, hint-unowned, hint-beyond, hint-other, hint-found, data-unowned, data-beyond, data-found}
 
 -- ---- a sheet noted
@@ -45,9 +46,6 @@ module _ (c : List ℕ) (n m k : ℕ) (notes : List ℕ) where
 
   pub unnoted-long : maxCanonical < n → Sheeted c n m k notes false
   unnoted-long h = unsheeted (λ table e. own-long c n table m h)
-
-  pub unnoted-many : maxNodes < m → Sheeted c n m k notes false
-  unnoted-many h = unsheeted (λ table e. own-many c n table m h)
 
   pub unnoted-unlent : k < m → Sheeted c n m k notes false
   unnoted-unlent h = unsheeted (λ table e. own-unlent c n table m (omega (arith, e)))
@@ -80,12 +78,13 @@ module _ (c : List ℕ) (n m k : ℕ) (before after : List ℕ) (r : Extent) (v 
     pub unnoted-deep : maxDepth < deep → Sheeted c n m k after false
     unnoted-deep h = none-owned (none-of (sheetTree c n) (sheet-deep c n lent r (v .measures) len count deep e h))
 
-    pub noted-whole : n ≤ maxCanonical → m ≤ maxNodes → m ≤ k → count ≡ m → deep ≤ maxDepth → Notes m (length before) → Sheeted c n m k after true
+    pub noted-whole : n ≤ maxCanonical → m ≤ k → count ≡ m → deep ≤ maxDepth → Notes m (length before) → Sheeted c n m k after true
     unfolding Sheeted chain fitting
-    noted-whole short few held z shallow room =
+    noted-whole short held z shallow room =
         let t : Tree = wholly .tree in
         let l : length (canon t) ≡ n = sym (ap length (canon-sound (take n c) t (wholly .is))) ∙ length-take-le n c lent in
-        let f : fits t ≡ true = fitted t (omega (arith, wholly .deepest)) (omega (arith, wholly .counted)) (omega (arith, l)) in
+        let few : nodes t ≤ mostNodes = small-nodes t (omega (arith, l)) in
+        let f : fits t ≡ true = fitted t (omega (arith, wholly .deepest)) (omega (arith, l)) in
         let g : Notable (take n c) (length before) = record { tree = t; is = wholly .is; deep = omega (arith, wholly .deepest); fits = omega (arith, wholly .counted) } in
         record {
           tree = t;

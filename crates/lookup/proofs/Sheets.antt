@@ -8,8 +8,8 @@ use mathlib.Core.List.{List}
 use lib.ListN.{length, take, length-take}
 use lib.Seq.{length-take-le}
 use lib.Dec.{leb, ltb, eqb}
-use borrow.Author.Tests.{le-ltb, le-leb, lt-leb, eqb-true, ltb-false, leb-true}
-use Rattle.model.specs.Limits.{maxCanonical, maxDepth, maxNodes, maxSource}
+use borrow.Author.Tests.{le-ltb, le-leb, lt-leb, eqb-true, ltb-false}
+use Rattle.model.specs.Limits.{maxCanonical, maxDepth, mostNodes, maxSource}
 use Rattle.base.specs.Choice.{both, not, equal, chain, isNone}
 use Rattle.base.proofs.Cases.{by-le, untrue, pick-cases, picked, unpicked, both-true, true-both, some-same, none-some, chain-cases}
 use Rattle.base.proofs.Lists.{equal-true}
@@ -18,6 +18,7 @@ use Rattle.model.specs.Decode.{decode₁}
 use Rattle.model.specs.Table.{width, tableOf}
 use Rattle.model.specs.Tree.{Tree, canon, nodes, depth}
 use Rattle.model.proofs.Exact.{canon-sound}
+use Rattle.model.proofs.Laws.{fits-within, fitting-nodes}
 use Rattle.walk.specs.Extent.{Wholly, Measures}
 use Rattle.walk.proofs.Tabled.{table-length}
 use Rattle.walk.specs.declared.Extent.{Extent}
@@ -53,19 +54,15 @@ none-of (some t) e = untrue e
 
 pub record Fit (t : Tree) : Type 0 where
   pub deep : depth t ≤ maxDepth
-  pub many : nodes t ≤ maxNodes
+  pub many : nodes t ≤ mostNodes
   pub long : length (canon t) ≤ maxCanonical
 
 fit : (t : Tree) → fits t ≡ true → Fit t
-unfolding fits
-fit t f =
-    let w : (leb (depth t) maxDepth ≡ true) × (both (leb (nodes t) maxNodes) (leb (length (canon t)) maxCanonical) ≡ true) = both-true f in
-    let v : (leb (nodes t) maxNodes ≡ true) × (leb (length (canon t)) maxCanonical ≡ true) = both-true (w .1) in
-    record { deep = leb-true _ _ (w .0); many = leb-true _ _ (v .0); long = leb-true _ _ (v .1) }
+fit t f = let w = fits-within t f in record { deep = w .0; many = fitting-nodes t f; long = w .1 }
 
-pub fitted : (t : Tree) → depth t ≤ maxDepth → nodes t ≤ maxNodes → length (canon t) ≤ maxCanonical → fits t ≡ true
+pub fitted : (t : Tree) → depth t ≤ maxDepth → length (canon t) ≤ maxCanonical → fits t ≡ true
 unfolding fits
-fitted t d n l = true-both (le-leb _ _ d) (true-both (le-leb _ _ n) (le-leb _ _ l))
+fitted t d l = true-both (le-leb _ _ d) (le-leb _ _ l)
 
 pub record Sheet (c : List ℕ) (n : ℕ) (t : Tree) : Type 0 where
   pub lent : n ≤ length c
@@ -120,16 +117,16 @@ module _ (c : List ℕ) (n : ℕ) where
             no-tree (sheetTree c n)
             (λ t f. let s : Sheet c n t = sheet-of c n t f in omega (arith, wholly .deepest, ap depth (the-same t s), s .fitting .deep))
 
-        pub sheet-whole : d ≤ maxDepth → n ≤ maxCanonical → leb m maxNodes ≡ not (isNone (sheetTree c n))
+        -- of the limits of a short sheet only the depth is left
+        pub sheet-whole : n ≤ maxCanonical → leb d maxDepth ≡ not (isNone (sheetTree c n))
         unfolding chain fitting
-        sheet-whole h l =
-            by-le m maxNodes
+        sheet-whole l =
+            by-le d maxDepth
             (λ q.
-            let f : fits (wholly .tree) ≡ true = fitted (wholly .tree) (omega (arith, wholly .deepest)) (omega (arith, wholly .counted))
+            let f : fits (wholly .tree) ≡ true = fitted (wholly .tree) (omega (arith, wholly .deepest))
             (omega (arith, ap length (canon-sound (take n c) (wholly .tree) (wholly .is)), length-take-le n c k)) in
             le-leb _ _ q ∙ a-tree (sheetTree c n) (wholly .tree) (within ∙ ap (λ (o : Option Tree). chain o fitting) (wholly .is) ∙ picked _ _ f))
-            (λ q. lt-leb _ _ q ∙ no-tree (sheetTree c n)
-            (λ t f. let s : Sheet c n t = sheet-of c n t f in omega (arith, wholly .counted, ap nodes (the-same t s), s .fitting .many)))
+            (λ q. lt-leb _ _ q ∙ sheet-deep q)
 
 -- ---- its own table
 
@@ -159,9 +156,6 @@ module _ (c : List ℕ) (n : ℕ) (table : List ℕ) (m : ℕ) where
 
   pub own-long : maxCanonical < n → false ≡ not (isNone (ownTree c n table m))
   own-long h = no-tree _ (λ t e. let o : Own c n table m t = own-of c n table m t e in omega (arith, o .sheet .size, o .sheet .fitting .long))
-
-  pub own-many : maxNodes < m → false ≡ not (isNone (ownTree c n table m))
-  own-many h = no-tree _ (λ t e. let o : Own c n table m t = own-of c n table m t e in omega (arith, o .counted, o .sheet .fitting .many))
 
   pub own-unlent : length table / width < m → false ≡ not (isNone (ownTree c n table m))
   own-unlent h = no-tree _ (λ t e. let o : Own c n table m t = own-of c n table m t e in omega (arith, own-lent c n table m t o))

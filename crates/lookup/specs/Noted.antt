@@ -6,7 +6,7 @@ use mathlib.Core.Option.{none, some}
 use mathlib.Core.List.{List}
 use Rattle.base.specs.Choice.{pick, not, isNone}
 use Rattle.model.specs.Tree.{Tree}
-use Rattle.model.specs.Limits.{maxNodes}
+use Rattle.model.specs.Limits.{mostNodes}
 use Rattle.model.specs.Table.{records}
 use Rattle.model.specs.Answers.{sheetTree, ownTree, hintPart, dataPart}
 use Rattle.sheets.specs.Told.{Holds, Readable}
@@ -27,7 +27,7 @@ Sheeted c len count n notes false = (table : List ℕ) → records table ≡ n �
 
 -- notes for every sheet of this node count
 pub record Notes (count room : ℕ) : Type 0 where
-  pub enough : min count maxNodes ≤ room
+  pub enough : min count mostNodes ≤ room
 
 -- whether a table is the sheet's own; and where it is, these are the sheet's notes
 pub record Owned (c : List ℕ) (len : ℕ) (table : List ℕ) (count : ℕ) (notes : List ℕ) (own : Bool) : Type 0 where

@@ -35,14 +35,9 @@ pub fn sheet(canonical: &[u8], length: usize) -> bool
     match sheets::measure(part) {
         Extent::Whole {
             len: _,
-            nodes,
+            nodes: _,
             depth,
-        } => {
-            if depth > limits::DEPTH {
-                return false;
-            }
-            nodes <= limits::NODES
-        }
+        } => depth <= limits::DEPTH,
         Extent::Refused => false,
     }
 }

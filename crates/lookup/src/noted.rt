@@ -17,9 +17,6 @@ fn note_in(canonical: &[u8], len: usize, notes: &mut [usize], records: usize, no
     if len > limits::CANONICAL {
         return false;
     }
-    if nodes > limits::NODES {
-        return false;
-    }
     if nodes > records {
         return false;
     }

@@ -15,7 +15,7 @@ use Rattle.model.specs.Amended.{Wider, Apart}
 use Rattle.model.specs.Answers.{noForm, fits}
 use Rattle.model.specs.Decode.{decodeUnder, decode}
 use Rattle.model.specs.Grammar.{Rules, CSexp, Language, rules}
-use Rattle.model.specs.Limits.{maxSource, maxDepth, maxNodes, maxCanonical}
+use Rattle.model.specs.Limits.{maxSource, maxDepth, maxCanonical, mostNodes}
 use Rattle.model.specs.Tree.{Tree, canon, nodes, depth, Bytes, TreeBytes}
 use Rattle.model.specs.Write.{advanced, encode}
 use Rattle.model.proofs.Apart.{rules-apart}
@@ -83,17 +83,30 @@ canonical-within-3n form s t x = language-tripled x
 pub nodes-within-half : (t : Tree) → 2 * nodes t ≤ length (canon t)
 nodes-within-half t = nodes-half t
 
+-- 02, "16,384 octets hold at most 8,192 nodes anyway"
+pub small-nodes : (t : Tree) → length (canon t) ≤ maxCanonical → nodes t ≤ mostNodes
+small-nodes t h = omega (arith, nodes-half t)
+
+-- what fits: the depth, and the length of the canonical form
+pub fits-within : (t : Tree) → fits t ≡ true → (depth t ≤ maxDepth) × (length (canon t) ≤ maxCanonical)
+unfolding fits
+fits-within t f =
+    let w : (leb (depth t) maxDepth ≡ true) × (leb (length (canon t)) maxCanonical ≡ true) = both-true f in
+    (leb-true _ _ (w .0), leb-true _ _ (w .1))
+
+-- so "fitting" needs no node limit
+pub fitting-nodes : (t : Tree) → fits t ≡ true → nodes t ≤ mostNodes
+fitting-nodes t f = small-nodes t (fits-within t f .1)
+
 -- advanced output from n octets is at most 2n
 pub advanced-within-2n : (t : Tree) → length (advanced t) ≤ 2 * length (canon t)
 advanced-within-2n t = doubled t
 
 -- "So whatever we write of a fitting sheet is short enough to be read"
 pub written-within-source : (form : ℕ) (t : Tree) → fits t ≡ true → length (encode form t) ≤ maxSource
-unfolding fits encode
+unfolding encode
 written-within-source form t f =
-    let w : (leb (depth t) maxDepth ≡ true) × (both (leb (nodes t) maxNodes) (leb (length (canon t)) maxCanonical) ≡ true) = both-true f in
-    let v : (leb (nodes t) maxNodes ≡ true) × (leb (length (canon t)) maxCanonical ≡ true) = both-true (w .1) in
-    let n : length (canon t) ≤ maxCanonical = leb-true _ _ (v .1) in
+    let n : length (canon t) ≤ maxCanonical = fits-within t f .1 in
     by-eq form 1
     (λ e. rw e (omega arith))
     (λ y. by-eq form 2

@@ -13,7 +13,7 @@ use Rattle.model.specs.Decode.{decode, decode₁}
 use Rattle.model.specs.Write.{encode}
 use Rattle.model.specs.Compare.{same}
 use Rattle.model.specs.Edit.{replace}
-use Rattle.model.specs.Limits.{maxSource, maxDepth, maxNodes, maxCanonical, Accepted, Form, SourceSize, Syntax, Depth, Nodes, Size, NotOwn, NoNode}
+use Rattle.model.specs.Limits.{maxSource, maxDepth, maxCanonical, Accepted, Form, SourceSize, Syntax, Depth, Nodes, Size, NotOwn, NoNode}
 
 -- ---- the order of checks
 
@@ -43,11 +43,11 @@ unfoldable pub the : Option Tree → Tree
 the none = list nil
 the (some t) = t
 
--- rows 4 to 6 of a tree that is to go into lent space; "over the lent records", "result over the lent room"
+-- rows 4 to 6 of a tree that is to go into lent space; 02, "Row 5 becomes 'over the lent records'"; "result over the lent room"
 unfoldable pub roomChecks : Tree → List ℕ → List ℕ → List Check
 roomChecks t canonical table =
     when Depth (ltb maxDepth (depth t))
-    ∷ when Nodes (either (ltb maxNodes (nodes t)) (ltb (records table) (nodes t)))
+    ∷ when Nodes (ltb (records table) (nodes t))
     ∷ when Size (either (ltb maxCanonical (length (canon t))) (ltb (length canonical) (length (canon t))))
     ∷ []
 
@@ -66,9 +66,10 @@ textChecks form text more =
 unfoldable pub settled : List ℕ → ℕ → List ℕ → List ℕ
 settled lent old new = new ++ (replicate (old - length new) 0 ++ drop (max old (length new)) lent)
 
--- 01, "A tree fits if its lists nest at most 32 deep .., it has at most 4,096 nodes, and its canonical form has at most 16,384 octets"
+-- 01, "A tree fits if its lists nest at most 32 deep .., and its canonical form has at most 16,384 octets"; 02, "Raise the depth
+-- to 128 and drop the node limit"
 unfoldable pub fits : Tree → Bool
-fits t = both (leb (depth t) maxDepth) (both (leb (nodes t) maxNodes) (leb (length (canon t)) maxCanonical))
+fits t = both (leb (depth t) maxDepth) (leb (length (canon t)) maxCanonical)
 
 unfoldable pub fitting : Tree → Option Tree
 fitting t = pick (fits t) (some t) none

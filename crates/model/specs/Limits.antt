@@ -5,14 +5,17 @@ use Prim.Native.Nat.{ℕ}
 abbrev pub maxSource : ℕ
 maxSource = 32768
 
+-- 02, "Raise the depth to 128": 01's 32 gives way
 abbrev pub maxDepth : ℕ
-maxDepth = 32
-
-abbrev pub maxNodes : ℕ
-maxNodes = 4096
+maxDepth = 128
 
 abbrev pub maxCanonical : ℕ
 maxCanonical = 16384
+
+-- 02, "drop the node limit: 16,384 octets hold at most 8,192 nodes anyway": no limit, but what a tree that fits has at most
+-- (`fitting-nodes`). No answer rests on it.
+abbrev pub mostNodes : ℕ
+mostNodes = 8192
 
 -- 01, "When the desk sends it back"
 abbrev pub Accepted : ℕ
@@ -30,11 +33,11 @@ SourceSize = 2
 abbrev pub Syntax : ℕ
 Syntax = 3
 
--- lists over 32 deep
+-- lists over 128 deep
 abbrev pub Depth : ℕ
 Depth = 4
 
--- over 4,096 nodes, or over the lent records
+-- 02, "Row 5 becomes 'over the lent records'"
 abbrev pub Nodes : ℕ
 Nodes = 5
 

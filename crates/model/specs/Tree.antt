@@ -52,7 +52,7 @@ unfoldable mutual
   nodess nil = 0
   nodess (cons t f) = nodes t + nodess f
 
--- 01, "lists nest at most 32 deep (an outermost list is 1)"
+-- 01, "lists nest at most 32 deep (an outermost list is 1)", 128 by 02
 unfoldable mutual
   pub depth : Tree → ℕ
   depth (plain d) = 0

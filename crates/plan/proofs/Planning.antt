@@ -14,6 +14,7 @@ use Rattle.model.specs.Edit.{replace}
 use Rattle.model.specs.Table.{records}
 use Rattle.model.specs.Answers.{ownTree}
 use Rattle.model.specs.Tree.{Tree, canon, nodes, depth}
+use Rattle.model.proofs.Laws.{small-nodes}
 use Rattle.reader.specs.Stored.{roomVerdict}
 use Rattle.reader.proofs.Rooms.{Lodged, roomy}
 use Rattle.lookup.specs.Noted.{Sheet}
@@ -126,7 +127,7 @@ module _ (c : List ℕ) (len : ℕ) (notes : List ℕ) (own : Bool) (room count 
                     counted = counted u s;
                     shallow = ltb-false maxDepth _ (sym (deep u s) ∙ le-ltb maxDepth (to .depth) (g .shallow));
                     recorded = g .recorded;
-                    few = g .few;
+                    few = omega (arith, counted u s, small-nodes (replace t node u) (omega (arith, long u s, g .small)));
                     short = g .small;
                     lent = g .lent;
                   };

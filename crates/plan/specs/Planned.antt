@@ -10,7 +10,7 @@ use Rattle.base.specs.Choice.{pick, not, isNone}
 use Rattle.model.specs.Tree.{Tree, canon, nodes, depth}
 use Rattle.model.specs.Table.{rows, rowOf, records}
 use Rattle.model.specs.Edit.{replace}
-use Rattle.model.specs.Limits.{maxDepth, maxNodes, maxCanonical, Syntax, NotOwn, NoNode}
+use Rattle.model.specs.Limits.{maxDepth, mostNodes, maxCanonical, Syntax, NotOwn, NoNode}
 use Rattle.model.specs.Answers.{Outcome, Check, when, judged, the, roomChecks, sheetTree, ownTree, filled, unchanged}
 use Rattle.sheets.specs.Told.{rowAt, Holds}
 use Rattle.lookup.specs.Noted.{Sheet}
@@ -67,7 +67,7 @@ pub record Small (s : Sizes) : Type 0 where
 
 -- the notes before a node are there
 pub record Recorded (room node : ℕ) : Type 0 where
-  pub few : node ≤ maxNodes
+  pub few : node ≤ mostNodes
   pub fits : node ≤ room
 
 -- of n notes from note j on, those that count node k among theirs, onto a number of them
@@ -91,7 +91,7 @@ pub record Spot (start end n level : ℕ) (t : Tree) (k : ℕ) : Type 0 where
 pub record Kept (notes : List ℕ) (count : ℕ) : Type 0 where
   pub tree : Tree
   pub held : Holds notes count tree
-  pub few : count ≤ maxNodes
+  pub few : count ≤ mostNodes
 
 pub record Findable (notes : List ℕ) (count : ℕ) (own : Bool) : Type 0 where
   pub kept : own ≡ true → Kept notes count
@@ -117,8 +117,8 @@ pub record Resizable (len count start end n level : ℕ) (text : Sizes) : Type 0
   pub ended : end ≤ len
   pub fewer : n ≤ count
   pub short : len ≤ maxCanonical
-  pub few : count ≤ maxNodes
-  pub low : level ≤ maxNodes
+  pub few : count ≤ mostNodes
+  pub low : level ≤ mostNodes
   pub small : Small text
 
 abbrev pub resized : ℕ → ℕ → ℕ → ℕ → ℕ → ℕ → Sizes → Sizes
@@ -132,7 +132,7 @@ pub record AtNode (len count start end n level : ℕ) (t : Tree) (k : ℕ) : Typ
   pub short : len ≤ maxCanonical
   pub shallow : depth t ≤ maxDepth
   pub counted : count ≡ nodes t
-  pub few : count ≤ maxNodes
+  pub few : count ≤ mostNodes
   pub inside : k < nodes t
   pub spot : Spot start end n level t k
 
@@ -142,7 +142,7 @@ pub record Taking (t′ : Tree) (c : List ℕ) (n len′ count′ : ℕ) : Type 
   pub counted : count′ ≡ nodes t′
   pub shallow : depth t′ ≤ maxDepth
   pub recorded : count′ ≤ n
-  pub few : count′ ≤ maxNodes
+  pub few : count′ ≤ mostNodes
   pub short : len′ ≤ maxCanonical
   pub lent : len′ ≤ length c
 

@@ -8,7 +8,7 @@ use lib.ListN.{length}
 use lib.Seq.{sets}
 use Rattle.model.specs.Answers.{unchanged, noForm, textChecks, readingChecks, reading}
 use Rattle.model.specs.Decode.{decode}
-use Rattle.model.specs.Limits.{maxSource, maxNodes}
+use Rattle.model.specs.Limits.{maxSource, mostNodes}
 use Rattle.sheets.specs.Places.{shift}
 use Rattle.texts.specs.Texts.{textVerdict, Formed, Bare}
 use Rattle.texts.proofs.Rows.{text-refused, text-taken}
@@ -27,10 +27,10 @@ module _ (form n s m : ℕ) where
   small-spaced bound f h k j l = record { takes = small-takes form n s bound f h k j; room = halved (omega (arith, f .short)) }
 
   -- with room for every note
-  pub noted-spaced : (bound : ℕ) → Formed form n bound → bound ≤ maxSource → 3 * bound + 64 ≤ s → s < shift → maxNodes ≤ m → Spaced form n s m
+  pub noted-spaced : (bound : ℕ) → Formed form n bound → bound ≤ maxSource → 3 * bound + 64 ≤ s → s < shift → mostNodes ≤ m → Spaced form n s m
   noted-spaced bound f h k j l = record { takes = small-takes form n s bound f h k j; room = most l }
 
-  pub long-spaced : Formed form n maxSource → maxSource + 16448 ≤ s → s < shift → maxNodes ≤ m → Spaced form n s m
+  pub long-spaced : Formed form n maxSource → maxSource + 16448 ≤ s → s < shift → mostNodes ≤ m → Spaced form n s m
   long-spaced f h j k = record { takes = long-takes form n s f h j; room = most k }
 
 -- ---- basic text outside braces is canonical text

@@ -13,7 +13,7 @@ use Rattle.base.specs.Choice.{pick, either, isNone}
 use Rattle.base.proofs.Cases.{pick-cases, picked, unpicked}
 use Rattle.base.proofs.Stores.{sets-all}
 use Rattle.model.specs.Answers.{when, verdict, judged, the, roomChecks, settled, unchanged, filled}
-use Rattle.model.specs.Limits.{maxDepth, maxNodes, maxCanonical, Accepted, Syntax, Depth, Nodes, Size}
+use Rattle.model.specs.Limits.{maxDepth, maxCanonical, Accepted, Syntax, Depth, Nodes, Size}
 use Rattle.model.specs.Table.{records}
 use Rattle.model.specs.Tree.{Tree, canon, nodes, depth}
 use Rattle.model.proofs.Judging.{judged-accepted, judged-refused}
@@ -26,33 +26,27 @@ module _ (deep count len octets records : ℕ) where
   room-deep h = sym (picked _ _ (lt-ltb maxDepth deep h))
 
   module _ (a : deep ≤ maxDepth) where
-    pub room-nodes : maxNodes < count → 5 ≡ roomVerdict deep count len octets records
+    pub room-records : records < count → 5 ≡ roomVerdict deep count len octets records
     unfolding roomVerdict
-    room-nodes h = sym (unpicked _ _ (le-ltb maxDepth deep a) ∙ picked _ _ (lt-ltb maxNodes count h))
+    room-records h = sym (unpicked _ _ (le-ltb maxDepth deep a) ∙ picked _ _ (lt-ltb records count h))
 
-    module _ (b : count ≤ maxNodes) where
-      pub room-records : records < count → 5 ≡ roomVerdict deep count len octets records
+    module _ (c : count ≤ records) where
+      firsts : roomVerdict deep count len octets records ≡ pick (ltb maxCanonical len) 6 (pick (ltb octets len) 6 0)
       unfolding roomVerdict
-      room-records h = sym (unpicked _ _ (le-ltb maxDepth deep a) ∙ unpicked _ _ (le-ltb maxNodes count b) ∙ picked _ _ (lt-ltb records count h))
+      firsts = unpicked _ _ (le-ltb maxDepth deep a) ∙ unpicked _ _ (le-ltb records count c)
 
-      module _ (c : count ≤ records) where
-        firsts : roomVerdict deep count len octets records ≡ pick (ltb maxCanonical len) 6 (pick (ltb octets len) 6 0)
-        unfolding roomVerdict
-        firsts = unpicked _ _ (le-ltb maxDepth deep a) ∙ unpicked _ _ (le-ltb maxNodes count b) ∙ unpicked _ _ (le-ltb records count c)
+      pub room-size : maxCanonical < len → 6 ≡ roomVerdict deep count len octets records
+      room-size h = sym (firsts ∙ picked _ _ (lt-ltb maxCanonical len h))
 
-        pub room-size : maxCanonical < len → 6 ≡ roomVerdict deep count len octets records
-        room-size h = sym (firsts ∙ picked _ _ (lt-ltb maxCanonical len h))
+      pub room-lent : len ≤ maxCanonical → octets < len → 6 ≡ roomVerdict deep count len octets records
+      room-lent h k = sym (firsts ∙ unpicked _ _ (le-ltb maxCanonical len h) ∙ picked _ _ (lt-ltb octets len k))
 
-        pub room-lent : len ≤ maxCanonical → octets < len → 6 ≡ roomVerdict deep count len octets records
-        room-lent h k = sym (firsts ∙ unpicked _ _ (le-ltb maxCanonical len h) ∙ picked _ _ (lt-ltb octets len k))
-
-        pub room-good : len ≤ maxCanonical → len ≤ octets → 0 ≡ roomVerdict deep count len octets records
-        room-good h k = sym (firsts ∙ unpicked _ _ (le-ltb maxCanonical len h) ∙ unpicked _ _ (le-ltb octets len k))
+      pub room-good : len ≤ maxCanonical → len ≤ octets → 0 ≡ roomVerdict deep count len octets records
+      room-good h k = sym (firsts ∙ unpicked _ _ (le-ltb maxCanonical len h) ∙ unpicked _ _ (le-ltb octets len k))
 
 -- what holds where none applies
 pub record Lodged (deep count len octets records : ℕ) : Type 0 where
   pub shallow : deep ≤ maxDepth
-  pub few : count ≤ maxNodes
   pub recorded : count ≤ records
   pub small : len ≤ maxCanonical
   pub lent : len ≤ octets
@@ -61,11 +55,10 @@ pub roomy : (deep count len octets records : ℕ) → roomVerdict deep count len
 unfolding roomVerdict
 roomy deep count len octets records e =
     pick-cases (ltb maxDepth deep) _ _ e (λ t h. absurd (omega arith))
-    (λ a h. pick-cases (ltb maxNodes count) _ _ h (λ t i. absurd (omega arith))
-    (λ b i. pick-cases (ltb records count) _ _ i (λ t j. absurd (omega arith))
+    (λ a h. pick-cases (ltb records count) _ _ h (λ t j. absurd (omega arith))
     (λ c j. pick-cases (ltb maxCanonical len) _ _ j (λ t k. absurd (omega arith))
     (λ d k. pick-cases (ltb octets len) _ _ k (λ t l. absurd (omega arith))
-    (λ f l. record { shallow = ltb-false _ _ a; few = ltb-false _ _ b; recorded = ltb-false _ _ c; small = ltb-false _ _ d; lent = ltb-false _ _ f })))))
+    (λ f l. record { shallow = ltb-false _ _ a; recorded = ltb-false _ _ c; small = ltb-false _ _ d; lent = ltb-false _ _ f }))))
 
 -- ---- the model's checks
 
@@ -77,8 +70,7 @@ pub rooms : (t : Tree) (canonical table : List ℕ) → verdict (roomChecks t ca
 unfolding verdict roomChecks roomVerdict
 rooms t canonical table =
     ap (pick (ltb maxDepth (depth t)) Depth)
-    (split (ltb maxNodes (nodes t)) (ltb (records table) (nodes t)) Nodes _
-    ∙ ap (λ (x : ℕ). pick (ltb maxNodes (nodes t)) Nodes (pick (ltb (records table) (nodes t)) Nodes x)) (split (ltb maxCanonical (length (canon t))) (ltb (length canonical) (length (canon t))) Size Accepted))
+    (ap (pick (ltb (records table) (nodes t)) Nodes) (split (ltb maxCanonical (length (canon t))) (ltb (length canonical) (length (canon t))) Size Accepted))
 
 module _ (o : Option Tree) (canonical table : List ℕ) where
   pub tree-none : o ≡ none → readTree o canonical table ≡ unchanged 3 canonical table

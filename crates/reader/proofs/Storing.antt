@@ -9,10 +9,10 @@ use lib.ListN.{length, take, drop, length-take}
 use lib.Seq.{sets}
 use Rattle.model.specs.Answers.{the, Outcome, filled}
 use Rattle.model.specs.Decode.{decode}
-use Rattle.model.specs.Limits.{Accepted, maxNodes, maxSource}
+use Rattle.model.specs.Limits.{Accepted, maxSource}
 use Rattle.model.specs.Table.{width, records, tableOf}
 use Rattle.model.specs.Tree.{Tree, canon, nodes, depth}
-use Rattle.model.proofs.Laws.{nodes-within-half}
+use Rattle.model.proofs.Laws.{nodes-within-half, small-nodes}
 use Rattle.walk.specs.Extent.{Wholly, Measures}
 use Rattle.walk.specs.declared.Extent.{Extent}
 use Rattle.walk.specs.declared.Extent.the-variants as extent
@@ -96,7 +96,7 @@ module _ (form : ℕ) (source canonical scratch : List ℕ) (n : ℕ) (notes not
             where
               by : Noteable (length source) (length notes) → nodes tree ≤ length notes
               by (halved z) = omega (arith, nodes-within-half tree, tripled form source tree (whole .is))
-              by (most z) = omega (arith, whole .counted, lodged .few)
+              by (most z) = omega (arith, small-nodes tree (omega (arith, whole .long, lodged .small)))
 
           held : Holds notes′ count tree
           held = subst (λ (i : ℕ). Holds notes′ i tree) (sym (whole .counted)) (m .noted tree (whole .is) (omega (arith, whole .long, lodged .small)) (omega (arith, whole .deepest, lodged .shallow)) room)
@@ -108,7 +108,7 @@ module _ (form : ℕ) (source canonical scratch : List ℕ) (n : ℕ) (notes not
                 tree = tree;
                 held = held;
                 recorded = lodged .recorded;
-                few = lodged .few;
+                few = omega (arith, whole .counted, small-nodes tree (omega (arith, whole .long, lodged .small)));
                 is = λ table z.
                     same-outcome (whole .long) (whole .counted)
                     (w .same ∙ ap (sets canonical 0) front-is ∙ sym (settled-front canonical (canon tree) (omega (arith, whole .long, lodged .lent))))

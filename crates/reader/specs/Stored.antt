@@ -9,7 +9,7 @@ use lib.Dec.{ltb}
 use Rattle.base.specs.Choice.{pick, isNone}
 use Rattle.model.specs.Tree.{Tree}
 use Rattle.model.specs.Table.{records, tableOf}
-use Rattle.model.specs.Limits.{maxDepth, maxNodes, maxCanonical, Accepted, Syntax, Depth, Nodes, Size}
+use Rattle.model.specs.Limits.{maxDepth, mostNodes, maxCanonical, Accepted, Syntax, Depth, Nodes, Size}
 use Rattle.model.specs.Answers.{Outcome, when, judged, the, roomChecks, filled, unchanged}
 use Rattle.answers.specs.declared.Reading.{Reading}
 use Rattle.answers.specs.declared.Reading.the-variants as reading
@@ -21,10 +21,9 @@ use Rattle.texts.specs.Texts.{Takeable}
 unfoldable pub roomVerdict : ℕ → ℕ → ℕ → ℕ → ℕ → ℕ
 roomVerdict deep count len octets records =
     pick (ltb maxDepth deep) Depth
-    (pick (ltb maxNodes count) Nodes
     (pick (ltb records count) Nodes
     (pick (ltb maxCanonical len) Size
-    (pick (ltb octets len) Size Accepted))))
+    (pick (ltb octets len) Size Accepted)))
 
 -- rows 3 to 6, and what is written, of the tree that a text means, if it means one
 unfoldable pub readTree : Option Tree → List ℕ → List ℕ → Outcome
@@ -36,7 +35,7 @@ readTree o canonical table =
 -- notes for every tree that fits and that a text of n octets can mean
 pub data Noteable (n room : ℕ) : Type 0 where
   halved : 3 * n ≤ 2 * room → Noteable n room
-  most : maxNodes ≤ room → Noteable n room
+  most : mostNodes ≤ room → Noteable n room
 
 -- local space for a text of n octets
 pub record Spaced (form n scratch notes : ℕ) : Type 0 where
@@ -48,7 +47,7 @@ pub record Accepting (answer : List ℕ → Outcome) (canonical : List ℕ) (n :
   pub tree : Tree
   pub held : Holds notes count tree
   pub recorded : count ≤ n
-  pub few : count ≤ maxNodes
+  pub few : count ≤ mostNodes
   pub is : (table : List ℕ) → records table ≡ n → outcome (reading.Accepted len count) canonical (sets table 0 (tableOf tree)) ≡ answer table
 
 -- the answer for every table of n records, filled from notes where the answer is an acceptance

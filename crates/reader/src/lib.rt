@@ -20,9 +20,6 @@ pub fn room(len: usize, nodes: usize, depth: usize, octets: usize, records: usiz
     if depth > limits::DEPTH {
         return 4;
     }
-    if nodes > limits::NODES {
-        return 5;
-    }
     if nodes > records {
         return 5;
     }

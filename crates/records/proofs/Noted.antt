@@ -31,7 +31,7 @@ use denote.Steps.{owned}
 use denote.Ref.{RefT, MutRef, ShrRef}
 use denote.Lend.{lends-ref, ref-back, lends-shr}
 use borrow.Table.OneValue.{part-in, part-out}
-use Rattle.model.specs.Limits.{maxNodes}
+use Rattle.model.specs.Limits.{mostNodes}
 use Rattle.records.proofs.Spelled.{Notes, notesTy}
 
 each-zero : (n : ℕ) → shadow (each ℕ (usize .own) (replicate n 0) (replicate n (vint w64 0)))
@@ -42,27 +42,27 @@ repeat-is : (n : ℕ) → Is (Array usize n) (replicate n 0) (vstruct (ofList (r
 repeat-is n = (replicate n (vint w64 0), ((refl, length-replicate n 0), each-zero n))
 
 unfoldable pub zeros : List ℕ
-zeros = replicate maxNodes 0
+zeros = replicate mostNodes 0
 
 abbrev pub zeroVal : Val
-zeroVal = vstruct (ofList (replicate maxNodes (vint w64 0)))
+zeroVal = vstruct (ofList (replicate mostNodes (vint w64 0)))
 
-pub length-zeros : length zeros ≡ maxNodes
+pub length-zeros : length zeros ≡ mostNodes
 unfolding zeros
-length-zeros = length-replicate {A = ℕ} maxNodes 0
+length-zeros = length-replicate {A = ℕ} mostNodes 0
 
 module _ {M : Type 1} (𝓤 : URA M) (H : Heap 𝓤) (A : Atoms 𝓤) (W : Given 𝓤 H A) where
   typed-by : (n : ℕ) → Typed (Array usize n .mir) (vstruct (ofList (replicate n (vint w64 0))) ∷ [])
   typed-by n = array-typed usize (uint-lawful 𝓤 H A W w64 .typed) n (replicate n 0) (vstruct (ofList (replicate n (vint w64 0))) ∷ []) (repeat-is n)
 
   pub zeros-typed : T (hasTy notesTy zeroVal) × WT zeroVal
-  zeros-typed = typed-by maxNodes .0
+  zeros-typed = typed-by mostNodes .0
 
   pub zeroed : (l : ℕ) → ent 𝓤 (H .at fullShare notesTy l 0 zeroVal) (sem 𝓤 H A (partAt Notes fullShare zeros l 0))
   unfolding zeros
   zeroed l =
-      qed W (‵ (fat fullShare notesTy l 0 zeroVal) ∷ []) ∵ owned ! Notes (Is Notes) (array-makes 𝓤 H A W usize (uint-makes 𝓤 H A W w64) maxNodes) (replicate maxNodes 0) _ (repeat-is maxNodes) $ move ! (1 ∷ 0 ∷ []) $
-      by ! (part-in 𝓤 H A W Notes refl fullShare (replicate maxNodes 0) l 0 zeroVal)
+      qed W (‵ (fat fullShare notesTy l 0 zeroVal) ∷ []) ∵ owned ! Notes (Is Notes) (array-makes 𝓤 H A W usize (uint-makes 𝓤 H A W w64) mostNodes) (replicate mostNodes 0) _ (repeat-is mostNodes) $ move ! (1 ∷ 0 ∷ []) $
+      by ! (part-in 𝓤 H A W Notes refl fullShare (replicate mostNodes 0) l 0 zeroVal)
 
 -- a reference to the local at l, under the name ε
 abbrev pub at-local : ℕ → GName → List ℕ → RefT (List ℕ)

@@ -6,7 +6,7 @@ use denote.Memory.{pointee}
 use denote.Slice.{sliceTy}
 use denote.Builtin.{usize}
 use denote.Array.{Array}
-use Rattle.model.specs.Limits.{maxNodes}
+use Rattle.model.specs.Limits.{mostNodes}
 use Rattle.records.proofs.Record as T
 
 abbrev pub word : Ty
@@ -37,10 +37,10 @@ recs ℓ μ = sliceTy (toRecord ℓ μ)
 
 -- the notes
 abbrev pub Notes : RattleType
-Notes = Array usize maxNodes
+Notes = Array usize mostNodes
 
 abbrev pub notesTy : Ty
-notesTy = tyArray word maxNodes
+notesTy = tyArray word mostNodes
 
 abbrev pub toNotes : Lifetime → Mutability → Ty
 toNotes ℓ μ = tyRef ℓ μ notesTy

@@ -10,7 +10,7 @@ use lib.Dec.{leb, eqb}
 use borrow.Author.Tests.{le-leb, lt-leb, eq-eqb}
 use Rattle.base.specs.Choice.{pick, not, chain, isNone, equal, both}
 use Rattle.base.proofs.Cases.{differ, picked, unpicked, some-same, none-some}
-use Rattle.model.specs.Limits.{Accepted, maxNodes}
+use Rattle.model.specs.Limits.{Accepted, mostNodes}
 use Rattle.model.specs.Answers.{Check, when, verdict, judged, the, sheetTree, owns, ownTree}
 use Rattle.model.specs.Table.{width, records, rowOf, tableOf}
 use Rattle.model.specs.Tree.{Tree, canon, nodes}

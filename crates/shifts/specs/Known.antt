@@ -6,7 +6,7 @@ use mathlib.Core.Option.{Option, none, some}
 use mathlib.Core.List.{List}
 use lib.ListN.{length}
 use lib.Ieee.{Float}
-use Rattle.model.specs.Limits.{maxNodes}
+use Rattle.model.specs.Limits.{mostNodes}
 use Rattle.model.specs.Table.{Row, rowOf}
 use Rattle.model.specs.Tree.{Tree, canon}
 use Rattle.sheets.specs.Told.{Holds}
@@ -58,7 +58,7 @@ pub record Known (c notes : List ℕ) (count : ℕ) : Type 0 where
   pub tree : Tree
   pub held : Holds notes count tree
   pub within : length (canon tree) ≤ length c
-  pub many : count ≤ maxNodes
+  pub many : count ≤ mostNodes
 
 -- and it has a node of this number
 pub record KnownAt (c notes : List ℕ) (count node : ℕ) : Type 0 where

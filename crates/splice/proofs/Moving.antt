@@ -9,7 +9,7 @@ use lib.Seq.{getD-set-same, getD-set-other}
 use lib.Dec.{ltb}
 use borrow.Author.Tests.{lt-ltb, le-ltb, eq-eqb, ne-eqb}
 use Rattle.base.proofs.Cases.{by-eq, picked, unpicked}
-use Rattle.model.specs.Limits.{maxNodes}
+use Rattle.model.specs.Limits.{mostNodes}
 use Rattle.sheets.specs.Notes.{listMark}
 use Rattle.sheets.specs.Told.{rowBy, rowAt, startPart, endPart, thirdPart, Countable}
 use Rattle.splice.specs.Moved.{span, hinting, movedNote, grownNote, Moving, Growing, holds, Growable, Growths, Shiftable, Shifted, Renotable, Renoted}
@@ -57,7 +57,7 @@ pub record Around (notes : List ℕ) (node l l′ : ℕ) (cur : List ℕ) (j : �
   pub given : Growable notes node l l′
   pub inside : j ≤ node
   pub fits : node ≤ length cur
-  pub few : node ≤ maxNodes
+  pub few : node ≤ mostNodes
   pub is : Growths notes node l l′ j cur
 
 module _ (notes : List ℕ) (node l l′ : ℕ) where

@@ -11,7 +11,7 @@ use lib.Dec.{ltb}
 use borrow.Author.Tests.{lt-ltb, le-ltb, eq-eqb, ne-eqb}
 use Rattle.base.proofs.Cases.{by-bool, by-eq, by-le, picked, unpicked, differ}
 use Rattle.model.specs.Edit.{replace}
-use Rattle.model.specs.Limits.{maxNodes, maxSource}
+use Rattle.model.specs.Limits.{mostNodes, maxSource}
 use Rattle.model.specs.Table.{Row, plainRow, rows, rowOf}
 use Rattle.model.specs.Tree.{Tree, plain, hinted, list, Forest, canon, nodes}
 use Rattle.walk.proofs.Tabled.{rows-length}
@@ -203,7 +203,7 @@ module _ (t : Tree) (k : ℕ) (inside : k < nodes t) (u : Tree) (one : nodes u �
       let x = kept-small (startPart note) (endPart note) (thirdPart note) (rowOf u 0) (omega arith) (omega arith) (omega arith) (holds-row (note ∷ []) 1 u n 0 (omega arith)) in
       omega (arith, x, held-at (note ∷ []) 1 u n 0 (omega arith))
 
-  pub renotable : count ≤ maxNodes → l ≤ maxSource → Renotable notes k count start l l′ note
+  pub renotable : count ≤ mostNodes → l ≤ maxSource → Renotable notes k count start l l′ note
   renotable few long =
       let s : start ≤ maxSource = omega (arith, entry-in t k inside .0, entry-in t k inside .1) in
       record {

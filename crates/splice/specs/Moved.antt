@@ -6,7 +6,7 @@ use mathlib.Core.List.{List}
 use lib.ListN.{length, getD}
 use lib.Dec.{eqb, ltb}
 use Rattle.base.specs.Choice.{pick}
-use Rattle.model.specs.Limits.{maxNodes, maxSource}
+use Rattle.model.specs.Limits.{mostNodes, maxSource}
 use Rattle.sheets.specs.Notes.{listMark}
 use Rattle.sheets.specs.Places.{shift}
 use Rattle.sheets.specs.Told.{rowAt, thirdPart}
@@ -49,7 +49,7 @@ holds notes node i = ltb (node - i) ((rowAt notes i) .count)
 
 pub record Growable (notes : List ℕ) (node l l′ : ℕ) : Type 0 where
   pub fits : node ≤ length notes
-  pub few : node ≤ maxNodes
+  pub few : node ≤ mostNodes
   pub each : (i : ℕ) → i < node → Growing (getD notes i 0) (holds notes node i) l l′
 
 -- those before j are done
@@ -79,7 +79,7 @@ pub record Shifted (notes : List ℕ) (from to l l′ : ℕ) (after : List ℕ) 
 pub record Renotable (notes : List ℕ) (node count start l l′ note : ℕ) : Type 0 where
   pub inside : node < count
   pub fits : count ≤ length notes
-  pub few : count ≤ maxNodes
+  pub few : count ≤ mostNodes
   pub grows : (i : ℕ) → i < node → Growing (getD notes i 0) (holds notes node i) l l′
   pub entry : Moving note 0 start
   pub shifts : (i : ℕ) → node < i → i < count → Moving (getD notes i 0) l l′

@@ -10,7 +10,7 @@ use Rattle.model.specs.Edit.{replace}
 use Rattle.model.specs.Tree.{Tree, canon, nodes, depth}
 use Rattle.model.specs.Table.{width, rowOf, tableOf}
 use Rattle.model.specs.Decode.{decode₁}
-use Rattle.model.specs.Limits.{maxDepth, maxNodes, maxCanonical}
+use Rattle.model.specs.Limits.{maxDepth, mostNodes, maxCanonical}
 use Rattle.model.specs.Answers.{settled}
 use Rattle.sheets.specs.Told.{Holds}
 use Rattle.answers.specs.declared.Reading.{Reading}
@@ -56,7 +56,7 @@ pub record Reworkable (canonical notes : List ℕ) (old len count node start not
   pub oldLong : old ≡ length (canon tree)
   pub long : len ≡ length (canon (replace tree node text))
   pub is : decode₁ (take len canonical) ≡ some (replace tree node text)
-  pub few : count ≤ maxNodes
+  pub few : count ≤ mostNodes
   pub short : len ≤ maxCanonical
   pub oldShort : old ≤ maxCanonical
   pub lent : len ≤ length canonical
@@ -81,7 +81,7 @@ pub record Rewritten (canonical : List ℕ) (old len count : ℕ) (canonical′ 
 pub record Retellable (notes : List ℕ) (numbers held count : ℕ) : Type 0 where
   pub tree : Tree
   pub is : Holds notes count tree
-  pub few : (count ≤ maxNodes) × (held ≤ maxNodes)
+  pub few : (count ≤ mostNodes) × (held ≤ mostNodes)
   pub recorded : width * count ≤ numbers
   pub oldRecorded : width * held ≤ numbers
 

@@ -1,5 +1,5 @@
 use native.Mathlib.Omega.{arith}
-use Rattle.extract.proofs.Giving.{note-beyond, note-long, note-deep, note-many, note-whole, note-none}
+use Rattle.extract.proofs.Giving.{note-beyond, note-long, note-deep, note-whole, note-none}
 use Rattle.lookup.proofs.Sheets.{front-short}
 use Rattle.base.proofs.Lists.{front-length}
 use borrow.Author.Needs.{needs}
@@ -22,15 +22,12 @@ returns-3 : tie.Need-returns-3
 returns-3 c = search (note-deep, arith)
 
 returns-4 : tie.Need-returns-4
-returns-4 c = search (note-many, arith)
+returns-4 c =
+    note-whole _ _ _ _ _ (c .before .before .before .before .note .ensures) (c .before .before .before .before .before .before .before .before .if1 .left) _ _ _ (c .before .before .nodes .given .1)
+    (search needs) (search needs) (search needs)
 
 returns-5 : tie.Need-returns-5
-returns-5 c =
-    note-whole _ _ _ _ _ (c .before .before .before .before .before .note .ensures) (c .before .before .before .before .before .before .before .before .before .if1 .left) _ _ _ (c .before .before .before .nodes .given .1)
-    (search needs) (search needs) (search needs) (search needs)
-
-returns-6 : tie.Need-returns-6
-returns-6 c = search (note-none, arith)
+returns-5 c = search (note-none, arith)
 
 pub note-spec : {M : Type 1} → statement M
 note-spec =
@@ -42,7 +39,6 @@ note-spec =
     note-requires
     (λ c. search needs)
     returns-3
-    returns-4
     (λ c. search needs)
-    returns-5
-    returns-6)
+    returns-4
+    returns-5)

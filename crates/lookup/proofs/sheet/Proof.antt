@@ -1,5 +1,5 @@
 use Rattle.base.proofs.Lists.{front-length}
-use Rattle.lookup.proofs.Sheets.{front-short, sheet-beyond, sheet-long, sheet-deep, sheet-whole, sheet-none}
+use Rattle.lookup.proofs.Sheets.{front-short, sheet-beyond, sheet-long, sheet-whole, sheet-none}
 use native.Mathlib.Omega.{arith}
 use borrow.Author.Needs.{needs}
 use Rattle.lookup.proofs.sheet.Statement.{statement}
@@ -18,13 +18,10 @@ measure-requires : tie.Need-measure-requires
 measure-requires c κs = search (front-short, arith)
 
 returns-3 : tie.Need-returns-3
-returns-3 c = search (sheet-deep, arith)
+returns-3 c = search (sheet-whole, arith)
 
 returns-4 : tie.Need-returns-4
-returns-4 c = search (sheet-whole, arith)
-
-returns-5 : tie.Need-returns-5
-returns-5 c = search (sheet-none, arith)
+returns-4 c = search (sheet-none, arith)
 
 pub sheet-spec : {M : Type 1} → statement M
 sheet-spec =
@@ -35,7 +32,6 @@ sheet-spec =
     slice-aggregate-part
     measure-requires
     (λ c. search needs)
-    returns-3
     (λ c. search needs)
-    returns-4
-    returns-5)
+    returns-3
+    returns-4)

@@ -47,7 +47,7 @@ use Rattle.answers.specs.declared.Place.{Place}
 use Rattle.answers.proofs.Place as P
 use Rattle.answers.proofs.Place.Laws as P′
 use Rattle.lookup.specs.Noted.{Sheeted, Owning, Readables, Shows}
-use Rattle.model.specs.Limits.{maxNodes}
+use Rattle.model.specs.Limits.{mostNodes}
 use Rattle.records.specs.declared.Record.{Record}
 use Rattle.records.specs.Numbers.{numbers, placeOf}
 use Rattle.records.specs.Told.{Comparable}
@@ -212,7 +212,7 @@ module _ {M : Type 1} (𝓤 : URA M) (H : Heap 𝓤) (A : Atoms 𝓤) (W : Given
         qed W ((‵ (flft κ₀ q₀) ⊛ ‵ (flft κ₁ q₁) ⊛ ‵ ftrue) ∷ ‵ (owns (ShrSlice (named 0) κ₀ u8 ∷ usize ∷ ShrSlice (named 1) κ₁ T.the-row ∷ usize ∷ usize ∷ bool ∷ []) a vals) ∷ []) ∵ enter ! C Λ code.function (sc ∷ vint w64 len ∷ sr ∷ vint w64 nodes ∷ vint w64 node ∷ vbool hinted ∷ []) _ $
         alloc1 ! (λ l₀. alloc1 ! (λ l₁. alloc1 ! (λ l₂. alloc1 ! (λ l₃. alloc1 ! (λ l₄. alloc1 ! (λ l₅. alloc1 ! (λ l₆. alloc1 ! (λ l₇. alloc1 ! (λ l₈. alloc1 ! (λ l₉. alloc1 ! (λ l₁₀. alloc1 ! (λ l₁₁. alloc1 ! (λ l₁₂. alloc1 ! (λ l₁₃. alloc0 ! $ params1 ! $
         pass1 ! (init ! 24 refl (tt, (tt, (record { fits = room₀ .0 }, tt)))) $ pass1 ! (init ! 22 refl (tt, record { fits = len-fits })) $ pass1 ! (init ! 20 refl (tt, (tt, (record { fits = room₁ .0 }, tt)))) $ pass1 ! (init ! 18 refl (tt, record { fits = nodes-fits })) $ pass1 ! (init ! 16 refl (tt, record { fits = node-fits })) $ pass1 ! (init ! 14 refl (tt, tt)) $ pass0 ! $
-        assigns ! (rep ! maxNodes (lit ! tt)) (from ! (stop !)) (init ! 12 refl (zeros-typed 𝓤 H A W)) $
+        assigns ! (rep ! mostNodes (lit ! tt)) (from ! (stop !)) (init ! 12 refl (zeros-typed 𝓤 H A W)) $
         move ! (12 ∷ []) $ use1 W (‵ (partAt Notes fullShare zeros l₇ 0)) (zeroed 𝓤 H A W l₇) $ move ! (29 ∷ []) $ fsplit ! $ move ! (1 ∷ []) $ fsplit ! $ move ! (1 ∷ []) $ fsplit ! $ move ! (32 ∷ []) $ split ! $ move ! (1 ∷ []) $ split ! $
         keep ! (6 ∷ 3 ∷ 2 ∷ 0 ∷ 8 ∷ 9 ∷ 10 ∷ 11 ∷ 12 ∷ 13 ∷ 14 ∷ 15 ∷ 16 ∷ 17 ∷ 18 ∷ 19 ∷ 7 ∷ 20 ∷ 21 ∷ 22 ∷ 23 ∷ 24 ∷ 25 ∷ 26 ∷ 27 ∷ 28 ∷ 29 ∷ 30 ∷ 31 ∷ 32 ∷ 33 ∷ 34 ∷ []) $ notes-it l₀ l₁ l₂ l₃ l₄ l₅ l₆ l₇ l₈ l₉ l₁₀ l₁₁ l₁₂ l₁₃))))))))))))))
 

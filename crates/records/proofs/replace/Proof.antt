@@ -49,7 +49,7 @@ use Rattle.answers.proofs.Reading.Laws as R′
 use Rattle.records.specs.declared.Record.{Record}
 use Rattle.records.specs.Numbers.{numbers}
 use Rattle.records.specs.Told.{countOf, touched, told, Tells, Comparable}
-use Rattle.model.specs.Limits.{maxNodes}
+use Rattle.model.specs.Limits.{mostNodes}
 use Rattle.lookup.specs.Noted.{Sheeted}
 use Rattle.plan.specs.Planned.{Known, Lends}
 use Rattle.records.proofs.Facts.{is-unit, is-bool}
@@ -249,7 +249,7 @@ module _ {M : Type 1} (𝓤 : URA M) (H : Heap 𝓤) (A : Atoms 𝓤) (W : Given
         qed W ((‵ (flft κ₀ q₀) ⊛ ‵ (flft κ₁ q₁) ⊛ ‵ (flft κ₂ q₂) ⊛ ‵ ftrue) ∷ ‵ (owns (u32 ∷ ShrSlice (named 0) κ₀ u8 ∷ MutSlice (named 1) κ₁ u8 ∷ MutSlice (named 2) κ₂ T.the-row ∷ usize ∷ usize ∷ usize ∷ []) a vals) ∷ []) ∵ enter ! C Λ code.function (vint w32 form ∷ ss ∷ sc ∷ sr ∷ vint w64 len ∷ vint w64 nodes ∷ vint w64 node ∷ []) _ $
         alloc1 ! (λ l₀. alloc1 ! (λ l₁. alloc1 ! (λ l₂. alloc1 ! (λ l₃. alloc1 ! (λ l₄. alloc1 ! (λ l₅. alloc1 ! (λ l₆. alloc1 ! (λ l₇. alloc1 ! (λ l₈. alloc1 ! (λ l₉. alloc1 ! (λ l₁₀. alloc1 ! (λ l₁₁. alloc1 ! (λ l₁₂. alloc1 ! (λ l₁₃. alloc1 ! (λ l₁₄. alloc1 ! (λ l₁₅. alloc1 ! (λ l₁₆. alloc1 ! (λ l₁₇. alloc1 ! (λ l₁₈. alloc1 ! (λ l₁₉. alloc1 ! (λ l₂₀. alloc1 ! (λ l₂₁. alloc1 ! (λ l₂₂. alloc1 ! (λ l₂₃. alloc1 ! (λ l₂₄. alloc1 ! (λ l₂₅. alloc0 ! $ params1 ! $
         pass1 ! (init ! 48 refl (tt, record { fits = form-fits })) $ pass1 ! (init ! 46 refl (tt, (tt, (record { fits = room₀ .0 }, tt)))) $ pass1 ! (init ! 44 refl (tt, (tt, (record { fits = room₁ .0 }, tt)))) $ pass1 ! (init ! 42 refl (tt, (tt, (record { fits = room₂ .0 }, tt)))) $ pass1 ! (init ! 40 refl (tt, record { fits = len-fits })) $ pass1 ! (init ! 38 refl (tt, record { fits = nodes-fits })) $ pass1 ! (init ! 36 refl (tt, record { fits = node-fits })) $ pass0 ! $
-        assigns ! (rep ! maxNodes (lit ! tt)) (from ! (stop !)) (init ! 34 refl (zeros-typed 𝓤 H A W)) $ move ! (34 ∷ []) $ use1 W (‵ (partAt Notes fullShare zeros l₈ 0)) (zeroed 𝓤 H A W l₈) $
+        assigns ! (rep ! mostNodes (lit ! tt)) (from ! (stop !)) (init ! 34 refl (zeros-typed 𝓤 H A W)) $ move ! (34 ∷ []) $ use1 W (‵ (partAt Notes fullShare zeros l₈ 0)) (zeroed 𝓤 H A W l₈) $
         move ! (53 ∷ []) $ fsplit ! $ move ! (1 ∷ []) $ fsplit ! $ move ! (1 ∷ []) $ fsplit ! $ move ! (1 ∷ []) $ fsplit ! $ move ! (57 ∷ []) $ split ! $ move ! (1 ∷ []) $ split ! $ move ! (1 ∷ []) $ split ! $
         keep ! (4 ∷ 6 ∷ 7 ∷ 3 ∷ 2 ∷ 0 ∷ 10 ∷ 11 ∷ 12 ∷ 13 ∷ 14 ∷ 15 ∷ 16 ∷ 17 ∷ 18 ∷ 19 ∷ 20 ∷ 21 ∷ 22 ∷ 23 ∷ 24 ∷ 25 ∷ 26 ∷ 27 ∷ 28 ∷ 29 ∷ 30 ∷ 31 ∷ 32 ∷ 33 ∷ 34 ∷ 35 ∷ 36 ∷ 37 ∷ 38 ∷ 39 ∷ 40 ∷ 41 ∷ 42 ∷ 43 ∷ 9 ∷ 44 ∷ 45 ∷ 46 ∷ 47 ∷ 48 ∷ 49 ∷ 50 ∷ 51 ∷ 52 ∷ 53 ∷ 54 ∷ 55 ∷ 56 ∷ 57 ∷ 58 ∷ 59 ∷ 60 ∷ []) $ notes-it l₀ l₁ l₂ l₃ l₄ l₅ l₆ l₇ l₈ l₉ l₁₀ l₁₁ l₁₂ l₁₃ l₁₄ l₁₅ l₁₆ l₁₇ l₁₈ l₁₉ l₂₀ l₂₁ l₂₂ l₂₃ l₂₄ l₂₅))))))))))))))))))))))))))
 

@@ -49,7 +49,7 @@ fn padded(text: &[u8], size: usize) -> Vec<u8> {
 
 fn depths() -> Vec<Case> {
     let mut cases = Vec::new();
-    for depth in [MAX_DEPTH, MAX_DEPTH + 1] {
+    for depth in [MAX_DEPTH - 1, MAX_DEPTH, MAX_DEPTH + 1] {
         let lists = nested(depth);
         cases.extend([1, 2, 3].map(|form| read(form, &lists)));
         cases.push(read(2, &in_braces(&lists)));
@@ -61,26 +61,38 @@ fn depths() -> Vec<Case> {
         cases.push(read(1, &lists[..depth]));
         cases.push(read(3, &lists[..2 * depth - 1]));
         cases.push(read(3, &[&lists[..], b")"].concat()));
-        cases.push(make::write(3, &lists, 100));
+        cases.push(make::write(3, &lists, 2 * MAX_DEPTH + 10));
     }
     cases.push(read(3, &nested(MAX_SOURCE / 2)));
     cases.push(read(1, &vec![b'('; MAX_SOURCE / 8]));
     cases
 }
 
+/// As many nodes as the octets hold, around it, with records lent exactly, one
+/// fewer and one more. One node over is over in octets too, so that records
+/// alone decide between 5 and 6.
 fn counts() -> Vec<Case> {
-    let most = empties(MAX_NODES - 1);
     let over = empties(MAX_NODES);
     let deep_and_over = [&nested(MAX_DEPTH)[..MAX_DEPTH], &over, &[b')'; MAX_DEPTH]].concat();
-    vec![
-        read_into(1, &most, most.len(), MAX_NODES * RECORD),
-        read_into(1, &most, most.len(), MAX_NODES * RECORD - 1),
-        read(1, &over),
+    let mut cases = Vec::new();
+    for nodes in MAX_NODES - 2..=MAX_NODES + 1 {
+        let text = empties(nodes - 1);
+        for records in [nodes - 1, nodes, nodes + 1] {
+            cases.push(read_into(1, &text, MAX_CANONICAL, records * RECORD));
+        }
+    }
+    cases.extend([
+        // A number is missing to the last record.
+        read_into(
+            1,
+            &empties(MAX_NODES - 1),
+            MAX_CANONICAL,
+            MAX_NODES * RECORD - 1,
+        ),
         read(1, &over[..over.len() - 1]),
         read(1, &deep_and_over),
-        // Over in nodes and in octets.
-        read(1, &empties(MAX_CANONICAL / 2)),
-    ]
+    ]);
+    cases
 }
 
 fn lengths() -> Vec<Case> {
@@ -110,7 +122,8 @@ fn writes() -> Vec<Case> {
         make::write(3, &quotes, 2 * FULL + 2),
         make::write(1, &verbatim(0, FULL + 1), 20_000),
         make::write(1, &empties(MAX_NODES), 20_000),
-        make::write(3, &empties(MAX_NODES - 1), 20_000),
+        // Each `0:` goes out as two quotes and a space.
+        make::write(3, &empties(MAX_NODES - 1), 3 * MAX_NODES),
     ]
 }
 
@@ -122,12 +135,13 @@ fn replaces() -> Vec<Case> {
     };
     let full = layout(&verbatim(b'n', FULL));
     let deepest = layout(&nested(MAX_DEPTH));
-    let room = make::pair_in(&deepest, 200, 400);
+    let room = make::pair_in(&deepest, 3 * MAX_DEPTH, 2 * MAX_DEPTH * RECORD);
     vec![
         wide(&padded(b"3:abc", MAX_SOURCE)),
-        // Without node 1 it has two nodes and five octets.
+        // Without node 1 it has two nodes and five octets; with the text,
+        // 16,383 octets, and then two too many.
+        wide(&empties(MAX_NODES - 4)),
         wide(&empties(MAX_NODES - 3)),
-        wide(&empties(MAX_NODES - 2)),
         wide(&verbatim(b'm', FULL - 5)),
         wide(&verbatim(b'm', FULL - 4)),
         wide(&nested(MAX_DEPTH - 1)),

@@ -39,8 +39,8 @@ fn filled_up(rng: &mut Rng, tree: &Tree) -> Vec<u8> {
     text
 }
 
-/// As many nodes as may be, or one more, in the shortest spellings; sometimes
-/// bad at the very end.
+/// As many nodes as the octets hold, or one more, in the shortest spellings;
+/// sometimes bad at the very end.
 fn many_nodes(rng: &mut Rng) -> Case {
     let count = MAX_NODES - 1 + rng.below(2);
     let mut text = vec![b'('];
@@ -94,14 +94,17 @@ fn grown_to_full(rng: &mut Rng) -> Case {
     make::replace(rng.pick(&[1, 2, 3]), &text, pair, node as u64)
 }
 
-/// A replacement that brings the nodes to the most, or one over.
+/// A replacement that brings the nodes to the most that the octets hold beside
+/// what stays, or one over.
 fn grown_to_many(rng: &mut Rng) -> Case {
     let mut items = vec![Tree::List(Vec::new())];
     items.extend((0..rng.below(6)).map(|_| trees::string(rng)));
     let layout = Tree::List(items).layout();
     let stays = layout.records.len() - 1;
-    let text = empties(MAX_NODES - stays - 1 + rng.below(2));
-    let numbers = (MAX_NODES + rng.below(3)) * RECORD - rng.below(2) * rng.below(9);
+    let room = MAX_CANONICAL - (layout.octets.len() - 2);
+    let text = empties(room / 2 - 1 + rng.below(2));
+    let nodes = stays + room / 2;
+    let numbers = (nodes + rng.below(3)) * RECORD - rng.below(2) * rng.below(9);
     let pair = make::pair_in(&layout, 16_400, numbers);
     make::replace(CANONICAL, &text, pair, 1)
 }

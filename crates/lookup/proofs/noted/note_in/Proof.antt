@@ -1,4 +1,4 @@
-use Rattle.lookup.proofs.Noting.{unnoted-beyond, unnoted-long, unnoted-many, unnoted-unlent, unnoted-other, unnoted-deep, noted-whole, unnoted-none}
+use Rattle.lookup.proofs.Noting.{unnoted-beyond, unnoted-long, unnoted-unlent, unnoted-other, unnoted-deep, noted-whole, unnoted-none}
 use Rattle.lookup.proofs.Sheets.{front-short}
 use Rattle.base.proofs.Lists.{front-length}
 use native.Mathlib.Omega.{arith}
@@ -13,10 +13,7 @@ returns-2 : tie.Need-returns-2
 returns-2 c = search (unnoted-long, arith)
 
 returns-3 : tie.Need-returns-3
-returns-3 c = search (unnoted-many, arith)
-
-returns-4 : tie.Need-returns-4
-returns-4 c = search (unnoted-unlent, arith)
+returns-3 c = search (unnoted-unlent, arith)
 
 slice-aggregate-part : tie.Need-slice-aggregate-part
 slice-aggregate-part c = search (front-length, arith)
@@ -24,17 +21,17 @@ slice-aggregate-part c = search (front-length, arith)
 note-requires : tie.Need-note-requires
 note-requires c κs = search (front-short, arith)
 
+returns-4 : tie.Need-returns-4
+returns-4 c = search (unnoted-other, arith)
+
 returns-5 : tie.Need-returns-5
-returns-5 c = search (unnoted-other, arith)
+returns-5 c = search (unnoted-deep, arith)
 
 returns-6 : tie.Need-returns-6
-returns-6 c = search (unnoted-deep, arith)
+returns-6 c = noted-whole _ _ _ _ _ _ _ (c .before .before .before .before .before .before .before .note .ensures) (c .before .before .before .before .before .before .before .before .before .before .before .before .if1 .left) _ _ _ (c .before .before .before .count .given .1) (search needs) (search needs) (search needs) (search needs) (search needs)
 
 returns-7 : tie.Need-returns-7
-returns-7 c = noted-whole _ _ _ _ _ _ _ (c .before .before .before .before .before .before .before .note .ensures) (c .before .before .before .before .before .before .before .before .before .before .before .before .before .if1 .left) _ _ _ (c .before .before .before .count .given .1) (search needs) (search needs) (search needs) (search needs) (search needs) (search needs)
-
-returns-8 : tie.Need-returns-8
-returns-8 c = search (unnoted-none, arith)
+returns-7 c = search (unnoted-none, arith)
 
 pub note-in-spec : {M : Type 1} → statement M
 note-in-spec =
@@ -43,16 +40,15 @@ note-in-spec =
     returns
     returns-2
     returns-3
-    returns-4
     slice-aggregate-part
     note-requires
     (λ c. search needs)
     (λ c. search needs)
+    returns-4
+    (λ c. search needs)
     returns-5
+    (λ c. search needs)
     (λ c. search needs)
     returns-6
     (λ c. search needs)
-    (λ c. search needs)
-    returns-7
-    (λ c. search needs)
-    returns-8)
+    returns-7)
