@@ -49,24 +49,19 @@
  *   etg_line                  67,848
  *   etg_line_records          67,816
  *   etg_total                     72
- *   etg_week                  33,536
- *   etg_week_records          33,520
- *   etg_extract              100,720
- *   etg_extract_own          100,720
- *   etg_extract_records      100,704
- *   etg_extract_own_records  100,704
- *   etg_split                    184
  *   etg_week                  67,848
  *   etg_week_records          67,832
  *   etg_extract              136,568
  *   etg_extract_own          136,568
  *   etg_extract_records      136,552
  *   etg_extract_own_records  136,552
+ *   etg_split                    184
  *
  * Refusals. Every function but those that find a hint or data, that split a
  * run of sheets, or that go on with an addition to a spool, returns one of
- * these numbers. In a refusal the values given out are 0, but for `*bad` of etg_week with 12 and for the state
- * of a refused start, and every lent buffer holds what it held.
+ * these numbers. In a refusal the values given out are 0, but for `*bad` of
+ * etg_week with 12 and for the state of a refused start, and every lent buffer
+ * holds what it held.
  */
 #ifndef ETGLAVINO_H
 #define ETGLAVINO_H
