@@ -2,10 +2,14 @@ pub mod Join
 pub mod Fill
 pub mod Rows
 pub mod Find
+pub mod Inside
 pub mod Whole
+pub mod Hop
 pub mod Sides
 pub mod Moved
+pub mod Changed
 pub mod Levels
+pub mod Changes
 pub mod Holds
 pub mod Demand
 mod Examples

@@ -78,7 +78,7 @@ pub record HeadRow (t : Tree) (at : ℕ) (r : Row) : Type 0 where
   pub end : r .end ≡ at + length (canon t)
   pub count : r .count ≡ nodes t
 
-head-row : (t : Tree) (at : ℕ) (rest : List Row) → HeadRow t at (getD (rows t at ++ rest) 0 (plainRow 0 0 0))
+pub head-row : (t : Tree) (at : ℕ) (rest : List Row) → HeadRow t at (getD (rows t at ++ rest) 0 (plainRow 0 0 0))
 unfolding rows canon nodes
 head-row (plain d) at rest = record { start = refl; end = refl; count = refl }
 head-row (hinted h d) at rest = record { start = refl; end = simp length-append (omega arith); count = refl }
