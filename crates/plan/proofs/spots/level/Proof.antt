@@ -2,8 +2,8 @@ use mathlib.Core.Logic.{⊎-elim}
 use native.Mathlib.Omega.{arith}
 use Rattle.plan.proofs.Levelling.{Levelling, level-held, level-aside, level-start, level-countable, level-end}
 use Prim.Native.Nat.{_-_}
-use Rattle.plan.proofs.level.Statement.{statement}
-use Rattle.plan.proofs.level.Tie as tie
+use Rattle.plan.proofs.spots.level.Statement.{statement}
+use Rattle.plan.proofs.spots.level.Tie as tie
 
 abbrev Inv-loop : tie.InvT-loop
 Inv-loop notes node level₀ j₀ level j = Levelling notes node level j
