@@ -17,12 +17,13 @@ use Rattle.reader.specs.Stored.{roomVerdict}
 use Rattle.reader.proofs.Rooms.{rooms}
 use Rattle.sheets.specs.Told.{Holds}
 use Rattle.lookup.proofs.Sheets.{tree-of, none-of}
-use Rattle.plan.specs.Asked.{changed, nodeOf, placeless, placing, changeChecks, changeTree}
+use Rattle.plan.specs.Asked.{changed, texted, nodeOf, placeless, placing, changeChecks, changeTree}
 use Rattle.plan.specs.Spots.{Refusing}
 use Rattle.plan.specs.declared.Asked.{Asked}
+use Rattle.plan.specs.declared.Asked.the-variants.{Replace, Insert, Remove}
 
 module _ (a : Asked) (canonical : List ℕ) (len : ℕ) (table : List ℕ) (count : ℕ) where
-  not-own : ownTree canonical len table count ≡ none → (u : Tree) → changeTree a (some u) canonical len table count ≡ unchanged 7 canonical table
+  pub not-own : ownTree canonical len table count ≡ none → (u : Tree) → changeTree a (some u) canonical len table count ≡ unchanged 7 canonical table
   unfolding changeTree changeChecks isNone
   not-own e u =
       judged-refused _ _ _ 7
@@ -30,7 +31,7 @@ module _ (a : Asked) (canonical : List ℕ) (len : ℕ) (table : List ℕ) (coun
       (omega arith)
 
   module _ (t : Tree) (e : ownTree canonical len table count ≡ some t) (u : Tree) where
-    no-node : count ≤ nodeOf a → changeTree a (some u) canonical len table count ≡ unchanged 8 canonical table
+    pub no-node : count ≤ nodeOf a → changeTree a (some u) canonical len table count ≡ unchanged 8 canonical table
     unfolding changeTree changeChecks isNone
     no-node h =
         judged-refused _ _ _ 8
@@ -52,7 +53,7 @@ module _ (a : Asked) (canonical : List ℕ) (len : ℕ) (table : List ℕ) (coun
           ∙ verdict-past 7 (isNone (ownTree canonical len table count)) _ (ap isNone e)
           ∙ verdict-past 8 (leb count (nodeOf a)) _ (lt-leb _ _ h)
 
-      no-place : placeless a t ≡ true → changeTree a (some u) canonical len table count ≡ unchanged 9 canonical table
+      pub no-place : placeless a t ≡ true → changeTree a (some u) canonical len table count ≡ unchanged 9 canonical table
       unfolding changeTree
       no-place p = judged-refused _ _ _ 9 (to-place ∙ verdict-here 9 (placeless a (the (ownTree canonical len table count))) _ (place-of true p)) (omega arith)
 
@@ -87,3 +88,16 @@ module _ (notes : List ℕ) (count : ℕ) (a : Asked) where
 
   pub refuse-placeless : nodeOf a < count → ((t : Tree) → Holds notes count t → placeless a t ≡ true) → Refusing notes count true a 9
   refuse-placeless h p = record { is = λ c len table e g u. tree-of (ownTree c len table count) e (λ t i. no-place a c len table count t i u h (p t (g t i))) }
+
+-- ---- whether a text comes
+pub text-replace : (a : Asked) (node : ℕ) → a ≡ Replace node → true ≡ texted a
+unfolding texted
+text-replace a node e = sym (ap texted e)
+
+pub text-insert : (a : Asked) (node k : ℕ) → a ≡ Insert node k → true ≡ texted a
+unfolding texted
+text-insert a node k e = sym (ap texted e)
+
+pub text-remove : (a : Asked) (node : ℕ) → a ≡ Remove node → false ≡ texted a
+unfolding texted
+text-remove a node e = sym (ap texted e)

@@ -4,3 +4,4 @@ pub mod Finding
 pub mod Spotting
 pub mod Resizing
 pub mod Planning
+pub mod Removing

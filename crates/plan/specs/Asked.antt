@@ -1,7 +1,7 @@
 -- What is asked of a sheet, and what it answers: a node gives way to a text's tree (01, "correcting"), a text's tree comes into a list,
 -- or a node is removed (02, Ask 5). One list of checks and one new tree for all three.
 use Prim.Native.Nat.{ℕ}
-use mathlib.Core.Bool.{Bool, false}
+use mathlib.Core.Bool.{Bool, true, false}
 use mathlib.Core.Option.{Option}
 use mathlib.Core.List.{List, _∷_}
 use lib.Dec.{leb, eqb}
@@ -26,6 +26,12 @@ unfoldable pub given : Asked → Tree → Forest
 given (Replace node) u = one u
 given (Insert node k) u = one u
 given (Remove node) u = nil
+
+-- 02, "a removal has no text to judge"
+unfoldable pub texted : Asked → Bool
+texted (Replace node) = true
+texted (Insert node k) = true
+texted (Remove node) = false
 
 -- the node that row 8 speaks of
 unfoldable pub nodeOf : Asked → ℕ

@@ -4,6 +4,7 @@
 mod spots; // spots.rt: where a change takes place
 
 ghost use mathlib.Core.Path.{_≡_};
+ghost use Rattle.plan.specs.Asked.{texted};
 ghost use Rattle.plan.specs.Planned.{Known, Small, Resizable, resized, Plans};
 use spots::find;
 
@@ -48,6 +49,17 @@ pub enum Plan {
     Misfit {
         number: u32,
     },
+}
+
+// Whether a text comes with it.
+pub fn has_text(asked: Asked) -> bool
+    ensures { λ r. ⌜ r ≡ texted asked ⌝ }
+{
+    match asked {
+        Asked::Replace { node: _ } => true,
+        Asked::Insert { node: _, k: _ } => true,
+        Asked::Remove { node: _ } => false,
+    }
 }
 
 // The sizes of a tree of which a part gives way to what has the sizes given. The old tree fits, so that the new one is too deep
