@@ -51,8 +51,8 @@ use Rattle.plan.specs.declared.Plan.{Plan}
 use Rattle.plan.specs.declared.Plan.the-variants.{Fits, Misfit}
 
 same-outcome : {a a′ b b′ : ℕ} {c c′ d d′ : List ℕ} → a ≡ a′ → b ≡ b′ → c ≡ c′ → d ≡ d′
-    → _≡_ {A = Outcome} (record { accepted = true; number = Accepted; octets = a; count = b; canonical = c; table = d }) (record { accepted = true; number = Accepted; octets = a′; count = b′; canonical = c′; table = d′ })
-same-outcome p q r s = λ i. record { accepted = true; number = Accepted; octets = p i; count = q i; canonical = r i; table = s i }
+    → _≡_ {A = Outcome} (record { accepted = true; number = Accepted; place = 0; octets = a; count = b; canonical = c; table = d }) (record { accepted = true; number = Accepted; place = 0; octets = a′; count = b′; canonical = c′; table = d′ })
+same-outcome p q r s = λ i. record { accepted = true; number = Accepted; place = 0; octets = p i; count = q i; canonical = r i; table = s i }
 
 -- what stands at the front of scratch decides the new tree
 changed-by : (a : Asked) (t u v : Tree) → canons (given a u) ≡ canons (given a v) → changed a t u ≡ changed a t v
