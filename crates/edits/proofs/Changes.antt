@@ -23,6 +23,8 @@ use Rattle.edits.proofs.Find.{across-here, across-in, nodes-pos}
 use Rattle.edits.proofs.Inside.{nth, within-at, nth-nil, nth-put, within-fill, nth-level, within-number, within-before, within-level, nth-all, nth-inside}
 use Rattle.edits.proofs.Hop.{hop, nth-start, within-start}
 use Rattle.edits.proofs.Levels.{level-holders}
+use Rattle.edits.proofs.Changed.{change-at}
+use Rattle.edits.proofs.Gives.{gives-way}
 use Rattle.edits.proofs.Moved.{record-new}
 use Rattle.edits.proofs.Rows.{lead-length}
 use Rattle.edits.proofs.Whole.{nodess-one, rowss-one, rows-at, row-first, moves-at, locate, count-at, length-at, replaced-at}
@@ -50,28 +52,16 @@ module _ (t : Tree) (node : ℕ) (h : node < nodes t) where
   around = holders (take node (rows t 0)) 0 node
 
   -- ---- the node gives way
-  gives-way : (t' : Tree) (g : Forest) → one t' ≡ fill ((locate t node h) .place) g → Change t t' node (entry .count) (entry .start) (entry .end - entry .start) around g
-  gives-way t' g e =
-      let a = locate t node h in
-      record {
-        place = a .place;
-        old = one (a .node);
-        was = a .is;
-        is = e;
-        at = a .num;
-        some = count-at t node h;
-        start = sym (a .start);
-        long = length-at t node h;
-        deep = sym (level-holders t node h);
-      }
+  node-change : (t' : Tree) (g : Forest) → one t' ≡ fill ((locate t node h) .place) g → Change t t' node (entry .count) (entry .start) (entry .end - entry .start) around g
+  node-change t' g e = change-at (gives-way t node h t' g e) (sym (level-holders t node h))
 
   -- to another tree
   pub replace-change : (u : Tree) → Change t (replace t node u) node (entry .count) (entry .start) (entry .end - entry .start) around (one u)
-  replace-change u = gives-way (replace t node u) (one u) (replaced-at t node h u)
+  replace-change u = node-change (replace t node u) (one u) (replaced-at t node h u)
 
   -- to nothing
   pub remove-change : 0 < node → Change t (remove t node) node (entry .count) (entry .start) (entry .end - entry .start) around nil
-  remove-change p = gives-way (remove t node) nil (remove-across t node p h ∙ (locate t node h) .edited (λ (x : Tree). nil))
+  remove-change p = node-change (remove t node) nil (remove-across t node p h ∙ (locate t node h) .edited (λ (x : Tree). nil))
 
   -- ---- the node's own row
   abbrev p : Place
@@ -106,7 +96,7 @@ module _ (t : Tree) (node : ℕ) (h : node < nodes t) where
         let a = locate t node h in
         let x : node + 1 + i ≡ number p + suc i = omega (arith, a .num) in
         ap (rowOf t) x
-        ∙ record-new t t (number p) _ (length (before p)) _ (one (list f)) (moves-at t t p (one (list f)) (one (list f)) is-list is-list) (suc i) (omega (arith, nodess-one (list f)))
+        ∙ record-new (moves-at t t p (one (list f)) (one (list f)) is-list is-list) (suc i) (omega (arith, nodess-one (list f)))
         ∙ ap (λ (r : List Row). getD r (suc i) (plainRow 0 0 0)) (rowss-one (list f) (length (before p)))
 
     pub list-placed : (k : ℕ) → placed (rowOf t) node k ≡ pick (leb k (elements f)) (some (node + 1 + number (nth f k))) none

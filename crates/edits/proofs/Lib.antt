@@ -7,9 +7,11 @@ pub mod Whole
 pub mod Hop
 pub mod Sides
 pub mod Moved
+pub mod Holds
 pub mod Changed
+pub mod Gives
 pub mod Levels
 pub mod Changes
-pub mod Holds
+pub mod Inserted
 pub mod Demand
 mod Examples
