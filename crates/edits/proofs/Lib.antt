@@ -4,8 +4,8 @@ pub mod Rows
 pub mod Find
 pub mod Inside
 pub mod Whole
-pub mod Hop
 pub mod Sides
+pub mod Hop
 pub mod Moved
 pub mod Holds
 pub mod Changed
