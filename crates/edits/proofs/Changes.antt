@@ -37,12 +37,12 @@ use Rattle.edits.proofs.Whole.{nodess-one, rowss-one, rows-at, row-firs
 abbrev kept-tree : (Tree → Tree) → Tree → Forest
 kept-tree e x = one (e x)
 
-insert-across : (t : Tree) (n k : ℕ) (u : Tree) → n < nodes t → one (insert t n k u) ≡ across (kept-tree (putIn k u)) (one t) n
+pub insert-across : (t : Tree) (n k : ℕ) (u : Tree) → n < nodes t → one (insert t n k u) ≡ across (kept-tree (putIn k u)) (one t) n
 unfolding insert join
 insert-across t zero k u h = sym (across-here (kept-tree (putIn k u)) t nil)
 insert-across t (suc n) k u h = sym (across-in (kept-tree (putIn k u)) t nil n h)
 
-remove-across : (t : Tree) (n : ℕ) → 0 < n → n < nodes t → one (remove t n) ≡ across (λ (x : Tree). nil) (one t) n
+pub remove-across : (t : Tree) (n : ℕ) → 0 < n → n < nodes t → one (remove t n) ≡ across (λ (x : Tree). nil) (one t) n
 unfolding remove
 remove-across t zero p h = absurd (omega arith)
 remove-across t (suc n) p h = sym (across-in (λ (x : Tree). nil) t nil n h)
@@ -86,7 +86,7 @@ module _ (t : Tree) (node : ℕ) (h : node < nodes t) where
     unfolding rows
     list-kind = ap (λ (r : Row). r .kind) (entry-row (list f) e)
 
-    list-count : entry .count ≡ 1 + nodess f
+    pub list-count : entry .count ≡ 1 + nodess f
     unfolding rows nodes
     list-count = ap (λ (r : Row). r .count) (entry-row (list f) e)
 

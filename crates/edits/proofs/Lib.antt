@@ -13,5 +13,6 @@ pub mod Gives
 pub mod Levels
 pub mod Changes
 pub mod Inserted
+pub mod Elements
 pub mod Demand
 mod Examples
