@@ -5,7 +5,7 @@ use mathlib.Core.Path.{_≡_, refl, sym, ap, _∙_}
 use mathlib.Core.Bool.{Bool, true, false}
 use mathlib.Core.List.{List, [], _∷_, _++_}
 use mathlib.Core.Option.{Option, none, some}
-use Rattle.base.specs.Choice.{isNone}
+use Rattle.base.specs.Choice.{pick, isNone}
 use Rattle.base.proofs.Cases.{by-bool, by-eq, picked, unpicked, untrue}
 use Rattle.model.specs.Answers.{Check, when, verdict, judged, Outcome, filled, unchanged}
 use Rattle.model.specs.Tree.{Tree}
@@ -69,6 +69,16 @@ past n t cs e f = verdict-past n t cs e ∙ f
 pub none-applies : verdict [] ≡ 0
 unfolding verdict
 none-applies = refl
+
+-- checks at the end of which none applies where none before them does
+one-more : (n : ℕ) (t : Bool) (v w : ℕ) → (t ≡ false → w ≡ v) → pick t n w ≡ pick t n v
+one-more n true v w f = refl
+one-more n false v w f = f refl
+
+pub no-more : (cs ds : List Check) → (verdict cs ≡ 0 → verdict ds ≡ 0) → verdict (cs ++ ds) ≡ verdict cs
+unfolding verdict
+no-more [] ds f = f refl
+no-more (c ∷ cs) ds f = one-more (c .row) (c .applies) (verdict cs) (verdict (cs ++ ds)) (λ e. no-more cs ds (λ v. f (unpicked _ _ e ∙ v)))
 
 pub there : {G : Type 0} (o : Option Tree) → isNone o ≡ false → ((t : Tree) → o ≡ some t → G) → G
 unfolding isNone
