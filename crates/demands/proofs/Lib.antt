@@ -12,6 +12,8 @@ pub mod Lent
 pub mod Space
 pub mod Inserting
 pub mod Removing
+pub mod Again
+pub mod Undone
 pub mod Stray
 pub mod Escapes
 pub mod Typed

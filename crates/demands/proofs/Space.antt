@@ -25,7 +25,7 @@ module _ (lent new : List ℕ) (old n : ℕ) (e : length new ≡ n) where
   abbrev rest : List ℕ
   rest = drop (max old (length new)) lent
 
-  settled-zero : (i : ℕ) → n ≤ i → i < old → (d : ℕ) → getD (settled lent old new) i d ≡ 0
+  pub settled-zero : (i : ℕ) → n ≤ i → i < old → (d : ℕ) → getD (settled lent old new) i d ≡ 0
   unfolding settled
   settled-zero i h k d =
       let j : ℕ = i - length new in
@@ -35,7 +35,7 @@ module _ (lent new : List ℕ) (old n : ℕ) (e : length new ≡ n) where
       ∙ List·getD-append (replicate zeros 0) rest d j (omega (arith, length-replicate {A = ℕ} zeros 0))
       ∙ getD-replicate zeros j 0 d (omega arith)
 
-  settled-rest : (i : ℕ) → n ≤ i → old ≤ i → (d : ℕ) → getD (settled lent old new) i d ≡ getD lent i d
+  pub settled-rest : (i : ℕ) → n ≤ i → old ≤ i → (d : ℕ) → getD (settled lent old new) i d ≡ getD lent i d
   unfolding settled
   settled-rest i h k d =
       let j : ℕ = i - max old (length new) in
@@ -47,7 +47,7 @@ module _ (lent new : List ℕ) (old n : ℕ) (e : length new ≡ n) where
       ∙ getD-drop (max old (length new)) lent j d
       ∙ ap (λ (m : ℕ). getD lent m d) t
 
-  settled-length : old ≤ length lent → n ≤ length lent → length (settled lent old new) ≡ length lent
+  pub settled-length : old ≤ length lent → n ≤ length lent → length (settled lent old new) ≡ length lent
   unfolding settled
   settled-length h k =
       length-append new (replicate zeros 0 ++ rest)
