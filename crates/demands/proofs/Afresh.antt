@@ -9,7 +9,7 @@ use lib.Seq.{take-append-seam, take-at}
 use Rattle.model.specs.Answers.{noForm, settled, Outcome, filled, reading}
 use Rattle.model.specs.Decode.{decode}
 use Rattle.model.specs.Table.{width, tableOf}
-use Rattle.model.specs.Tree.{Tree, canon, nodes}
+use Rattle.model.specs.Tree.{Tree, Forest, canon, nodes}
 use Rattle.model.proofs.Exact.{canon-complete}
 use Rattle.walk.proofs.Tabled.{table-length}
 use Rattle.demands.proofs.Read.{reads}
@@ -53,8 +53,8 @@ room-as {t} canonical table canonical′ table′ h k r =
       roomy = omega (arith, r .roomy);
     }
 
-module _ {canonical table : List ℕ} {len count : ℕ} {old now : Tree} {k n s e : ℕ} {holding : ℕ → Bool} {answer : Outcome}
-    (c : Correction canonical table len count old now k n s e holding answer) where
+module _ {canonical table : List ℕ} {len count : ℕ} {old now : Tree} {k n s e : ℕ} {new : Forest} {holding : ℕ → Bool} {answer : Outcome}
+    (c : Correction canonical table len count old now k n s e new holding answer) where
   -- 01, "The corrected sheet is that tree's canonical form"
   pub corrected-sheet : take (answer .octets) (answer .canonical) ≡ canon now
   corrected-sheet = ap (λ (o : Outcome). take (o .octets) (o .canonical)) (c .is) ∙ front-octets now len count canonical table

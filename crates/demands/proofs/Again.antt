@@ -2,27 +2,27 @@
 -- place.
 use Prim.Native.Nat.{ℕ, _*_, _≤_, _<_, max}
 use native.Mathlib.Omega.{arith}
-use mathlib.Core.Path.{_≡_, refl, sym, ap, ap₂, _∙_}
-use mathlib.Core.Bool.{Bool, true}
+use mathlib.Core.Path.{_≡_, refl, sym, ap, _∙_}
+use mathlib.Core.Bool.{Bool}
 use mathlib.Core.Option.{Option, some}
 use mathlib.Core.List.{List}
-use lib.ListN.{length, take, getD, List·getD-append}
+use lib.ListN.{length, getD, List·getD-append}
 use lib.Seq.{ext-getD}
 use borrow.Author.Tests.{le-ltb, eq-eqb}
 use Rattle.base.specs.Choice.{equal, chain}
 use Rattle.base.proofs.Cases.{by-le, picked, unpicked, true-both}
 use Rattle.base.proofs.Lists.{equal-same}
-use Rattle.model.specs.Answers.{settled, fits, fitting, sheetTree, owns, ownTree, Outcome, filled}
+use Rattle.model.specs.Answers.{settled, fitting, sheetTree, owns, ownTree, Outcome, filled}
 use Rattle.model.specs.Decode.{decode₁}
 use Rattle.model.specs.Table.{width, tableOf}
-use Rattle.model.specs.Tree.{Tree, canon, nodes}
+use Rattle.model.specs.Tree.{Tree, Forest, canon, nodes}
 use Rattle.model.proofs.Exact.{canon-complete}
 use Rattle.walk.proofs.Tabled.{table-length}
-use Rattle.lookup.proofs.Sheets.{fitted, Own, own-of, own-lent}
+use Rattle.lookup.proofs.Sheets.{fitted}
 use Rattle.demands.specs.Conditions.{Room}
 use Rattle.demands.specs.Corrections.{Correction}
 use Rattle.demands.proofs.Afresh.{corrected-sheet, corrected-table, corrected-octets, corrected-count}
-use Rattle.demands.proofs.Space.{settled-zero, settled-rest, settled-length, canonical-long, table-long}
+use Rattle.demands.proofs.Space.{settled-zero, settled-rest, settled-length, canonical-long}
 
 -- ---- new contents twice
 settled-front : (lent new : List ℕ) (old i : ℕ) → i < length new → getD (settled lent old new) i 0 ≡ getD new i 0
@@ -66,8 +66,8 @@ filled-twice canonical table len count t u h k r s =
     rw (a, w, ← table-length t, b)
 
 -- ---- the sheet has its own table again
-module _ {canonical table : List ℕ} {len count : ℕ} {old now : Tree} {k n s e : ℕ} {holding : ℕ → Bool} {answer : Outcome}
-    (c : Correction canonical table len count old now k n s e holding answer) where
+module _ {canonical table : List ℕ} {len count : ℕ} {old now : Tree} {k n s e : ℕ} {new : Forest} {holding : ℕ → Bool} {answer : Outcome}
+    (c : Correction canonical table len count old now k n s e new holding answer) where
   sheet-again : sheetTree (answer .canonical) (answer .octets) ≡ some now
   unfolding sheetTree chain fitting
   sheet-again =

@@ -4,16 +4,15 @@ use Prim.Native.Nat.{ℕ, _+_, _-_, _<_}
 use native.Mathlib.Omega.{arith}
 use native.Mathlib.Nat.{add-zero}
 use mathlib.Core.Path.{_≡_, refl, sym, ap, ap₂, _∙_, subst}
-use mathlib.Core.Bool.{true, false}
+use mathlib.Core.Bool.{false}
 use mathlib.Core.Option.{Option, none, some}
 use mathlib.Core.List.{List}
 use lib.ListN.{take}
 use lib.Dec.{eqb}
 use Rattle.base.specs.Choice.{either, not, isNone}
 use Rattle.base.proofs.Cases.{not-false, untrue}
-use Rattle.model.specs.Answers.{Check, verdict, the, roomChecks, ownTree, Outcome, filled, unchanged}
+use Rattle.model.specs.Answers.{Check, verdict, the, roomChecks, Outcome, filled, unchanged}
 use Rattle.model.specs.Corrections.{inserted, noPlace, insertingChecks, inserting}
-use Rattle.model.specs.Decode.{decode}
 use Rattle.model.specs.Edit.{one, insert}
 use Rattle.model.specs.Node.{nodeAt, hasPlace}
 use Rattle.model.specs.Table.{rows, rowOf}
@@ -141,13 +140,12 @@ module _ (form : ℕ) (text canonical table : List ℕ) (len count node k : ℕ)
     abbrev octet : ℕ
     octet = placeOctet (rowOf old) node number
 
-    pub inserting-corrects : Correction canonical table len count old now number 0 octet octet (λ j. holds now j number) answer
+    pub inserting-corrects : Correction canonical table len count old now number 0 octet octet (one (c .new)) (λ j. holds now j number) answer
     inserting-corrects =
         let z : 0 ≡ octet - octet = omega arith in
         let a = insert-change old node insert-inside k number (entry .is) (c .new) in
         record {
           lists = _;
-          new = one (c .new);
           own = c .own;
           room = c .room;
           is = insert-accepted c;

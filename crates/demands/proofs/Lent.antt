@@ -6,13 +6,13 @@ use mathlib.Core.Bool.{Bool, true, false}
 use mathlib.Core.List.{List, _++_}
 use lib.ListN.{length, take, drop, getD, take-append-drop, List·getD-append}
 use Rattle.model.specs.Answers.{Outcome}
-use Rattle.model.specs.Table.{width, numbers, rowOf}
-use Rattle.model.specs.Tree.{Tree, canon, nodes}
+use Rattle.model.specs.Table.{width, numbers, plainRow, rowss, rowOf}
+use Rattle.model.specs.Tree.{Tree, Forest, canon, canons, nodes, nodess}
 use Rattle.lookup.proofs.Sheets.{Own, own-of}
 use Rattle.edits.specs.Moves.{Moves, Grows, Shifts}
 use Rattle.edits.specs.Place.{around}
 use Rattle.edits.proofs.Changed.{change-moves, change-length, change-nodes, change-octet, change-list, change-stays, change-grows, change-shifts}
-use Rattle.edits.proofs.Moved.{octet-before}
+use Rattle.edits.proofs.Moved.{octet-before, octet-new, record-new}
 use Rattle.demands.specs.Conditions.{recordAt}
 use Rattle.demands.specs.Corrections.{Correction}
 use Rattle.demands.proofs.Afresh.{corrected-sheet, corrected-table, corrected-octets}
@@ -23,12 +23,12 @@ octet-of : (x l : List ℕ) (n i : ℕ) → take n l ≡ x → i < length x → 
 octet-of x l n i e h =
     ap (λ (l : List ℕ). getD l i 0) (sym (take-append-drop n l) ∙ ap (λ (y : List ℕ). y ++ drop n l) e) ∙ List·getD-append x (drop n l) 0 i h
 
-module _ {canonical table : List ℕ} {len count : ℕ} {old now : Tree} {k n s e : ℕ} {holding : ℕ → Bool} {answer : Outcome}
-    (c : Correction canonical table len count old now k n s e holding answer) where
+module _ {canonical table : List ℕ} {len count : ℕ} {old now : Tree} {k n s e : ℕ} {new : Forest} {holding : ℕ → Bool} {answer : Outcome}
+    (c : Correction canonical table len count old now k n s e new holding answer) where
   own : Own canonical len table count old
   own = own-of canonical len table count old (c .own)
 
-  moves : Moves old now k n s (e - s) (c .new)
+  moves : Moves old now k n s (e - s) new
   moves = change-moves (c .change)
 
   -- "Octets before the entry stay."
@@ -37,6 +37,12 @@ module _ {canonical table : List ℕ} {len count : ℕ} {old now : Tree} {k n s 
       octet-of (canon now) (answer .canonical) (answer .octets) i (corrected-sheet c) (omega (arith, moves .octetsIn, change-length (c .change)))
       ∙ octet-before moves i h
       ∙ sym (octet-of (canon old) canonical len i (own .sheet .is) (omega (arith, moves .octetsIn)))
+
+  -- the entry's own octets are those of what it gave way to
+  pub octets-new : (i : ℕ) → i < length (canons new) → getD (answer .canonical) (s + i) 0 ≡ getD (canons new) i 0
+  octets-new i h =
+      octet-of (canon now) (answer .canonical) (answer .octets) (s + i) (corrected-sheet c) (omega (arith, moves .octetsIn, change-length (c .change)))
+      ∙ octet-new moves i h
 
   -- "Octets after it are the same, in the same order, and only move.": by the new length less the old
   pub octets-move : (i i′ : ℕ) → e ≤ i → i < len → i′ + len ≡ i + answer .octets → getD (answer .canonical) i′ 0 ≡ getD canonical i 0
@@ -70,6 +76,10 @@ module _ {canonical table : List ℕ} {len count : ℕ} {old now : Tree} {k n s 
     -- they are those of lists
     pub records-around : holding j ≡ true → (rowOf old j) .kind ≡ 2
     records-around i = change-list (c .change) j h (around-as j h ∙ i)
+
+  -- the entry's own records are those of what it gave way to, at its start
+  pub records-new : (i : ℕ) → i < nodess new → rowOf now (k + i) ≡ getD (rowss new s) i (plainRow 0 0 0)
+  records-new i h = record-new moves i h
 
   -- later records move with their nodes
   pub records-shift : (j j′ : ℕ) → k + n ≤ j → j < nodes old → j′ + nodes old ≡ j + nodes now → Shifts (rowOf old j) (rowOf now j′) (length (canon old)) (length (canon now))

@@ -99,13 +99,12 @@ module _ (form : ℕ) (text canonical table : List ℕ) (len count node : ℕ) w
     old = c .old
 
     pub replacing-corrects :
-        Correction canonical table len count old (replace old node (c .new)) node (rowOf old node .count) (rowOf old node .start) (rowOf old node .end) (λ j. holds old j node) answer
+        Correction canonical table len count old (replace old node (c .new)) node (rowOf old node .count) (rowOf old node .start) (rowOf old node .end) (one (c .new)) (λ j. holds old j node) answer
     replacing-corrects =
         let own : Own canonical len table count old = own-of canonical len table count old (c .own) in
         let h : node < nodes old = omega (arith, c .present, own .counted) in
         record {
           lists = _;
-          new = one (c .new);
           own = c .own;
           room = c .room;
           is = accepted c;

@@ -1,20 +1,17 @@
 -- Demand 3 of removing (02, Ask 5): refused exactly when a condition is missing, and an accepted removal is a correction of the node. What is
 -- left always has room.
-use Prim.Native.Nat.{ℕ, _*_, _/_, _≤_, _<_}
+use Prim.Native.Nat.{ℕ, _<_}
 use native.Mathlib.Omega.{arith}
-use mathlib.Core.Path.{_≡_, refl, sym, ap, _∙_, subst}
-use mathlib.Core.Bool.{Bool, true, false}
+use mathlib.Core.Path.{_≡_, sym, ap, _∙_}
 use mathlib.Core.Option.{Option}
-use mathlib.Core.List.{List, [], _∷_, _++_}
-use lib.ListN.{length}
+use mathlib.Core.List.{List, _++_}
 use lib.Dec.{eqb}
 use borrow.Author.Tests.{eqb-false, ne-eqb}
-use Rattle.base.proofs.Cases.{by-bool, picked, unpicked}
-use Rattle.model.specs.Answers.{Check, when, verdict, the, roomChecks, ownTree, Outcome, filled, unchanged}
+use Rattle.model.specs.Answers.{Check, verdict, the, roomChecks, Outcome, filled, unchanged}
 use Rattle.model.specs.Corrections.{removed, removingChecks, removing}
 use Rattle.model.specs.Edit.{remove}
-use Rattle.model.specs.Table.{width, records, rowOf}
-use Rattle.model.specs.Tree.{Tree, nil, canon, nodes}
+use Rattle.model.specs.Table.{rowOf}
+use Rattle.model.specs.Tree.{Tree, nil, nodes}
 use Rattle.model.proofs.Judging.{judged-accepted}
 use Rattle.edits.specs.Node.{holds}
 use Rattle.edits.proofs.Changes.{remove-change}
@@ -101,11 +98,10 @@ module _ (canonical table : List ℕ) (len count node : ℕ) where
         }
 
     pub removing-corrects :
-        Correction canonical table len count old (remove old node) node (rowOf old node .count) (rowOf old node .start) (rowOf old node .end) (λ j. holds old j node) answer
+        Correction canonical table len count old (remove old node) node (rowOf old node .count) (rowOf old node .start) (rowOf old node .end) nil (λ j. holds old j node) answer
     removing-corrects =
         record {
           lists = _;
-          new = nil;
           own = c .own;
           room = remove-room;
           is = remove-accepted c;

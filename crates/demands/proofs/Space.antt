@@ -10,7 +10,7 @@ use lib.ListN.{length, take, drop, replicate, getD, length-append, length-take, 
 use lib.Seq.{getD-append-add, getD-take, getD-drop, ext-getD}
 use Rattle.model.specs.Answers.{settled, Outcome, filled}
 use Rattle.model.specs.Table.{width, tableOf}
-use Rattle.model.specs.Tree.{Tree, canon}
+use Rattle.model.specs.Tree.{Tree, Forest, canon}
 use Rattle.walk.proofs.Tabled.{table-length}
 use Rattle.lookup.proofs.Sheets.{Own, own-of}
 use Rattle.demands.specs.Conditions.{recordAt}
@@ -63,8 +63,8 @@ record-by a b j h k f =
     let g : i < width = omega (arith, length-take width (drop (width * j) a)) in
     getD-take width (drop (width * j) a) i 0 g ∙ getD-drop (width * j) a i 0 ∙ f i g ∙ sym (getD-take width b i 0 g))
 
-module _ {canonical table : List ℕ} {len count : ℕ} {old now : Tree} {k n s e : ℕ} {holding : ℕ → Bool} {answer : Outcome}
-    (c : Correction canonical table len count old now k n s e holding answer) where
+module _ {canonical table : List ℕ} {len count : ℕ} {old now : Tree} {k n s e : ℕ} {new : Forest} {holding : ℕ → Bool} {answer : Outcome}
+    (c : Correction canonical table len count old now k n s e new holding answer) where
   own : Own canonical len table count old
   own = own-of canonical len table count old (c .own)
 

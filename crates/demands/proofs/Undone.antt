@@ -1,20 +1,20 @@
 -- Laws that a clerk expects of corrections one after another (02, Ask 5): what was just inserted, removed; what was removed, inserted in its
 -- place; another tree inserted there; and that removed space is used again.
-use Prim.Native.Nat.{ℕ, _+_, _*_, _-_, _≤_, _<_, max}
+use Prim.Native.Nat.{ℕ, _*_, _-_, _≤_, _<_, max}
 use native.Mathlib.Omega.{arith}
-use mathlib.Core.Path.{_≡_, refl, sym, ap, ap₂, _∙_, subst}
+use mathlib.Core.Path.{_≡_, sym, ap, ap₂, _∙_}
 use mathlib.Core.Bool.{true, false}
 use mathlib.Core.Option.{some}
 use mathlib.Core.List.{List}
-use lib.ListN.{length, take, drop, take-append-drop}
+use lib.ListN.{length, take, take-append-drop}
 use Rattle.model.specs.Answers.{noForm, settled, Outcome, filled, replacing}
 use Rattle.model.specs.Corrections.{inserting, removing}
 use Rattle.model.specs.Decode.{decode}
 use Rattle.model.specs.Edit.{insert, remove, replace}
 use Rattle.model.specs.Limits.{maxSource, maxDepth}
 use Rattle.model.specs.Node.{nodeAt}
-use Rattle.model.specs.Table.{width, records, rowOf, tableOf}
-use Rattle.model.specs.Tree.{Tree, canon, nodes, depth}
+use Rattle.model.specs.Table.{width, rowOf, tableOf}
+use Rattle.model.specs.Tree.{Tree, nil, canon, nodes, depth}
 use Rattle.edits.specs.Element.{placed, Element}
 use Rattle.edits.specs.Node.{holds}
 use Rattle.edits.proofs.Find.{nodes-pos}
@@ -123,7 +123,7 @@ module _ (canonical table : List ℕ) (len count j : ℕ) (c : Removable canonic
   owned : Own canonical len table count (c .old)
   owned = own-of canonical len table count (c .old) (c .own)
 
-  abbrev gone : Correction canonical table len count (c .old) (remove (c .old) j) j (rowOf (c .old) j .count) (rowOf (c .old) j .start) (rowOf (c .old) j .end) (λ i. holds (c .old) i j) left
+  abbrev gone : Correction canonical table len count (c .old) (remove (c .old) j) j (rowOf (c .old) j .count) (rowOf (c .old) j .start) (rowOf (c .old) j .end) nil (λ i. holds (c .old) i j) left
   gone = removing-corrects canonical table len count j c
 
   -- its room and its records are as they were

@@ -17,11 +17,10 @@ use Rattle.edits.specs.Place.{around}
 use Rattle.demands.specs.Conditions.{Room}
 
 -- an accepted correction of a sheet with its own table, of tree `old`, to tree `now`. The entry is n nodes from node k on, the octets
--- from octet s to octet e, in `lists` lists: those nodes before it of which `holding` says so. 02, "an insertion's entry .. in the old
+-- from octet s to octet e, in `lists` lists: those nodes before it of which `holding` says so. It gives way to `new`. 02, "an insertion's entry .. in the old
 -- sheet starts and ends at its place", so that n is 0 and s is e
-pub record Correction (canonical table : List ℕ) (len count : ℕ) (old now : Tree) (k n s e : ℕ) (holding : ℕ → Bool) (answer : Outcome) : Type 0 where
+pub record Correction (canonical table : List ℕ) (len count : ℕ) (old now : Tree) (k n s e : ℕ) (new : Forest) (holding : ℕ → Bool) (answer : Outcome) : Type 0 where
   pub lists : ℕ
-  pub new : Forest
   pub own : ownTree canonical len table count ≡ some old
   pub room : Room now canonical table
   pub is : answer ≡ filled now len count canonical table

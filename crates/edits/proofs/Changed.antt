@@ -12,7 +12,7 @@ use Rattle.model.specs.Table.{Row, rowOf}
 use Rattle.model.specs.Tree.{Tree, Forest, canon, canons, nodes, nodess, depth, depths}
 use Rattle.edits.specs.Moves.{Moves, Change, Grows, Shifts}
 use Rattle.edits.specs.Node.{holds}
-use Rattle.edits.specs.Place.{level, outer, grown, moved, around}
+use Rattle.edits.specs.Place.{outer, grown, around}
 use Rattle.edits.proofs.Holds.{is-aside, is-around, around-at}
 use Rattle.edits.proofs.Moved.{new-length, octet-after, record-aside, record-around, record-after}
 use Rattle.edits.proofs.Sides.{BeginsFrom, Side, aside, round, sides, sides-after}

@@ -2,26 +2,26 @@
 use Prim.Native.Nat.{ℕ, zero, suc, _+_, _-_, _≤_, _<_}
 use native.Mathlib.Omega.{arith}
 use native.Mathlib.Nat.{add-zero}
-use mathlib.Core.Path.{_≡_, refl, sym, ap, ap₂, _∙_, subst}
-use mathlib.Core.Bool.{Bool, true, false}
-use mathlib.Core.Option.{Option, none, some}
+use mathlib.Core.Path.{_≡_, refl, sym, ap, ap₂, _∙_}
+use mathlib.Core.Bool.{true, false}
+use mathlib.Core.Option.{none, some}
 use mathlib.Core.List.{List, [], _∷_, _++_, append-nil}
 use lib.ListN.{length, take, getD, length-append}
-use lib.Dec.{leb, ltb, eqb}
+use lib.Dec.{leb, eqb}
 use lib.Seq.{getD-append-add}
-use borrow.Author.Tests.{lt-ltb, le-ltb, le-leb, lt-leb, eq-eqb, ne-eqb, leb-true}
+use borrow.Author.Tests.{lt-ltb, le-ltb, eq-eqb, ne-eqb, leb-true}
 use Rattle.base.specs.Choice.{pick, either, not, isNone}
 use Rattle.base.proofs.Cases.{by-le, by-eq, by-bool, picked, unpicked, none-some, some-same}
-use Rattle.model.specs.Edit.{join, one, within, across, replace, put, putIn, insert, remove}
+use Rattle.model.specs.Edit.{join, one, across, replace, put, putIn, insert, remove}
 use Rattle.model.specs.Node.{nodeAt, elements, hasPlace}
 use Rattle.model.specs.Table.{Row, plainRow, rows, rowss, rowOf}
-use Rattle.model.specs.Tree.{Tree, plain, hinted, list, Forest, nil, cons, canon, canons, nodes, nodess, depth}
-use Rattle.edits.specs.Element.{element, placed, placeOctet}
+use Rattle.model.specs.Tree.{Tree, plain, hinted, list, Forest, nil, canon, canons, nodes, nodess}
+use Rattle.edits.specs.Element.{placed, placeOctet}
 use Rattle.edits.specs.Levels.{holders}
 use Rattle.edits.specs.Moves.{Change}
 use Rattle.edits.specs.Node.{holds}
-use Rattle.edits.specs.Place.{around, before, number, level, lead, trail, Place, fill}
-use Rattle.edits.proofs.Find.{across-here, across-in, nodes-pos}
+use Rattle.edits.specs.Place.{around, before, number, lead, trail, Place, fill}
+use Rattle.edits.proofs.Find.{across-here, across-in}
 use Rattle.edits.proofs.Inside.{nth, within-at, nth-nil, nth-put, within-fill, nth-level, within-number, within-before, within-level, nth-all, nth-inside, nth-within, nth-few}
 use Rattle.edits.proofs.Holds.{is-aside, is-around, holds-count, node-side}
 use Rattle.edits.proofs.Hop.{hop, nth-start, within-start, nth-ends}
@@ -31,7 +31,7 @@ use Rattle.edits.proofs.Changed.{change-at}
 use Rattle.edits.proofs.Gives.{gives-way}
 use Rattle.edits.proofs.Moved.{record-new}
 use Rattle.edits.proofs.Rows.{lead-length}
-use Rattle.edits.proofs.Whole.{nodess-one, rowss-one, rows-at, row-first, moves-at, locate, count-at, length-at, replaced-at}
+use Rattle.edits.proofs.Whole.{nodess-one, rowss-one, rows-at, row-first, moves-at, locate, replaced-at}
 
 -- ---- an edit of a tree is one in the forest of that tree alone
 abbrev kept-tree : (Tree → Tree) → Tree → Forest

@@ -4,17 +4,15 @@ use native.Mathlib.Omega.{arith}
 use mathlib.Core.Path.{_≡_, refl, sym, ap, ap₂, _∙_}
 use mathlib.Core.Bool.{true}
 use mathlib.Core.Option.{some}
-use lib.ListN.{length}
 use borrow.Author.Tests.{le-leb}
 use Rattle.base.proofs.Cases.{by-le, picked}
-use Rattle.model.specs.Edit.{join, one, across, replace, put, putIn, insert, remove}
+use Rattle.model.specs.Edit.{join, one, across, replace, putIn, insert, remove}
 use Rattle.model.specs.Node.{nodeAmong, nodeAt, elements, hasPlace}
 use Rattle.model.specs.Table.{rowOf}
 use Rattle.model.specs.Tree.{Tree, plain, hinted, list, Forest, nil, cons, nodes, nodess}
 use Rattle.edits.specs.Element.{placed, Element}
 use Rattle.edits.specs.Place.{number, Place, here, past, down, fill}
 use Rattle.edits.proofs.Changes.{insert-across, remove-across, list-count, list-placed, by-list, insert-change}
-use Rattle.edits.proofs.Fill.{fill-nodes}
 use Rattle.edits.proofs.Find.{nodes-pos, nodeAt-among, across-at, node-at}
 use Rattle.edits.proofs.Inside.{nth, within-at, within-fill, within-number, nth-put, nth-all, nth-inside}
 use Rattle.edits.proofs.Whole.{nodess-one, nodes-at, locate, replace-across}

@@ -1,19 +1,18 @@
 -- Hopping over node counts: after k elements one stands where the k-th is, and there is no such place exactly where the list ends earlier.
 use Prim.Native.Nat.{ℕ, zero, suc, _+_, _-_, _≤_, _<_}
 use native.Mathlib.Omega.{arith}
-use mathlib.Core.Path.{_≡_, refl, sym, ap, ap₂, _∙_, subst}
-use mathlib.Core.Bool.{true, false}
-use mathlib.Core.Option.{Option, none, some}
+use mathlib.Core.Path.{_≡_, refl, sym, ap, ap₂, _∙_}
+use mathlib.Core.Option.{none, some}
 use mathlib.Core.List.{List, _++_, append-assoc}
 use lib.ListN.{length, getD, length-append}
-use lib.Dec.{leb, ltb, eqb}
+use lib.Dec.{leb}
 use lib.Seq.{getD-append-add}
 use borrow.Author.Tests.{lt-ltb, le-ltb, le-leb, lt-leb}
 use Rattle.base.specs.Choice.{pick}
 use Rattle.base.proofs.Cases.{by-le, picked, unpicked}
 use Rattle.model.specs.Node.{elements}
 use Rattle.model.specs.Table.{Row, plainRow, rows, rowss}
-use Rattle.model.specs.Tree.{Tree, Forest, nil, cons, canon, nodes, nodess}
+use Rattle.model.specs.Tree.{Forest, nil, cons, canon, nodes, nodess}
 use Rattle.walk.proofs.Tabled.{rows-length}
 use Rattle.edits.specs.Element.{element}
 use Rattle.edits.specs.Place.{before, number, Place, here, past, down, trail}

@@ -2,7 +2,7 @@
 use Prim.Native.Nat.{ℕ, _+_, _-_, _≤_, _<_}
 use native.Mathlib.Omega.{arith}
 use native.Mathlib.Nat.{add-zero}
-use mathlib.Core.Path.{_≡_, sym, ap, ap₂, _∙_}
+use mathlib.Core.Path.{_≡_, sym, ap₂, _∙_}
 use mathlib.Core.Option.{some}
 use mathlib.Core.List.{_++_}
 use lib.ListN.{length, take, drop}
@@ -14,8 +14,6 @@ use Rattle.model.specs.Tree.{Tree, nil, canon, canons, nodes, nodess, depth, de
 use Rattle.edits.specs.Element.{placed, placeOctet}
 use Rattle.edits.specs.Levels.{holders}
 use Rattle.edits.specs.Moves.{Moves, Change}
-use Rattle.edits.specs.Node.{holds}
-use Rattle.edits.specs.Place.{around}
 use Rattle.edits.proofs.Changed.{change-moves, change-deep, change-shallow, change-length, change-nodes}
 use Rattle.edits.proofs.Changes.{insert-change, remove-change}
 use Rattle.edits.proofs.Find.{nodes-pos, nodeAt-among, node-at}

@@ -1,7 +1,7 @@
 -- The place of an element of a list: directly before it, and inside the place of the list.
 use Prim.Native.Nat.{ℕ, zero, suc, _+_, _≤_, _<_}
 use native.Mathlib.Omega.{arith}
-use mathlib.Core.Path.{_≡_, refl, ap, _∙_}
+use mathlib.Core.Path.{_≡_, refl, ap}
 use lib.ListN.{length, length-append}
 use Rattle.model.specs.Edit.{join, one, put}
 use Rattle.model.specs.Node.{elements}

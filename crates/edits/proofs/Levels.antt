@@ -10,7 +10,7 @@ use lib.Seq.{take-at}
 use lib.Dec.{ltb}
 use borrow.Author.Tests.{lt-ltb, le-ltb}
 use Rattle.base.specs.Choice.{pick}
-use Rattle.base.proofs.Cases.{by-le, picked, unpicked}
+use Rattle.base.proofs.Cases.{picked, unpicked}
 use Rattle.model.specs.Edit.{one, replace}
 use Rattle.model.specs.Table.{Row, plainRow, rows}
 use Rattle.model.specs.Tree.{Tree, canon, nodes, nodess, depth, canons}
