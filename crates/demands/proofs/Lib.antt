@@ -10,6 +10,10 @@ pub mod Afresh
 pub mod Records
 pub mod Lent
 pub mod Space
+pub mod Inserting
+pub mod Removing
+pub mod Again
+pub mod Undone
 pub mod Stray
 pub mod Escapes
 pub mod Typed

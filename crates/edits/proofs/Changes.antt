@@ -1,42 +1,48 @@
 -- Replacing, inserting and removing are changes at a place.
 use Prim.Native.Nat.{ℕ, zero, suc, _+_, _-_, _≤_, _<_}
 use native.Mathlib.Omega.{arith}
-use mathlib.Core.Path.{_≡_, refl, sym, ap, ap₂, _∙_, subst}
-use mathlib.Core.Bool.{Bool, true, false}
-use mathlib.Core.Option.{Option, none, some}
+use native.Mathlib.Nat.{add-zero}
+use mathlib.Core.Path.{_≡_, refl, sym, ap, ap₂, _∙_}
+use mathlib.Core.Bool.{true, false}
+use mathlib.Core.Option.{none, some}
 use mathlib.Core.List.{List, [], _∷_, _++_, append-nil}
 use lib.ListN.{length, take, getD, length-append}
-use lib.Dec.{leb, ltb, eqb}
+use lib.Dec.{leb, eqb}
 use lib.Seq.{getD-append-add}
-use borrow.Author.Tests.{lt-ltb, le-ltb, le-leb, lt-leb, eq-eqb, ne-eqb, leb-true}
-use Rattle.base.specs.Choice.{pick, not, isNone}
-use Rattle.base.proofs.Cases.{by-le, by-bool, picked, unpicked, none-some, some-same}
-use Rattle.model.specs.Edit.{join, one, within, across, replace, put, putIn, insert, remove}
+use borrow.Author.Tests.{lt-ltb, le-ltb, eq-eqb, ne-eqb, leb-true}
+use Rattle.base.specs.Choice.{pick, either, not, isNone}
+use Rattle.base.proofs.Cases.{by-le, by-eq, by-bool, picked, unpicked, none-some, some-same}
+use Rattle.model.specs.Edit.{join, one, across, replace, put, putIn, insert, remove}
 use Rattle.model.specs.Node.{nodeAt, elements, hasPlace}
 use Rattle.model.specs.Table.{Row, plainRow, rows, rowss, rowOf}
-use Rattle.model.specs.Tree.{Tree, plain, hinted, list, Forest, nil, cons, canon, canons, nodes, nodess, depth}
-use Rattle.edits.specs.Element.{element, placed, placeOctet}
+use Rattle.model.specs.Tree.{Tree, plain, hinted, list, Forest, nil, canon, canons, nodes, nodess}
+use Rattle.edits.specs.Element.{placed, placeOctet}
 use Rattle.edits.specs.Levels.{holders}
 use Rattle.edits.specs.Moves.{Change}
-use Rattle.edits.specs.Place.{before, number, level, lead, trail, Place, fill}
-use Rattle.edits.proofs.Find.{across-here, across-in, nodes-pos}
-use Rattle.edits.proofs.Inside.{nth, within-at, nth-nil, nth-put, within-fill, nth-level, within-number, within-before, within-level, nth-all, nth-inside}
-use Rattle.edits.proofs.Hop.{hop, nth-start, within-start}
+use Rattle.edits.specs.Node.{holds}
+use Rattle.edits.specs.Place.{around, before, number, lead, trail, Place, fill}
+use Rattle.edits.proofs.Find.{across-here, across-in}
+use Rattle.edits.proofs.Inside.{nth, within-at, nth-nil, nth-put, within-fill, nth-level, within-number, within-before, within-level, nth-all, nth-inside, nth-within, nth-few}
+use Rattle.edits.proofs.Holds.{is-aside, is-around, holds-count, node-side}
+use Rattle.edits.proofs.Hop.{hop, nth-start, within-start, nth-ends}
+use Rattle.edits.proofs.Sides.{Side, aside, round}
 use Rattle.edits.proofs.Levels.{level-holders}
+use Rattle.edits.proofs.Changed.{change-at}
+use Rattle.edits.proofs.Gives.{gives-way}
 use Rattle.edits.proofs.Moved.{record-new}
 use Rattle.edits.proofs.Rows.{lead-length}
-use Rattle.edits.proofs.Whole.{nodess-one, rowss-one, rows-at, row-first, moves-at, locate, count-at, length-at, replaced-at}
+use Rattle.edits.proofs.Whole.{nodess-one, rowss-one, rows-at, row-first, moves-at, locate, replaced-at}
 
 -- ---- an edit of a tree is one in the forest of that tree alone
 abbrev kept-tree : (Tree → Tree) → Tree → Forest
 kept-tree e x = one (e x)
 
-insert-across : (t : Tree) (n k : ℕ) (u : Tree) → n < nodes t → one (insert t n k u) ≡ across (kept-tree (putIn k u)) (one t) n
+pub insert-across : (t : Tree) (n k : ℕ) (u : Tree) → n < nodes t → one (insert t n k u) ≡ across (kept-tree (putIn k u)) (one t) n
 unfolding insert join
 insert-across t zero k u h = sym (across-here (kept-tree (putIn k u)) t nil)
 insert-across t (suc n) k u h = sym (across-in (kept-tree (putIn k u)) t nil n h)
 
-remove-across : (t : Tree) (n : ℕ) → 0 < n → n < nodes t → one (remove t n) ≡ across (λ (x : Tree). nil) (one t) n
+pub remove-across : (t : Tree) (n : ℕ) → 0 < n → n < nodes t → one (remove t n) ≡ across (λ (x : Tree). nil) (one t) n
 unfolding remove
 remove-across t zero p h = absurd (omega arith)
 remove-across t (suc n) p h = sym (across-in (λ (x : Tree). nil) t nil n h)
@@ -46,32 +52,20 @@ module _ (t : Tree) (node : ℕ) (h : node < nodes t) where
   entry = rowOf t node
 
   -- how many lists are around the node
-  abbrev around : ℕ
-  around = holders (take node (rows t 0)) 0 node
+  abbrev lists : ℕ
+  lists = holders (take node (rows t 0)) 0 node
 
   -- ---- the node gives way
-  gives-way : (t' : Tree) (g : Forest) → one t' ≡ fill ((locate t node h) .place) g → Change t t' node (entry .count) (entry .start) (entry .end - entry .start) around g
-  gives-way t' g e =
-      let a = locate t node h in
-      record {
-        place = a .place;
-        old = one (a .node);
-        was = a .is;
-        is = e;
-        at = a .num;
-        some = count-at t node h;
-        start = sym (a .start);
-        long = length-at t node h;
-        deep = sym (level-holders t node h);
-      }
+  node-change : (t' : Tree) (g : Forest) → one t' ≡ fill ((locate t node h) .place) g → Change t t' node (entry .count) (entry .start) (entry .end - entry .start) lists g
+  node-change t' g e = change-at (gives-way t node h t' g e) (sym (level-holders t node h))
 
   -- to another tree
-  pub replace-change : (u : Tree) → Change t (replace t node u) node (entry .count) (entry .start) (entry .end - entry .start) around (one u)
-  replace-change u = gives-way (replace t node u) (one u) (replaced-at t node h u)
+  pub replace-change : (u : Tree) → Change t (replace t node u) node (entry .count) (entry .start) (entry .end - entry .start) lists (one u)
+  replace-change u = node-change (replace t node u) (one u) (replaced-at t node h u)
 
   -- to nothing
-  pub remove-change : 0 < node → Change t (remove t node) node (entry .count) (entry .start) (entry .end - entry .start) around nil
-  remove-change p = gives-way (remove t node) nil (remove-across t node p h ∙ (locate t node h) .edited (λ (x : Tree). nil))
+  pub remove-change : 0 < node → Change t (remove t node) node (entry .count) (entry .start) (entry .end - entry .start) lists nil
+  remove-change p = node-change (remove t node) nil (remove-across t node p h ∙ (locate t node h) .edited (λ (x : Tree). nil))
 
   -- ---- the node's own row
   abbrev p : Place
@@ -92,7 +86,7 @@ module _ (t : Tree) (node : ℕ) (h : node < nodes t) where
     unfolding rows
     list-kind = ap (λ (r : Row). r .kind) (entry-row (list f) e)
 
-    list-count : entry .count ≡ 1 + nodess f
+    pub list-count : entry .count ≡ 1 + nodess f
     unfolding rows nodes
     list-count = ap (λ (r : Row). r .count) (entry-row (list f) e)
 
@@ -100,13 +94,17 @@ module _ (t : Tree) (node : ℕ) (h : node < nodes t) where
     unfolding rows canon
     list-data-end = ap (λ (r : Row). r .dataEnd) (entry-row (list f) e) ∙ omega (arith, length-append (canons f) (41 ∷ []))
 
+    list-end : entry .end ≡ length (before p) + 2 + length (canons f)
+    unfolding rows canon
+    list-end = ap (λ (r : Row). r .end) (entry-row (list f) e) ∙ omega (arith, length-append (canons f) (41 ∷ []))
+
     element-row : (i : ℕ) → i < nodess f → rowOf t (node + 1 + i) ≡ getD (rowss f (length (before p) + 1)) i (plainRow 0 0 0)
     unfolding rows nodes
     element-row i l =
         let a = locate t node h in
         let x : node + 1 + i ≡ number p + suc i = omega (arith, a .num) in
         ap (rowOf t) x
-        ∙ record-new t t (number p) _ (length (before p)) _ (one (list f)) (moves-at t t p (one (list f)) (one (list f)) is-list is-list) (suc i) (omega (arith, nodess-one (list f)))
+        ∙ record-new (moves-at t t p (one (list f)) (one (list f)) is-list is-list) (suc i) (omega (arith, nodess-one (list f)))
         ∙ ap (λ (r : List Row). getD r (suc i) (plainRow 0 0 0)) (rowss-one (list f) (length (before p)))
 
     pub list-placed : (k : ℕ) → placed (rowOf t) node k ≡ pick (leb k (elements f)) (some (node + 1 + number (nth f k))) none
@@ -155,7 +153,7 @@ module _ (t : Tree) (node : ℕ) (h : node < nodes t) where
         unpicked _ _ (le-ltb (node + 1 + number (nth f k)) (node + entry .count) (omega (arith, x .0))) ∙ omega (arith, list-data-end, ap length (x .1)))
         (λ i. picked _ _ (lt-ltb (node + 1 + number (nth f k)) (node + entry .count) (omega (arith, nth-inside f k i))) ∙ row-start k i)
 
-    list-change : (k : ℕ) → k ≤ elements f → (u : Tree) → Change t (insert t node k u) (node + 1 + number (nth f k)) 0 (placeOctet (rowOf t) node (node + 1 + number (nth f k))) 0 (around + 1) (one u)
+    list-change : (k : ℕ) → k ≤ elements f → (u : Tree) → Change t (insert t node k u) (node + 1 + number (nth f k)) 0 (placeOctet (rowOf t) node (node + 1 + number (nth f k))) 0 (lists + 1) (one u)
     unfolding nodess canons
     list-change k l u =
         let a = locate t node h in
@@ -170,6 +168,49 @@ module _ (t : Tree) (node : ℕ) (h : node < nodes t) where
           long = refl;
           deep = within-level p (nth f k) ∙ omega (arith, nth-level f k, level-holders t node h);
         }
+
+    -- the lists around the place are the list itself and those that hold it
+    module _ (k j : ℕ) where
+      abbrev s : ℕ
+      s = length (before (q k))
+
+      inside : (entry .start < s) × (s < entry .end)
+      inside =
+          let a = locate t node h in
+          let b = within-before p (nth f k) in
+          let n = nth-within f k in
+          let c = list-end in
+          (omega (arith, a .start), omega (arith, a .start))
+
+      itself : around s s (rowOf t node) ≡ true
+      itself = rw add-zero at (is-around s 0 (rowOf t node) (inside .0) (omega (arith, inside .1)))
+
+      ends : (rowOf t j) .end ≤ s → around s s (rowOf t j) ≡ false
+      ends i = rw add-zero at (is-aside s 0 (rowOf t j) i)
+
+      earlier : j < node → Side (rowOf t j) j node (entry .count) (entry .start) (entry .end) → around s s (rowOf t j) ≡ holds t j node
+      earlier i (aside y z) = ends (omega (arith, inside .0)) ∙ sym (holds-count t j node i ∙ le-ltb node (j + (rowOf t j) .count) z)
+      earlier i (round y z w v o) =
+          rw add-zero at (is-around s 0 (rowOf t j) (omega (arith, inside .0)) (omega (arith, inside .1)))
+          ∙ sym (holds-count t j node i ∙ lt-ltb node (j + (rowOf t j) .count) (omega (arith, list-count)))
+
+      module _ (l : j < node + 1 + number (nth f k)) where
+        later : node < j → (rowOf t j) .end ≤ s
+        later i =
+            let x : j ≡ node + 1 + (j - (node + 1)) = omega arith in
+            let b = within-before p (nth f k) in
+            let c = nth-few f k in
+            let r = ap (λ (r : Row). r .end) (ap (rowOf t) x ∙ element-row (j - (node + 1)) (omega arith)) in
+            omega (arith, nth-ends f k (length (before p) + 1) (j - (node + 1)) (omega arith))
+
+        list-around : around s s (rowOf t j) ≡ either (eqb j node) (holds t j node)
+        list-around =
+            by-le node j
+            (λ y.
+            by-eq j node
+            (λ x. rw x itself ∙ sym (picked _ _ (eq-eqb j node x)))
+            (λ x. ends (later (omega arith)) ∙ sym (unpicked _ _ (ne-eqb j node x) ∙ unpicked _ _ (le-ltb j node y))))
+            (λ y. earlier y (node-side t j node y h) ∙ sym (unpicked _ _ (ne-eqb j node (λ x. omega arith))))
 
   -- ---- 02, "node isn't a list, k is too large": hopping finds no place exactly then
   string-placed : (k : ℕ) → (entry .kind ≡ 2 → ⊥) → placed (rowOf t) node k ≡ none
@@ -190,17 +231,25 @@ module _ (t : Tree) (node : ℕ) (h : node < nodes t) where
 
   -- ---- where it finds one, a tree comes to stand there
   module _ (k j : ℕ) (e : placed (rowOf t) node k ≡ some j) where
-    inserts : (x : Tree) → nodeAt t node ≡ x → (u : Tree) → Change t (insert t node k u) j 0 (placeOctet (rowOf t) node j) 0 (around + 1) (one u)
+    -- it is the place of the k-th element of a list
+    pub by-list : (G : ℕ → Type 0) → ((f : Forest) → nodeAt t node ≡ list f → k ≤ elements f → G (node + 1 + number (nth f k))) → G j
     unfolding rows
-    inserts (plain d) i u = none-some (sym (string-placed k (λ z. let y = ap (λ (r : Row). r .kind) (entry-row (plain d) i) in absurd (omega arith))) ∙ e)
-    inserts (hinted g d) i u = none-some (sym (string-placed k (λ z. let y = ap (λ (r : Row). r .kind) (entry-row (hinted g d) i) in absurd (omega arith))) ∙ e)
-    inserts (list f) i u =
-        by-bool (leb k (elements f))
-        (λ y.
-        some-same (λ (m : ℕ). Change t (insert t node k u) m 0 (placeOctet (rowOf t) node m) 0 (around + 1) (one u))
-        (sym (list-placed f i k ∙ picked _ _ y) ∙ e)
-        (list-change f i k (leb-true k (elements f) y) u))
-        (λ y. none-some (sym (list-placed f i k ∙ unpicked _ _ y) ∙ e))
+    by-list G g = by (nodeAt t node) refl
+      where
+        by : (x : Tree) → nodeAt t node ≡ x → G j
+        by (plain d) i = none-some (sym (string-placed k (λ z. let y = ap (λ (r : Row). r .kind) (entry-row (plain d) i) in absurd (omega arith))) ∙ e)
+        by (hinted c d) i = none-some (sym (string-placed k (λ z. let y = ap (λ (r : Row). r .kind) (entry-row (hinted c d) i) in absurd (omega arith))) ∙ e)
+        by (list f) i =
+            by-bool (leb k (elements f))
+            (λ y. some-same G (sym (list-placed f i k ∙ picked _ _ y) ∙ e) (g f i (leb-true k (elements f) y)))
+            (λ y. none-some (sym (list-placed f i k ∙ unpicked _ _ y) ∙ e))
 
-    pub insert-change : (u : Tree) → Change t (insert t node k u) j 0 (placeOctet (rowOf t) node j) 0 (around + 1) (one u)
-    insert-change u = inserts (nodeAt t node) refl u
+    pub insert-change : (u : Tree) → Change t (insert t node k u) j 0 (placeOctet (rowOf t) node j) 0 (lists + 1) (one u)
+    insert-change u =
+        by-list (λ (i : ℕ). Change t (insert t node k u) i 0 (placeOctet (rowOf t) node i) 0 (lists + 1) (one u)) (λ f i l. list-change f i k l u)
+
+    -- 01, "The lists around an entry": by numbers in the old tree
+    pub insert-around : (i : ℕ) → i < j → around (placeOctet (rowOf t) node j) (placeOctet (rowOf t) node j) (rowOf t i) ≡ either (eqb i node) (holds t i node)
+    insert-around i =
+        by-list (λ (j : ℕ). i < j → around (placeOctet (rowOf t) node j) (placeOctet (rowOf t) node j) (rowOf t i) ≡ either (eqb i node) (holds t i node))
+        (λ f x l h. rw (place-octet f x k l) (list-around f x k i h))

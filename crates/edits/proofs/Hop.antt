@@ -1,24 +1,24 @@
 -- Hopping over node counts: after k elements one stands where the k-th is, and there is no such place exactly where the list ends earlier.
-use Prim.Native.Nat.{ℕ, zero, suc, _+_, _≤_, _<_}
+use Prim.Native.Nat.{ℕ, zero, suc, _+_, _-_, _≤_, _<_}
 use native.Mathlib.Omega.{arith}
-use mathlib.Core.Path.{_≡_, refl, sym, ap, ap₂, _∙_, subst}
-use mathlib.Core.Bool.{true, false}
-use mathlib.Core.Option.{Option, none, some}
+use mathlib.Core.Path.{_≡_, refl, sym, ap, ap₂, _∙_}
+use mathlib.Core.Option.{none, some}
 use mathlib.Core.List.{List, _++_, append-assoc}
-use lib.ListN.{length, getD}
-use lib.Dec.{leb, ltb, eqb}
+use lib.ListN.{length, getD, length-append}
+use lib.Dec.{leb}
 use lib.Seq.{getD-append-add}
 use borrow.Author.Tests.{lt-ltb, le-ltb, le-leb, lt-leb}
 use Rattle.base.specs.Choice.{pick}
 use Rattle.base.proofs.Cases.{by-le, picked, unpicked}
 use Rattle.model.specs.Node.{elements}
 use Rattle.model.specs.Table.{Row, plainRow, rows, rowss}
-use Rattle.model.specs.Tree.{Tree, Forest, nil, cons, canon, nodes, nodess}
+use Rattle.model.specs.Tree.{Forest, nil, cons, canon, nodes, nodess}
 use Rattle.walk.proofs.Tabled.{rows-length}
 use Rattle.edits.specs.Element.{element}
-use Rattle.edits.specs.Place.{number, Place, here, past, down, trail}
+use Rattle.edits.specs.Place.{before, number, Place, here, past, down, trail}
 use Rattle.edits.proofs.Find.{nodes-pos}
 use Rattle.edits.proofs.Inside.{nth, within-at}
+use Rattle.edits.proofs.Sides.{part, rows-before}
 use Rattle.edits.proofs.Whole.{head-row}
 
 -- rows that count alike are hopped over alike
@@ -68,3 +68,15 @@ unfolding within-at trail
 within-start (here b) q at g rest = rw append-assoc (g _)
 within-start (past t p) q at g rest = within-start p q at g rest
 within-start (down p b) q at g rest = rw append-assoc (within-start p q at g _)
+
+-- ---- the rows before the k-th element end by its place
+pub nth-ends : (f : Forest) (k at i : ℕ) → i < number (nth f k) → (getD (rowss f at) i (plainRow 0 0 0)) .end ≤ at + length (before (nth f k))
+unfolding nth number before rowss
+nth-ends f zero at i h = absurd (omega arith)
+nth-ends nil (suc k) at i h = absurd (omega arith)
+nth-ends (cons t f) (suc k) at i h =
+    let n = rows-length t at in
+    let c = length-append (canon t) (before (nth f k)) in
+    part (rows t at) (rowss f (at + length (canon t))) i (λ (r : Row). r .end ≤ at + length (canon t ++ before (nth f k)))
+    (λ l. let r = rows-before t at i (omega arith) in omega (arith, r .octets))
+    (λ l. omega (arith, nth-ends f k (at + length (canon t)) (i - length (rows t at)) (omega arith)))

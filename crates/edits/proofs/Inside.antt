@@ -1,12 +1,13 @@
 -- The place of an element of a list: directly before it, and inside the place of the list.
 use Prim.Native.Nat.{ℕ, zero, suc, _+_, _≤_, _<_}
 use native.Mathlib.Omega.{arith}
-use mathlib.Core.Path.{_≡_, refl, ap, _∙_}
+use mathlib.Core.Path.{_≡_, refl, ap}
 use lib.ListN.{length, length-append}
 use Rattle.model.specs.Edit.{join, one, put}
 use Rattle.model.specs.Node.{elements}
 use Rattle.model.specs.Tree.{Tree, list, Forest, nil, cons, canon, canons, nodes, nodess}
 use Rattle.edits.specs.Place.{before, number, level, past, Place, here, down, fill}
+use Rattle.edits.proofs.Fill.{fill-nodes, fill-length}
 use Rattle.edits.proofs.Find.{nodes-pos}
 
 -- directly before the k-th element of a forest, at its end where it has fewer
@@ -80,3 +81,10 @@ unfolding nth number elements nodess
 nth-inside nil k h = absurd (omega arith)
 nth-inside (cons t f) zero h = omega (arith, nodes-pos t)
 nth-inside (cons t f) (suc k) h = omega (arith, nth-inside f k (omega arith))
+
+-- what is before its place is in it
+pub nth-few : (f : Forest) (k : ℕ) → number (nth f k) ≤ nodess f
+nth-few f k = omega (arith, fill-nodes (nth f k) nil, ap nodess (nth-nil f k))
+
+pub nth-within : (f : Forest) (k : ℕ) → length (before (nth f k)) ≤ length (canons f)
+nth-within f k = omega (arith, fill-length (nth f k) nil, ap (λ (x : Forest). length (canons x)) (nth-nil f k))

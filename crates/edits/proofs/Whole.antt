@@ -99,7 +99,7 @@ module _ (t : Tree) (p : Place) (x : Tree) (e : one t ≡ fill p (one x)) where
   row-at = subst (HeadRow x (length (before p))) (sym row-first) (head-row x (length (before p)) (trail p (length (before p) + length (canons (one x)))))
 
 -- ---- a replacement in a tree is one in the forest of that tree alone
-replace-across : (t : Tree) (k : ℕ) (u : Tree) → k < nodes t → one (replace t k u) ≡ across (λ (x : Tree). one u) (one t) k
+pub replace-across : (t : Tree) (k : ℕ) (u : Tree) → k < nodes t → one (replace t k u) ≡ across (λ (x : Tree). one u) (one t) k
 unfolding replace join
 replace-across t zero u h = sym (across-here (λ (x : Tree). one u) t nil)
 replace-across t (suc k) u h = sym (across-in (λ (x : Tree). one u) t nil k h)

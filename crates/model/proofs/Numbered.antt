@@ -5,17 +5,26 @@ use mathlib.Core.Bool.{true}
 use mathlib.Core.List.{List}
 use lib.Dec.{eqb, eqb·suc-zero}
 use lib.ListN.{length}
-use Rattle.model.specs.Answers.{the, settled, sheetTree, Outcome, unchanged, filled, readingChecks, reading, replaced, replacingChecks, replacing, Output, unwritten, written, writingChecks, writing, Comparison, uncompared, comparingChecks, comparing}
+use Rattle.model.specs.Answers.{Check, judged, the, settled, sheetTree, Outcome, unchanged, filled, readingChecks, reading, replaced, replacingChecks, replacing, Output, unwritten, written, writingChecks, writing, Comparison, uncompared, comparingChecks, comparing}
 use Rattle.model.specs.Compare.{same}
+use Rattle.model.specs.Corrections.{inserted, insertingChecks, inserting, removed, removingChecks, removing}
 use Rattle.model.specs.Decode.{decode}
+use Rattle.model.specs.Tree.{Tree}
 use Rattle.model.proofs.Judging.{judged-holds}
 
+abbrev Tells : Outcome → Type 0
+Tells o = (o .accepted ≡ eqb (o .number) 0) × (o .place ≡ 0)
+
+-- where a tree is put into the lent sheet and table, or nothing changes
+filled-tells : (cs : List Check) (t : Tree) (len count : ℕ) (canonical table : List ℕ) → Tells (judged cs (filled t len count canonical table) (λ n. unchanged n canonical table))
+unfolding filled
+filled-tells cs t len count canonical table =
+    judged-holds cs (filled t len count canonical table) (λ n. unchanged n canonical table) Tells (refl, refl) (λ n. (sym (eqb·suc-zero n), refl))
+
 module _ (form : ℕ) (text canonical table : List ℕ) where
-  reading-tells : (reading form text canonical table .accepted ≡ eqb (reading form text canonical table .number) 0) × (reading form text canonical table .place ≡ 0)
-  unfolding reading filled
-  reading-tells =
-      judged-holds (readingChecks form text canonical table) (filled (the (decode form text)) 0 0 canonical table) (λ n. unchanged n canonical table)
-      (λ (o : Outcome). (o .accepted ≡ eqb (o .number) 0) × (o .place ≡ 0)) (refl, refl) (λ n. (sym (eqb·suc-zero n), refl))
+  reading-tells : Tells (reading form text canonical table)
+  unfolding reading
+  reading-tells = filled-tells (readingChecks form text canonical table) (the (decode form text)) 0 0 canonical table
 
   pub reading-numbered : reading form text canonical table .accepted ≡ eqb (reading form text canonical table .number) 0
   reading-numbered = reading-tells .0
@@ -24,18 +33,37 @@ module _ (form : ℕ) (text canonical table : List ℕ) where
   reading-unplaced = reading-tells .1
 
   module _ (len count node : ℕ) where
-    replacing-tells : (replacing form text canonical table len count node .accepted ≡ eqb (replacing form text canonical table len count node .number) 0) × (replacing form text canonical table len count node .place ≡ 0)
-    unfolding replacing filled
-    replacing-tells =
-        judged-holds (replacingChecks form text canonical table len count node)
-        (filled (replaced form text canonical table len count node) len count canonical table) (λ n. unchanged n canonical table)
-        (λ (o : Outcome). (o .accepted ≡ eqb (o .number) 0) × (o .place ≡ 0)) (refl, refl) (λ n. (sym (eqb·suc-zero n), refl))
+    replacing-tells : Tells (replacing form text canonical table len count node)
+    unfolding replacing
+    replacing-tells = filled-tells (replacingChecks form text canonical table len count node) (replaced form text canonical table len count node) len count canonical table
 
     pub replacing-numbered : replacing form text canonical table len count node .accepted ≡ eqb (replacing form text canonical table len count node .number) 0
     replacing-numbered = replacing-tells .0
 
     pub replacing-unplaced : replacing form text canonical table len count node .place ≡ 0
     replacing-unplaced = replacing-tells .1
+
+    module _ (k : ℕ) where
+      inserting-tells : Tells (inserting form text canonical table len count node k)
+      unfolding inserting
+      inserting-tells = filled-tells (insertingChecks form text canonical table len count node k) (inserted form text canonical table len count node k) len count canonical table
+
+      pub inserting-numbered : inserting form text canonical table len count node k .accepted ≡ eqb (inserting form text canonical table len count node k .number) 0
+      inserting-numbered = inserting-tells .0
+
+      pub inserting-unplaced : inserting form text canonical table len count node k .place ≡ 0
+      inserting-unplaced = inserting-tells .1
+
+module _ (canonical table : List ℕ) (len count node : ℕ) where
+  removing-tells : Tells (removing canonical table len count node)
+  unfolding removing
+  removing-tells = filled-tells (removingChecks canonical table len count node) (removed canonical table len count node) len count canonical table
+
+  pub removing-numbered : removing canonical table len count node .accepted ≡ eqb (removing canonical table len count node .number) 0
+  removing-numbered = removing-tells .0
+
+  pub removing-unplaced : removing canonical table len count node .place ≡ 0
+  removing-unplaced = removing-tells .1
 
 module _ (form : ℕ) (canonical : List ℕ) (len : ℕ) (out : List ℕ) where
   writing-tells : (writing form canonical len out .accepted ≡ eqb (writing form canonical len out .number) 0) × (writing form canonical len out .place ≡ 0)
