@@ -54,7 +54,7 @@ own-room canonical table len count t o =
 
 -- put where it stood, it changes nothing
 own-same : (canonical table : List ℕ) (len count : ℕ) (t : Tree) → Own canonical len table count t
-    → filled t len count canonical table ≡ record { accepted = true; number = 0; octets = len; count = count; canonical = canonical; table = table }
+    → filled t len count canonical table ≡ record { accepted = true; number = 0; place = 0; octets = len; count = count; canonical = canonical; table = table }
 unfolding filled
 own-same canonical table len count t o =
     let a : settled canonical len (canon t) ≡ canonical = settled-same canonical (canon t) len (o .sheet .is) (o .sheet .size) in
@@ -173,7 +173,7 @@ module _ (canonical table : List ℕ) (len count j : ℕ) (c : Removable canonic
   -- ---- inserting what was removed, in its place: sheet, table and counts as they were, and all lent space
   pub restored : (n k : ℕ) → Element (c .old) n k j → (form : ℕ) (text : List ℕ) → noForm form ≡ false → length text ≤ maxSource → decode form text ≡ some (nodeAt (c .old) j)
       → inserting form text (left .canonical) (left .table) (left .octets) (left .count) n k
-      ≡ record { accepted = true; number = 0; octets = len; count = count; canonical = canonical; table = table }
+      ≡ record { accepted = true; number = 0; place = 0; octets = len; count = count; canonical = canonical; table = table }
   restored n k e form text known short valid =
       let x : replace (c .old) j (nodeAt (c .old) j) ≡ c .old = sym (replace-is (c .old) n k j e (nodeAt (c .old) j)) ∙ insert-removed (c .old) n k j e in
       put-there n k e form text (nodeAt (c .old) j) known short valid (rw x (own-room canonical table len count (c .old) owned))

@@ -42,7 +42,7 @@ refused n = unchanged n sheet table
 
 abbrev accepted : List ℕ → ℕ → List ℕ → List ℕ → Outcome
 accepted octets count numbers past =
-    record { accepted = true; number = 0; octets = length octets; count = count; canonical = octets ++ past; table = numbers }
+    record { accepted = true; number = 0; place = 0; octets = length octets; count = count; canonical = octets ++ past; table = numbers }
 
 cases : List (Outcome × Outcome)
 cases =
