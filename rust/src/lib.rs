@@ -21,6 +21,7 @@
 //! # Ok::<(), etglavino::Refusal>(())
 //! ```
 
+mod corrections;
 mod extract;
 mod ffi;
 mod form;
@@ -34,6 +35,9 @@ mod spool_map;
 mod table;
 mod value;
 
+pub use corrections::{
+    insert, insert_form, insert_records, insert_records_form, remove, remove_records, Slot,
+};
 pub use extract::{extract, extract_own, extract_own_records, extract_records};
 pub use form::Form;
 pub use records::{

@@ -1,6 +1,7 @@
 // The library's entries: nothing else is a user's business. Each answers and ends whatever it is given, and each promise is an
 // equation with one definition, of crate model or, of what requests brought, of spools, typed or extracts: it settles the answer and
 // every lent octet and number afterwards.
+mod corrections; // corrections.rt: elements put into lists, and nodes removed
 mod foremen; // foremen.rt: extracts
 mod spooling; // spooling.rt: a spool of sheets
 mod typing; // typing.rt: values with a type, and hours
@@ -13,6 +14,8 @@ use answers::Comparing;
 use answers::Place;
 use answers::Reading;
 use answers::Writing;
+pub use corrections::insert;
+pub use corrections::remove;
 pub use foremen::extract;
 pub use foremen::extract_own;
 pub use spooling::spool_add;

@@ -7,7 +7,8 @@ use mathlib.Core.List.{List}
 use lib.Dec.{eqb}
 use Rattle.model.specs.Answers.{Outcome, unchangedAt, Output, unwrittenAt, Comparison, Part}
 use Rattle.model.specs.Answers as model
-use Rattle.model.proofs.Numbered.{reading-numbered, reading-unplaced, replacing-numbered, replacing-unplaced, writing-numbered, writing-unplaced}
+use Rattle.model.specs.Corrections.{inserting, removing}
+use Rattle.model.proofs.Numbered.{reading-numbered, reading-unplaced, replacing-numbered, replacing-unplaced, inserting-numbered, inserting-unplaced, removing-numbered, removing-unplaced, writing-numbered, writing-unplaced}
 use Rattle.answers.specs.Cases.{outcome, output, told, placed}
 use Rattle.answers.specs.declared.Refusal.{Refusal}
 use Rattle.answers.specs.declared.Reading.{Reading}
@@ -42,6 +43,12 @@ module _ (r : Reading) where
 
     pub replace-handed : (form : ℕ) (s c t : List ℕ) (l k node : ℕ) → outcome r canonical table ≡ model.replacing form s c t l k node → outcomeOf n len count canonical table ≡ model.replacing form s c t l k node
     replace-handed form s c t l k node e = h .is canonical table (model.replacing form s c t l k node) e (replacing-numbered form s c t l k node) (replacing-unplaced form s c t l k node)
+
+    pub insert-handed : (form : ℕ) (s c t : List ℕ) (l m node k : ℕ) → outcome r canonical table ≡ inserting form s c t l m node k → outcomeOf n len count canonical table ≡ inserting form s c t l m node k
+    insert-handed form s c t l m node k e = h .is canonical table (inserting form s c t l m node k) e (inserting-numbered form s c t l m node k) (inserting-unplaced form s c t l m node k)
+
+    pub remove-handed : (c t : List ℕ) (l m node : ℕ) → outcome r canonical table ≡ removing c t l m node → outcomeOf n len count canonical table ≡ removing c t l m node
+    remove-handed c t l m node e = h .is canonical table (removing c t l m node) e (removing-numbered c t l m node) (removing-unplaced c t l m node)
 
 module _ (r : Writing) (out : List ℕ) (form : ℕ) (c : List ℕ) (n : ℕ) (x : List ℕ) (e : output r out ≡ model.writing form c n x) where
   pub write-accepted : (len : ℕ) → r ≡ writing.Accepted len → outputOf 0 len out ≡ model.writing form c n x
