@@ -18,12 +18,13 @@ use Rattle.model.specs.Node.{nodeAt, hasPlace}
 use Rattle.model.specs.Table.{rows, rowOf}
 use Rattle.model.specs.Tree.{Tree, nodes}
 use Rattle.model.proofs.Judging.{judged-accepted}
-use Rattle.edits.specs.Element.{placed, placeOctet}
+use Rattle.edits.specs.Element.{placed, placeOctet, Element}
 use Rattle.edits.specs.Levels.{holders}
 use Rattle.edits.specs.Moves.{Change}
 use Rattle.edits.specs.Node.{holds}
 use Rattle.edits.proofs.Changed.{change-holds}
 use Rattle.edits.proofs.Changes.{placed-exact, insert-change, insert-around}
+use Rattle.edits.proofs.Elements.{inserted-element}
 use Rattle.lookup.proofs.Sheets.{Own, own-of}
 use Rattle.demands.specs.Conditions.{First}
 use Rattle.demands.specs.Corrections.{Correction, Insertable}
@@ -139,6 +140,10 @@ module _ (form : ℕ) (text canonical table : List ℕ) (len count node k : ℕ)
     -- the octet where it starts
     abbrev octet : ℕ
     octet = placeOctet (rowOf old) node number
+
+    -- it is the k-th element of the list
+    pub insert-element : Element now node k number
+    insert-element = inserted-element old node insert-inside k number (entry .is) (c .new)
 
     pub inserting-corrects : Correction canonical table len count old now number 0 octet octet (one (c .new)) (λ j. holds now j number) answer
     inserting-corrects =
