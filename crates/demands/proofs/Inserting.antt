@@ -6,12 +6,12 @@ use native.Mathlib.Nat.{add-zero}
 use mathlib.Core.Path.{_≡_, refl, sym, ap, ap₂, _∙_, subst}
 use mathlib.Core.Bool.{false}
 use mathlib.Core.Option.{Option, none, some}
-use mathlib.Core.List.{List}
+use mathlib.Core.List.{List, [], _∷_, map}
 use lib.ListN.{take}
 use lib.Dec.{eqb}
 use Rattle.base.specs.Choice.{either, not, isNone}
 use Rattle.base.proofs.Cases.{not-false, untrue}
-use Rattle.model.specs.Answers.{Check, verdict, the, roomChecks, Outcome, filled, unchanged}
+use Rattle.model.specs.Answers.{Check, verdict, the, roomChecks, textChecks, Outcome, filled, unchanged}
 use Rattle.model.specs.Corrections.{inserted, noPlace, insertingChecks, inserting}
 use Rattle.model.specs.Edit.{one, insert}
 use Rattle.model.specs.Node.{nodeAt, hasPlace}
@@ -47,6 +47,11 @@ module _ (form : ℕ) (text canonical table : List ℕ) (len count node k : ℕ)
 
   abbrev answer : Outcome
   answer = inserting form text canonical table len count node k
+
+  -- 02, "it comes directly after 8 in correction's order"
+  pub insert-order : map (λ (c : Check). c .row) checks ≡ (1 ∷ 2 ∷ 3 ∷ 7 ∷ 8 ∷ 9 ∷ 4 ∷ 5 ∷ 6 ∷ [])
+  unfolding insertingChecks textChecks roomChecks
+  insert-order = refl
 
   -- ---- what the conditions give
 

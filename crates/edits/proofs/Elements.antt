@@ -234,6 +234,12 @@ remove-inserted t n h k j e u =
     ∙ ap (fill (c .place)) (sym (no-nodes (c .old) (c .some)))
     ∙ sym (c .was))
 
+-- past the last element it comes last
+pub put-last : (f : Forest) (u : Tree) → put f (elements f) u ≡ join f (one u)
+unfolding put elements join
+put-last nil u = refl
+put-last (cons t f) u = let e : 1 + elements f ≡ suc (elements f) = omega arith in rw e (ap (cons t) (put-last f u))
+
 -- ---- and it is the k-th element of its list
 put-elements : (f : Forest) (k : ℕ) (u : Tree) → elements (put f k u) ≡ 1 + elements f
 unfolding put elements
