@@ -6,24 +6,25 @@ use native.Mathlib.Nat.{add-zero}
 use mathlib.Core.Path.{_≡_, refl, sym, ap, ap₂, _∙_, subst}
 use mathlib.Core.Bool.{false}
 use mathlib.Core.Option.{Option, none, some}
-use mathlib.Core.List.{List}
+use mathlib.Core.List.{List, [], _∷_, map}
 use lib.ListN.{take}
 use lib.Dec.{eqb}
 use Rattle.base.specs.Choice.{either, not, isNone}
 use Rattle.base.proofs.Cases.{not-false, untrue}
-use Rattle.model.specs.Answers.{Check, verdict, the, roomChecks, Outcome, filled, unchanged}
+use Rattle.model.specs.Answers.{Check, verdict, the, roomChecks, textChecks, Outcome, filled, unchanged}
 use Rattle.model.specs.Corrections.{inserted, noPlace, insertingChecks, inserting}
 use Rattle.model.specs.Edit.{one, insert}
 use Rattle.model.specs.Node.{nodeAt, hasPlace}
 use Rattle.model.specs.Table.{rows, rowOf}
 use Rattle.model.specs.Tree.{Tree, nodes}
 use Rattle.model.proofs.Judging.{judged-accepted}
-use Rattle.edits.specs.Element.{placed, placeOctet}
+use Rattle.edits.specs.Element.{placed, placeOctet, Element}
 use Rattle.edits.specs.Levels.{holders}
 use Rattle.edits.specs.Moves.{Change}
 use Rattle.edits.specs.Node.{holds}
 use Rattle.edits.proofs.Changed.{change-holds}
 use Rattle.edits.proofs.Changes.{placed-exact, insert-change, insert-around}
+use Rattle.edits.proofs.Elements.{inserted-element}
 use Rattle.lookup.proofs.Sheets.{Own, own-of}
 use Rattle.demands.specs.Conditions.{First}
 use Rattle.demands.specs.Corrections.{Correction, Insertable}
@@ -46,6 +47,11 @@ module _ (form : ℕ) (text canonical table : List ℕ) (len count node k : ℕ)
 
   abbrev answer : Outcome
   answer = inserting form text canonical table len count node k
+
+  -- 02, "it comes directly after 8 in correction's order"
+  pub insert-order : map (λ (c : Check). c .row) checks ≡ (1 ∷ 2 ∷ 3 ∷ 7 ∷ 8 ∷ 9 ∷ 4 ∷ 5 ∷ 6 ∷ [])
+  unfolding insertingChecks textChecks roomChecks
+  insert-order = refl
 
   -- ---- what the conditions give
 
@@ -139,6 +145,10 @@ module _ (form : ℕ) (text canonical table : List ℕ) (len count node k : ℕ)
     -- the octet where it starts
     abbrev octet : ℕ
     octet = placeOctet (rowOf old) node number
+
+    -- it is the k-th element of the list
+    pub insert-element : Element now node k number
+    insert-element = inserted-element old node insert-inside k number (entry .is) (c .new)
 
     pub inserting-corrects : Correction canonical table len count old now number 0 octet octet (one (c .new)) (λ j. holds now j number) answer
     inserting-corrects =

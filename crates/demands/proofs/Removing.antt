@@ -2,9 +2,9 @@
 -- left always has room.
 use Prim.Native.Nat.{ℕ, _<_}
 use native.Mathlib.Omega.{arith}
-use mathlib.Core.Path.{_≡_, sym, ap, _∙_}
+use mathlib.Core.Path.{_≡_, refl, sym, ap, _∙_}
 use mathlib.Core.Option.{Option}
-use mathlib.Core.List.{List, _++_}
+use mathlib.Core.List.{List, [], _∷_, _++_, map}
 use lib.Dec.{eqb}
 use borrow.Author.Tests.{eqb-false, ne-eqb}
 use Rattle.model.specs.Answers.{Check, verdict, the, roomChecks, Outcome, filled, unchanged}
@@ -29,6 +29,11 @@ module _ (canonical table : List ℕ) (len count node : ℕ) where
 
   abbrev answer : Outcome
   answer = removing canonical table len count node
+
+  -- 02, "a removal has no text to judge"; rows 4 to 6 never apply to it (`removing-fits`)
+  pub remove-order : map (λ (c : Check). c .row) checks ≡ (7 ∷ 8 ∷ 9 ∷ [])
+  unfolding removingChecks
+  remove-order = refl
 
   -- ---- what the conditions give
 

@@ -6,7 +6,7 @@ use mathlib.Core.Bool.{true}
 use mathlib.Core.Option.{some}
 use borrow.Author.Tests.{le-leb}
 use Rattle.base.proofs.Cases.{by-le, picked}
-use Rattle.model.specs.Edit.{join, one, across, replace, putIn, insert, remove}
+use Rattle.model.specs.Edit.{join, one, across, replace, put, putIn, insert, remove}
 use Rattle.model.specs.Node.{nodeAmong, nodeAt, elements, hasPlace}
 use Rattle.model.specs.Table.{rowOf}
 use Rattle.model.specs.Tree.{Tree, plain, hinted, list, Forest, nil, cons, nodes, nodess}
@@ -233,3 +233,43 @@ remove-inserted t n h k j e u =
     ∙ across-at (λ (x : Tree). nil) (c .place) u
     ∙ ap (fill (c .place)) (sym (no-nodes (c .old) (c .some)))
     ∙ sym (c .was))
+
+-- past the last element it comes last
+pub put-last : (f : Forest) (u : Tree) → put f (elements f) u ≡ join f (one u)
+unfolding put elements join
+put-last nil u = refl
+put-last (cons t f) u = let e : 1 + elements f ≡ suc (elements f) = omega arith in rw e (ap (cons t) (put-last f u))
+
+-- ---- and it is the k-th element of its list
+put-elements : (f : Forest) (k : ℕ) (u : Tree) → elements (put f k u) ≡ 1 + elements f
+unfolding put elements
+put-elements nil k u = refl
+put-elements (cons t f) zero u = refl
+put-elements (cons t f) (suc k) u = ap (λ (n : ℕ). 1 + n) (put-elements f k u)
+
+put-number : (f : Forest) (k : ℕ) (u : Tree) → k ≤ elements f → number (nth (put f k u) k) ≡ number (nth f k)
+unfolding put nth number elements
+put-number nil zero u h = refl
+put-number nil (suc k) u h = absurd (omega arith)
+put-number (cons t f) zero u h = refl
+put-number (cons t f) (suc k) u h = ap (λ (n : ℕ). nodes t + n) (put-number f k u (omega arith))
+
+pub inserted-element : (t : Tree) (n : ℕ) (h : n < nodes t) (k j : ℕ) → placed (rowOf t) n k ≡ some j → (u : Tree) → Element (insert t n k u) n k j
+unfolding putIn
+inserted-element t n h k j e u =
+    by-list t n h k j e (λ (m : ℕ). Element (insert t n k u) n k m)
+    (λ f i l.
+    let a = locate t n h in
+    let is : one (insert t n k u) ≡ fill (a .place) (one (list (put f k u)))
+    = insert-across t n k u h ∙ a .edited (λ (x : Tree). one (putIn k u x)) ∙ ap (λ (x : Tree). fill (a .place) (one (putIn k u x))) (sym (a .isNode) ∙ i) in
+    let w = node-of (insert t n k u) (list (put f k u)) (a .place) is in
+    let x : n < nodes (insert t n k u) = omega (arith, w .0, a .num) in
+    let y : nodeAt (insert t n k u) n ≡ list (put f k u) = ap (nodeAt (insert t n k u)) (sym (a .num)) ∙ w .1 in
+    let c = list-count (insert t n k u) n x (put f k u) y in
+    let d = put-elements f k u in
+    let b = put-number f k u l in
+    record {
+      inside = x;
+      hops = list-placed (insert t n k u) n x (put f k u) y k ∙ picked _ _ (le-leb k (elements (put f k u)) (omega arith)) ∙ ap some (omega arith);
+      there = omega (arith, nth-inside (put f k u) k (omega arith));
+    })
