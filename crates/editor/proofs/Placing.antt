@@ -120,7 +120,7 @@ module _ (canonical : List ℕ) (len count room : ℕ) (own : Bool) (a : Asked) 
         rw (sheet .is) (rw x at (sym (moved .octets)))
 
     new-long : length (canon new) ≡ start + n + (len - end)
-    new-long = omega (arith, new-length t new first (fitting .number) start (end - start) (given a u) moved, sheet .size, g .is .sized .long, in-order .0, in-order .1)
+    new-long = omega (arith, new-length moved, sheet .size, g .is .sized .long, in-order .0, in-order .1)
 
     pub place-gap : Movable (length canonical) start end len n
     place-gap =

@@ -71,10 +71,10 @@ module _ (canonical : List ℕ) (len : ℕ) (table : List ℕ) (count node : ℕ
         unfolding canons nodess depths
         removing-room =
             let less = remove-change t node inside p in
-            let fewer = change-moves t (remove t node) node _ _ _ _ nil less in
-            let d : depth (remove t node) ≤ depth t = change-shallow t (remove t node) node _ _ _ _ nil less (omega arith) in
+            let fewer = change-moves less in
+            let d : depth (remove t node) ≤ depth t = change-shallow less (omega arith) in
             let m : nodes (remove t node) ≤ nodes t = omega (arith, fewer .count) in
-            let l : length (canon (remove t node)) ≤ length (canon t) = omega (arith, new-length t (remove t node) node _ _ _ nil fewer) in
+            let l : length (canon (remove t node)) ≤ length (canon t) = omega (arith, new-length fewer) in
             let s = own .sheet in
             let w = own-lent canonical len table count t own in
             room-good _ _ _ (length canonical) (records table)

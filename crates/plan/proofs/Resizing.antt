@@ -29,7 +29,7 @@ mutual
 
 module _ (len count first n start end level : ℕ) (a : Asked) (t : Tree) (at : AtSpot len count first n start end level a t) where
   pub moves : (u : Tree) → Moves t (changed a t u) first n start (end - start) (given a u)
-  moves u = change-moves t (changed a t u) first n start (end - start) level (given a u) (at .spot .change u)
+  moves u = change-moves (at .spot .change u)
 
   pub ordered : (start ≤ end) × (end ≤ len) × (n ≤ count)
   ordered =
@@ -51,7 +51,7 @@ module _ (len count first n start end level : ℕ) (a : Asked) (t : Tree) (at : 
   module _ (u : Tree) (text : Sizes) (s : Sized (given a u) text) where
     pub long-is : len - (end - start) + text .len ≡ length (canon (changed a t u))
     long-is =
-        let y = new-length t (changed a t u) first n start (end - start) (given a u) (moves u) in
+        let y = new-length (moves u) in
         omega (arith, ordered .0, ordered .1, y, at .long, s .long)
 
     pub nodes-are : count - n + text .nodes ≡ nodes (changed a t u)
@@ -60,4 +60,4 @@ module _ (len count first n start end level : ℕ) (a : Asked) (t : Tree) (at : 
     pub deep-where : ltb maxDepth (level + text .depth) ≡ ltb maxDepth (depth (changed a t u))
     deep-where =
         ap (λ (d : ℕ). ltb maxDepth (level + d)) (s .deepest)
-        ∙ sym (change-deep t (changed a t u) first n start (end - start) level (given a u) (at .spot .change u) maxDepth (at .shallow))
+        ∙ sym (change-deep (at .spot .change u) maxDepth (at .shallow))
