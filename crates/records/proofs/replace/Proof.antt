@@ -69,9 +69,9 @@ use Rattle.lookup.proofs.noted.note_sheet.Met as noting-thm
 use Rattle.records.proofs.holds.Symbol as holding-def
 use Rattle.records.proofs.holds.Symbol.{name as #holds}
 use Rattle.records.proofs.holds.Met as holding-thm
-use Rattle.editor.proofs.records.replace_notes.Symbol as core-def
-use Rattle.editor.proofs.records.replace_notes.Symbol.{name as #core}
-use Rattle.editor.proofs.records.replace_notes.Met as core-thm
+use Rattle.editor.proofs.replace_notes.Symbol as core-def
+use Rattle.editor.proofs.replace_notes.Symbol.{name as #core}
+use Rattle.editor.proofs.replace_notes.Met as core-thm
 use Rattle.records.proofs.tell.Symbol as tell-def
 use Rattle.records.proofs.tell.Symbol.{name as #tell}
 use Rattle.records.proofs.tell.Met as tell-thm

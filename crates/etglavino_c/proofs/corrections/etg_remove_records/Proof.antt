@@ -47,10 +47,10 @@ use Rattle.records.specs.declared.Record.{Record}
 use Rattle.records.specs.Numbers.{numbers}
 use Rattle.records.proofs.Record as T
 use Rattle.records.proofs.Spelled.{word, answerTy, toByte, toRecord, bytes, recs}
-use Rattle.records.proofs.corrections.remove as callee
-use Rattle.records.proofs.corrections.remove.Symbol as callee-def
-use Rattle.records.proofs.corrections.remove.Symbol.{name as #callee}
-use Rattle.records.proofs.corrections.remove.Met as callee-thm
+use Rattle.records.proofs.remove as callee
+use Rattle.records.proofs.remove.Symbol as callee-def
+use Rattle.records.proofs.remove.Symbol.{name as #callee}
+use Rattle.records.proofs.remove.Met as callee-thm
 use Rattle.etglavino_c.specs.Pointers.{HandsReading}
 use Rattle.etglavino_c.proofs.Handed.{remove-handed}
 use Rattle.etglavino_c.proofs.Addresses.{toWord, pointer}
@@ -198,5 +198,5 @@ etg-remove-records-spec 𝓤 H 𝓜 𝓖 𝓡 =
     entered 𝓤 H (tripleOf 𝓤 H (𝓖 .A) entry.signature (entry.spec 𝓤 H (𝓖 .A) (𝓜 .mem) (𝓡 .run)))
     (tables 𝓤 H 𝓜 𝓡 code.env .C) (tables 𝓤 H 𝓜 𝓡 code.env .Λ) #entry code.function (code.unfolded 𝓤 H 𝓜 𝓡)
     (meets 𝓤 H (𝓖 .A) (givenOf 𝓤 H 𝓜 𝓖) (𝓜 .mem) (𝓡 .run) (tablesOf 𝓤 H 𝓜 (tables 𝓤 H 𝓜 𝓡 code.env))
-    (cited 𝓤 H (Core 𝓤 H (𝓖 .A) (𝓜 .mem) (𝓡 .run)) 𝓜 𝓡 code.env #callee callee-def.routine code.calls-records·corrections·remove (callee-thm.met 𝓤 H 𝓜 𝓖 𝓡))
+    (cited 𝓤 H (Core 𝓤 H (𝓖 .A) (𝓜 .mem) (𝓡 .run)) 𝓜 𝓡 code.env #callee callee-def.routine code.calls-records·remove (callee-thm.met 𝓤 H 𝓜 𝓖 𝓡))
     (cited 𝓤 H (Handing 𝓤 H (𝓖 .A) (𝓜 .mem) (𝓡 .run)) 𝓜 𝓡 code.env #hand hand-def.routine code.calls-etglavino-c·hand-reading (hand-thm.met 𝓤 H 𝓜 𝓖 𝓡)))

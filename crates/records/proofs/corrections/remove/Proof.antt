@@ -70,9 +70,9 @@ use Rattle.lookup.proofs.noted.note_sheet.Met as noting-thm
 use Rattle.records.proofs.holds.Symbol as holding-def
 use Rattle.records.proofs.holds.Symbol.{name as #holds}
 use Rattle.records.proofs.holds.Met as holding-thm
-use Rattle.editor.proofs.records.remove_notes.Symbol as core-def
-use Rattle.editor.proofs.records.remove_notes.Symbol.{name as #core}
-use Rattle.editor.proofs.records.remove_notes.Met as core-thm
+use Rattle.editor.proofs.remove_notes.Symbol as core-def
+use Rattle.editor.proofs.remove_notes.Symbol.{name as #core}
+use Rattle.editor.proofs.remove_notes.Met as core-thm
 use Rattle.records.proofs.tell.Symbol as tell-def
 use Rattle.records.proofs.tell.Symbol.{name as #tell}
 use Rattle.records.proofs.tell.Met as tell-thm
@@ -275,5 +275,5 @@ remove-spec 𝓤 H 𝓜 𝓖 𝓡 =
     (meets 𝓤 H (𝓖 .A) (givenOf 𝓤 H 𝓜 𝓖) (𝓜 .mem) (𝓡 .run) (tablesOf 𝓤 H 𝓜 (tables 𝓤 H 𝓜 𝓡 code.env))
     (cited 𝓤 H (Noting 𝓤 H (𝓖 .A) (𝓜 .mem) (𝓡 .run)) 𝓜 𝓡 code.env #note-sheet noting-def.routine code.calls-lookup·noted·note-sheet (noting-thm.met 𝓤 H 𝓜 𝓖 𝓡))
     (cited 𝓤 H (Holding 𝓤 H (𝓖 .A) (𝓜 .mem) (𝓡 .run)) 𝓜 𝓡 code.env #holds holding-def.routine code.calls-records·holds (holding-thm.met 𝓤 H 𝓜 𝓖 𝓡))
-    (cited 𝓤 H (Core 𝓤 H (𝓖 .A) (𝓜 .mem) (𝓡 .run)) 𝓜 𝓡 code.env #core core-def.routine code.calls-editor·records·remove-notes (core-thm.met 𝓤 H 𝓜 𝓖 𝓡))
+    (cited 𝓤 H (Core 𝓤 H (𝓖 .A) (𝓜 .mem) (𝓡 .run)) 𝓜 𝓡 code.env #core core-def.routine code.calls-editor·remove-notes (core-thm.met 𝓤 H 𝓜 𝓖 𝓡))
     (cited 𝓤 H (Telling 𝓤 H (𝓖 .A) (𝓜 .mem) (𝓡 .run)) 𝓜 𝓡 code.env #tell tell-def.routine code.calls-records·tell (tell-thm.met 𝓤 H 𝓜 𝓖 𝓡)))
