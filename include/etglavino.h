@@ -33,6 +33,10 @@
  *   etg_write                 35,096
  *   etg_replace              120,520
  *   etg_replace_records      120,312
+ *   etg_insert                     ?
+ *   etg_insert_records             ?
+ *   etg_remove                     ?
+ *   etg_remove_records             ?
  *   etg_same                   2,456
  *   etg_hint                  67,896
  *   etg_hint_records          67,816
@@ -93,6 +97,8 @@ enum {
                            beyond what is lent; a raw value to be written
                            whose place is no part of the octets lent */
     ETG_NO_NODE = 8,    /* there is no node of that number */
+    ETG_NO_PLACE = 9,   /* the node isn't a list, the list has no such place, or
+                           node 0 is to be removed */
     ETG_DAMAGED = 10,   /* the area of a spool is damaged */
     ETG_NOT_TYPED = 11, /* the node is no value of its type: a list, octets of
                            a wrong length, an int that is not the shortest, NaN
@@ -169,6 +175,31 @@ uint32_t etg_replace(uint32_t form,
                      size_t length, size_t nodes, size_t node,
                      size_t *new_length, size_t *new_nodes);
 
+/* Puts the tree of `text` into the list that node `node` of a sheet is, as its
+ * element `k`, counted from 0, in place. The list's element count as `k` puts it
+ * at the end.
+ *
+ * Refusals: 1, 2, 3, 7, 8, 9, 4, 5, 6, where 4 to 6 speak of the tree with the
+ * element in it. On acceptance sheet and table are what reading the changed
+ * sheet afresh would give; past them nothing changes. */
+uint32_t etg_insert(uint32_t form,
+                    const uint8_t *text, size_t text_len,
+                    uint8_t *canonical, size_t canonical_room,
+                    uint32_t *table, size_t table_room,
+                    size_t length, size_t nodes, size_t node, size_t k,
+                    size_t *new_length, size_t *new_nodes);
+
+/* Removes node `node` of a sheet, which is any but node 0, with all that is in
+ * it, in place.
+ *
+ * Refusals: 7, 8, 9. On acceptance sheet and table are what reading the changed
+ * sheet afresh would give. Octets and records between the new end and the old
+ * one become 0, and the next insertion may use them. */
+uint32_t etg_remove(uint8_t *canonical, size_t canonical_room,
+                    uint32_t *table, size_t table_room,
+                    size_t length, size_t nodes, size_t node,
+                    size_t *new_length, size_t *new_nodes);
+
 /* Compares two sheets: `*same` becomes 1 where they have the same shape, and
  * at each string the same data and the same hint, else 0. A missing hint
  * counts as `default_hint`; an empty hint is not a missing one.
@@ -214,6 +245,20 @@ uint32_t etg_replace_records(uint32_t form,
                              struct etg_record *records, size_t record_room,
                              size_t length, size_t nodes, size_t node,
                              size_t *new_length, size_t *new_nodes);
+
+/* etg_insert and etg_remove with the table lent as records; `record_room` counts
+ * records. A refusal changes no record. */
+uint32_t etg_insert_records(uint32_t form,
+                            const uint8_t *text, size_t text_len,
+                            uint8_t *canonical, size_t canonical_room,
+                            struct etg_record *records, size_t record_room,
+                            size_t length, size_t nodes, size_t node, size_t k,
+                            size_t *new_length, size_t *new_nodes);
+
+uint32_t etg_remove_records(uint8_t *canonical, size_t canonical_room,
+                            struct etg_record *records, size_t record_room,
+                            size_t length, size_t nodes, size_t node,
+                            size_t *new_length, size_t *new_nodes);
 
 /* etg_hint with the table lent as records; `record_room` counts records. */
 uint32_t etg_hint_records(const uint8_t *canonical, size_t canonical_room, size_t length,

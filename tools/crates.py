@@ -22,13 +22,15 @@ def sources(crate):
 
 
 def cited(crate, names):
-    found = set()
+    found, called, own = set(), set(), set()
     for name, text in sources(crate):
         found.update(re.findall(r"Rattle·([a-z0-9_]+)", text))
         if name.endswith(".rt"):
             code = re.sub(r"//.*", "", text)
-            found.update(re.findall(r"(?<![\w:])([a-z0-9_]+)::", code))
-    return found & (set(names) | set(KIT)) - {crate}
+            called.update(re.findall(r"(?<![\w:])([a-z0-9_]+)::", code))
+            own.update(re.findall(r"^(?:pub )?mod ([a-z0-9_]+);", code, re.M))
+    # a module of the crate's own hides a crate of its name
+    return (found | called - own) & (set(names) | set(KIT)) - {crate}
 
 
 def named():

@@ -5,7 +5,8 @@ use std::hint::black_box;
 use bench::clock::{race, Figure};
 use bench::report::{head, row, Cell};
 use bench::texts::{canonical_of, texts};
-use etglavino::{Extent, Form, MAX_CANONICAL, MAX_NODES, MAX_SOURCE, RECORD};
+use etglavino::{Extent, Form, Slot, MAX_CANONICAL, MAX_NODES, MAX_SOURCE, RECORD};
+use reference::corrections;
 use reference::entries as other;
 use reference::entries::Reading;
 
@@ -44,6 +45,16 @@ pub fn table() {
         let last = sheet.extent.nodes - 1;
         for (place, node) in [("first", 1), ("middle", last / 2), ("last", last)] {
             replacing(&format!("replace the {place}, {name}"), sheet, node);
+        }
+    }
+    for (name, sheet) in &sheets {
+        let last = elements(sheet);
+        for (place, k) in [("first", 0), ("middle", last / 2), ("last", last)] {
+            inserting(
+                &format!("insert the {place} and remove it, {name}"),
+                sheet,
+                k,
+            );
         }
     }
     for (name, sheet) in &sheets {
@@ -131,6 +142,49 @@ fn replacing(name: &str, sheet: &Sheet, node: usize) {
             let text = black_box(texts[other_count % 2]);
             match other::replace(3, text, canonical, table, length, nodes, node) {
                 Reading::Accepted { length, nodes } => two.extent = Extent { length, nodes },
+                Reading::Refused(number) => panic!("refused {number}"),
+            }
+        },
+    ]);
+    print(name, sheet.extent.length, &figures);
+}
+
+/// Elements of node 0, a list.
+fn elements(sheet: &Sheet) -> usize {
+    let (mut node, mut count) = (1, 0);
+    while node < sheet.extent.nodes {
+        node += sheet.table[node * RECORD + 3] as usize;
+        count += 1;
+    }
+    count
+}
+
+/// Node 0 gets an element at the place, and loses it again: two calls.
+fn inserting(name: &str, sheet: &Sheet, k: usize) {
+    let (mut one, mut two) = (sheet.clone(), sheet.clone());
+    let mut node = 1;
+    (0..k).for_each(|_| node += sheet.table[node * RECORD + 3] as usize);
+    let slot = Slot { node: 0, k };
+    let mut copied = vec![0; sheet.extent.length];
+    let figures = race(&mut [
+        &mut || copied.copy_from_slice(black_box(&sheet.canonical[..sheet.extent.length])),
+        &mut || {
+            let (canonical, table) = (&mut one.canonical, &mut one.table);
+            let text = black_box(b"abc");
+            let answer =
+                etglavino::insert(Form::Advanced, text, canonical, table, one.extent, slot);
+            let more = answer.expect("room for one more");
+            let answer = etglavino::remove(canonical, table, more, node);
+            assert_eq!(answer, Ok(one.extent));
+        },
+        &mut || {
+            let Extent { length, nodes } = two.extent;
+            let (canonical, table) = (&mut two.canonical, &mut two.table);
+            let text = black_box(b"abc");
+            match corrections::insert(3, text, canonical, table, length, nodes, 0, k) {
+                Reading::Accepted { length, nodes } => {
+                    black_box(corrections::remove(canonical, table, length, nodes, node));
+                }
                 Reading::Refused(number) => panic!("refused {number}"),
             }
         },

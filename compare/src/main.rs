@@ -1,12 +1,14 @@
 //! `compare SEED COUNT`: the fixed cases, COUNT random ones of the seed and the
 //! largest sheets, each answered by the library and by the reference program; then
-//! extracts, about as many random ones again; then spools; then runs of sheets and
-//! pairs of corrections in either order, a tenth as many each; then the fixed
-//! sheets of values and hours, and a tenth as many random ones, node by node.
-//! Answers and all lent buffers must be the same. Of what differs the first five of
-//! each part are shown, the rest counted; the exit status is 1 where anything does.
+//! elements put into lists and nodes removed, and extracts, about as many random
+//! ones again of each; then spools; then runs of sheets and pairs of corrections in
+//! either order, a tenth as many each; then the fixed sheets of values and hours,
+//! and a tenth as many random ones, node by node. Answers and all lent buffers must
+//! be the same. Of what differs the first five of each part are shown, the rest
+//! counted; the exit status is 1 where anything does.
 
 mod clerks;
+mod corrections;
 mod extract;
 mod larger;
 mod library;
@@ -53,6 +55,9 @@ fn compare(seed: u64, count: u64) -> ExitCode {
             }
         }
     }
+    let mut corrections = corrections::compare(seed, count);
+    tally.append(&mut corrections.cases);
+    differences += corrections.differences;
     let mut extracts = extract::compare(seed, count);
     tally.append(&mut extracts.cases);
     differences += extracts.differences;

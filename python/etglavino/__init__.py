@@ -1,4 +1,4 @@
-"""S-expressions (RFC 9804) read, written, replaced and compared by a library
+"""S-expressions (RFC 9804) read, written, changed and compared by a library
 whose every answer is proved.
 
 A text comes in one of three forms and becomes a `Sheet`: the canonical octets
@@ -12,6 +12,8 @@ of a tree, with a record for each of its nodes.
     (b'x', b'abc')
     >>> sheet.replace(Form.ADVANCED, b'"hi"', 1).write(Form.ADVANCED)
     b'(hi [x]"")'
+    >>> sheet.insert(Form.ADVANCED, b"(d e)", 0, 1).remove(1).canonical
+    b'((1:d1:e)[1:x]0:)'
 
 Sheets wait in a spool, which stands a power cut: `SpoolFile` keeps one in a
 file, and `spool_open`, `spool_add` and `Adding` work in octets of the caller's.
@@ -34,7 +36,7 @@ from ._entries import Form, Octets, Refusal
 from ._extract import extract
 from ._library import LibraryMissing
 from ._run import Run, split
-from ._sheet import Node, Sheet, read, replace, same, write
+from ._sheet import Node, Sheet, insert, read, remove, replace, same, write
 from ._spool import Adding, Opened, spool_add, spool_open, spool_sheets, spool_shown
 from ._spool_file import SpoolFile, SpoolInUse
 from ._values import Line, NoLine, Total, Value, Week
@@ -59,7 +61,9 @@ __all__ = [
     "SpoolFile",
     "SpoolInUse",
     "extract",
+    "insert",
     "read",
+    "remove",
     "replace",
     "same",
     "split",

@@ -53,6 +53,7 @@ class Refusal(Exception):
         6: "over 16,384 canonical octets, or over the room that there is",
         7: "not one tree's canonical form with its own table, or a place outside what is lent",
         8: "there is no node of that number",
+        9: "not a list, no such place in it, or node 0 to be removed",
         10: "the area of the spool is damaged",
         11: "not a value of its type, or not finite",
         12: "not a line of three hours in whole quarters",
@@ -108,13 +109,36 @@ def replace(
     form: int, text: bytes, canonical: bytes, table: Table, node: int
 ) -> tuple[bytes, Table]:
     """Canonical octets and table with one node replaced by a text's tree."""
-    octets, numbers = _room(len(canonical) + 3 * len(text), len(canonical), len(table))
+    return _changed(
+        load().etg_replace, [_form(form), text, len(text)], 3 * len(text), canonical, table, [node]
+    )
+
+
+def insert(
+    form: int, text: bytes, canonical: bytes, table: Table, node: int, k: int
+) -> tuple[bytes, Table]:
+    """Canonical octets and table with a text's tree as element k of a list."""
+    return _changed(
+        load().etg_insert, [_form(form), text, len(text)], 3 * len(text), canonical, table, [node, k]
+    )
+
+
+def remove(canonical: bytes, table: Table, node: int) -> tuple[bytes, Table]:
+    """Canonical octets and table without a node."""
+    return _changed(load().etg_remove, [], 0, canonical, table, [node])
+
+
+def _changed(
+    call: Any, text: list[Any], more: int, canonical: bytes, table: Table, place: list[int]
+) -> tuple[bytes, Table]:
+    """A copy of the sheet changed, in room for so many octets more."""
+    octets, numbers = _room(len(canonical) + more, len(canonical), len(table))
     ctypes.memmove(octets, canonical, len(canonical))
     ctypes.memmove(numbers, table, ctypes.sizeof(table))
     length, nodes = ctypes.c_size_t(), ctypes.c_size_t()
-    number = load().etg_replace(
-        _form(form), text, len(text), octets, len(octets), numbers, len(numbers),
-        len(canonical), len(table) // RECORD, count_of(node), length, nodes,
+    number = call(
+        *text, octets, len(octets), numbers, len(numbers),
+        len(canonical), len(table) // RECORD, *map(count_of, place), length, nodes,
     )  # fmt: skip
     check(number)
     return _taken(octets, length, numbers, nodes)
@@ -177,6 +201,6 @@ def _form(form: int) -> int:
 
 
 def count_of(node: int) -> int:
-    """What the C type can't hold is the number of no node, and of no entry."""
+    """What the C type can't hold is the number of no node, no place and no entry."""
     most: int = ctypes.c_size_t(-1).value
     return node if 0 <= node <= most else most

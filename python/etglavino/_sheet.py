@@ -155,6 +155,21 @@ class Sheet:
             *_entries.replace(form, octets_of(text), self._canonical, self._table, node)
         )
 
+    def insert(self, form: int, text: Octets, node: int, k: int) -> Sheet:
+        """The sheet with the tree of a text as element k, from 0, of the list
+        that the node is; the list's element count puts it at the end.
+
+        Refusals, the first that applies: 1, 2, 3, 7, 8, 9, 4, 5, 6, where 4 to 6
+        speak of the tree with the element in it."""
+        return Sheet._of(
+            *_entries.insert(form, octets_of(text), self._canonical, self._table, node, k)
+        )
+
+    def remove(self, node: int) -> Sheet:
+        """The sheet without a node, which is any but node 0, and all that is in
+        it. Refusals, the first that applies: 7, 8, 9."""
+        return Sheet._of(*_entries.remove(self._canonical, self._table, node))
+
     def same(self, other: Sheet, default_hint: Octets = b"") -> bool:
         """Whether both have the same shape, and at each string the same data
         and hint. A missing hint counts as the default; an empty one is not
@@ -192,6 +207,16 @@ def write(form: int, canonical: Union[Sheet, Octets]) -> bytes:
 def replace(form: int, text: Octets, sheet: Sheet, node: int) -> Sheet:
     """The sheet with the node replaced by the tree of a text: `Sheet.replace`."""
     return sheet.replace(form, text, node)
+
+
+def insert(form: int, text: Octets, sheet: Sheet, node: int, k: int) -> Sheet:
+    """The sheet with the tree of a text as an element of a list: `Sheet.insert`."""
+    return sheet.insert(form, text, node, k)
+
+
+def remove(sheet: Sheet, node: int) -> Sheet:
+    """The sheet without a node: `Sheet.remove`."""
+    return sheet.remove(node)
 
 
 def same(a: Union[Sheet, Octets], b: Union[Sheet, Octets], default_hint: Octets = b"") -> bool:

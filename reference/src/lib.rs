@@ -1,7 +1,7 @@
 //! A second program for the same job as the proved library, written from the
 //! documents alone: S-expressions (RFC 9804) read into a canonical form and a
-//! node table, written in three forms, corrected, compared, looked at and
-//! extracted.
+//! node table, written in three forms, corrected, added to, compared, looked at
+//! and extracted.
 //!
 //! It builds a tree of every text and answers from that tree. That is slow and
 //! takes memory, but each rule stands in one place and can be checked by eye.
@@ -12,6 +12,7 @@ pub mod basic;
 pub mod builder;
 pub mod canonical;
 pub mod corpus;
+pub mod corrections;
 pub mod cursor;
 pub mod entries;
 pub mod extract;

@@ -38,6 +38,8 @@ pub const TOO_LARGE: u32 = 6;
 pub const NOT_OWN: u32 = 7;
 /// Refusal: the node number names no node.
 pub const NO_SUCH_NODE: u32 = 8;
+/// Refusal: the node is no list, the list has no such place, or node 0 is to go.
+pub const NO_PLACE: u32 = 9;
 /// Refusal: the area of a spool is damaged.
 pub const DAMAGED: u32 = 10;
 /// Refusal: the node is no value of its type.

@@ -27,6 +27,7 @@
 //! the spool in a file, are missing then.
 #![cfg_attr(not(feature = "std"), no_std)]
 
+mod corrections;
 mod extract;
 mod ffi;
 mod form;
@@ -44,6 +45,9 @@ mod spool_map;
 mod table;
 mod value;
 
+pub use corrections::{
+    insert, insert_form, insert_records, insert_records_form, remove, remove_records, Slot,
+};
 pub use extract::{extract, extract_own, extract_own_records, extract_records};
 pub use form::Form;
 pub use node::{Children, Kind, Node, Nodes};

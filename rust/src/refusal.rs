@@ -25,6 +25,9 @@ pub enum Refusal {
     NotOwn = 7,
     /// 8: there is no node of that number.
     NoNode = 8,
+    /// 9: the node isn't a list, the list has no such place, or node 0 is to be
+    /// removed.
+    NoPlace = 9,
     /// 10: the area of a spool is damaged.
     Damaged = 10,
     /// 11: the node is no value of its type: a list, octets of a wrong length,
@@ -55,6 +58,7 @@ impl Refusal {
                 "not one tree's canonical form with its own table, or a place outside what is lent"
             }
             Refusal::NoNode => "there is no node of that number",
+            Refusal::NoPlace => "not a list, no such place in it, or node 0 to be removed",
             Refusal::Damaged => "the area of the spool is damaged",
             Refusal::NotTyped => "not a value of its type, or not finite",
             Refusal::NotLine => "not a line of three hours in whole quarters",
@@ -72,6 +76,7 @@ impl Refusal {
             6 => Refusal::Size,
             7 => Refusal::NotOwn,
             8 => Refusal::NoNode,
+            9 => Refusal::NoPlace,
             10 => Refusal::Damaged,
             11 => Refusal::NotTyped,
             12 => Refusal::NotLine,

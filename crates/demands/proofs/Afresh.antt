@@ -1,20 +1,20 @@
--- Demand 3, "Correcting one entry equals starting again."
+-- Demand 3, "Correcting one entry equals starting again.": of every accepted correction, whichever it is.
 use Prim.Native.Nat.{ℕ, _*_, _/_, _≤_}
 use native.Mathlib.Omega.{arith}
 use mathlib.Core.Path.{_≡_, refl, sym, ap, _∙_, subst}
+use mathlib.Core.Bool.{Bool}
 use mathlib.Core.List.{List}
 use lib.ListN.{length, take}
 use lib.Seq.{take-append-seam, take-at}
-use Rattle.model.specs.Answers.{noForm, settled, Outcome, filled, reading, replacing}
+use Rattle.model.specs.Answers.{noForm, settled, Outcome, filled, reading}
 use Rattle.model.specs.Decode.{decode}
-use Rattle.model.specs.Edit.{replace}
 use Rattle.model.specs.Table.{width, tableOf}
-use Rattle.model.specs.Tree.{Tree, canon, nodes}
+use Rattle.model.specs.Tree.{Tree, Forest, canon, nodes}
 use Rattle.model.proofs.Exact.{canon-complete}
 use Rattle.walk.proofs.Tabled.{table-length}
 use Rattle.demands.proofs.Read.{reads}
-use Rattle.demands.specs.Conditions.{Room, Conditions, SameResult}
-use Rattle.demands.proofs.Refused.{accepted, conditions}
+use Rattle.demands.specs.Conditions.{Room, SameResult}
+use Rattle.demands.specs.Corrections.{Correction}
 
 -- what stands in the front of lent space that a tree was put in, whatever stood there before
 module _ (t : Tree) (oldOctets oldCount : ℕ) (canonical table : List ℕ) where
@@ -22,7 +22,7 @@ module _ (t : Tree) (oldOctets oldCount : ℕ) (canonical table : List ℕ) wher
   unfolding filled settled
   front-octets = take-append-seam (canon t) _
 
-  front-table : take (width * filled t oldOctets oldCount canonical table .count) (filled t oldOctets oldCount canonical table .table) ≡ tableOf t
+  pub front-table : take (width * filled t oldOctets oldCount canonical table .count) (filled t oldOctets oldCount canonical table .table) ≡ tableOf t
   unfolding filled settled
   front-table = take-at (tableOf t) _ (width * nodes t) (table-length t)
 
@@ -42,36 +42,37 @@ reads-canonical : (t : Tree) (canonical table : List ℕ) → Room t canonical t
 unfolding decode noForm
 reads-canonical t canonical table r = reads 1 (canon t) canonical table t refl (omega (arith, r .small)) (canon-complete t) r
 
-module _ (form : ℕ) (text canonical table : List ℕ) (len count node : ℕ) (e : replacing form text canonical table len count node .number ≡ 0) where
-  abbrev answer : Outcome
-  answer = replacing form text canonical table len count node
+-- room is as large as what is lent
+pub room-as : {t : Tree} (canonical table canonical′ table′ : List ℕ) → length canonical′ ≡ length canonical → length table′ ≡ length table → Room t canonical table → Room t canonical′ table′
+room-as {t} canonical table canonical′ table′ h k r =
+    record {
+      shallow = r .shallow;
+      recorded = subst (λ (n : ℕ). nodes t ≤ n / width) (sym k) (r .recorded);
+      small = r .small;
+      roomy = omega (arith, r .roomy);
+    }
 
-  abbrev c : Conditions form text canonical table len count node
-  c = conditions form text canonical table len count node e
-
-  abbrev now : Tree
-  now = replace (c .old) node (c .new)
-
-  pub filled-now : answer ≡ filled now len count canonical table
-  filled-now = accepted form text canonical table len count node c
-
+module _ {canonical table : List ℕ} {len count : ℕ} {old now : Tree} {k n s e : ℕ} {new : Forest} {holding : ℕ → Bool} {answer : Outcome}
+    (c : Correction canonical table len count old now k n s e new holding answer) where
   -- 01, "The corrected sheet is that tree's canonical form"
   pub corrected-sheet : take (answer .octets) (answer .canonical) ≡ canon now
-  corrected-sheet = ap (λ (o : Outcome). take (o .octets) (o .canonical)) filled-now ∙ front-octets now len count canonical table
+  corrected-sheet = ap (λ (o : Outcome). take (o .octets) (o .canonical)) (c .is) ∙ front-octets now len count canonical table
 
   pub corrected-table : take (width * answer .count) (answer .table) ≡ tableOf now
-  corrected-table = ap (λ (o : Outcome). take (width * o .count) (o .table)) filled-now ∙ front-table now len count canonical table
+  corrected-table = ap (λ (o : Outcome). take (width * o .count) (o .table)) (c .is) ∙ front-table now len count canonical table
+
+  pub corrected-octets : answer .octets ≡ length (canon now)
+  unfolding filled
+  corrected-octets = ap (λ (o : Outcome). o .octets) (c .is)
+
+  pub corrected-count : answer .count ≡ nodes now
+  unfolding filled
+  corrected-count = ap (λ (o : Outcome). o .count) (c .is)
 
   -- 01, "Reading it afresh is reading it in form 1 into a sheet and a table of the same room"
   pub afresh : (canonical′ table′ : List ℕ) → length canonical′ ≡ length canonical → length table′ ≡ length table
       → SameResult answer (reading 1 (take (answer .octets) (answer .canonical)) canonical′ table′)
   afresh canonical′ table′ h k =
       let f : reading 1 (take (answer .octets) (answer .canonical)) canonical′ table′ ≡ filled now 0 0 canonical′ table′
-      = ap (λ (s : List ℕ). reading 1 s canonical′ table′) corrected-sheet
-      ∙ reads-canonical now canonical′ table′ (record {
-        shallow = c .room .shallow;
-        recorded = subst (λ (n : ℕ). nodes now ≤ n / width) (sym k) (c .room .recorded);
-        small = c .room .small;
-        roomy = omega (arith, c .room .roomy);
-      }) in
-      subst (λ (o : Outcome). SameResult answer o) (sym f) (subst (λ (o : Outcome). SameResult o (filled now 0 0 canonical′ table′)) (sym filled-now) (same-tree now len count 0 0 canonical table canonical′ table′))
+      = ap (λ (s : List ℕ). reading 1 s canonical′ table′) corrected-sheet ∙ reads-canonical now canonical′ table′ (room-as canonical table canonical′ table′ h k (c .room)) in
+      subst (λ (o : Outcome). SameResult answer o) (sym f) (subst (λ (o : Outcome). SameResult o (filled now 0 0 canonical′ table′)) (sym (c .is)) (same-tree now len count 0 0 canonical table canonical′ table′))

@@ -1,21 +1,21 @@
--- Demand 3 about the lent sheet and table, before an accepted correction and after it.
-use Prim.Native.Nat.{ℕ, _+_, _*_, _≤_, _<_}
+-- Demand 3 about the lent sheet and table, before an accepted correction and after it, whichever it is.
+use Prim.Native.Nat.{ℕ, _+_, _*_, _-_, _≤_, _<_}
 use native.Mathlib.Omega.{arith}
 use mathlib.Core.Path.{_≡_, sym, ap, _∙_}
-use mathlib.Core.Bool.{true, false}
+use mathlib.Core.Bool.{Bool, true, false}
 use mathlib.Core.List.{List, _++_}
 use lib.ListN.{length, take, drop, getD, take-append-drop, List·getD-append}
-use Rattle.model.specs.Answers.{Outcome, filled, replacing}
-use Rattle.model.specs.Edit.{replace}
-use Rattle.model.specs.Table.{width, numbers, rowOf}
-use Rattle.model.specs.Tree.{Tree, canon, nodes}
+use Rattle.model.specs.Answers.{Outcome}
+use Rattle.model.specs.Table.{width, numbers, plainRow, rowss, rowOf}
+use Rattle.model.specs.Tree.{Tree, Forest, canon, canons, nodes, nodess}
 use Rattle.lookup.proofs.Sheets.{Own, own-of}
-use Rattle.edits.specs.Node.{holds}
-use Rattle.edits.specs.Moves.{Grows}
-use Rattle.edits.proofs.Demand.{entry-in, replace-length, replace-nodes, octet-before-stays, octet-after-moves, record-stays, record-grows}
-use Rattle.demands.specs.Conditions.{Conditions, recordAt}
-use Rattle.demands.proofs.Refused.{conditions}
-use Rattle.demands.proofs.Afresh.{filled-now, corrected-sheet, corrected-table}
+use Rattle.edits.specs.Moves.{Moves, Grows, Shifts}
+use Rattle.edits.specs.Place.{around}
+use Rattle.edits.proofs.Changed.{change-moves, change-length, change-nodes, change-octet, change-list, change-stays, change-grows, change-shifts}
+use Rattle.edits.proofs.Moved.{octet-before, octet-new, record-new}
+use Rattle.demands.specs.Conditions.{recordAt}
+use Rattle.demands.specs.Corrections.{Correction}
+use Rattle.demands.proofs.Afresh.{corrected-sheet, corrected-table, corrected-octets}
 use Rattle.demands.proofs.Records.{record-of}
 
 -- an octet of a sheet in lent space
@@ -23,58 +23,64 @@ octet-of : (x l : List ℕ) (n i : ℕ) → take n l ≡ x → i < length x → 
 octet-of x l n i e h =
     ap (λ (l : List ℕ). getD l i 0) (sym (take-append-drop n l) ∙ ap (λ (y : List ℕ). y ++ drop n l) e) ∙ List·getD-append x (drop n l) 0 i h
 
-module _ (form : ℕ) (text canonical table : List ℕ) (len count node : ℕ) (e : replacing form text canonical table len count node .number ≡ 0) where
-  abbrev answer : Outcome
-  answer = replacing form text canonical table len count node
-
-  abbrev c : Conditions form text canonical table len count node
-  c = conditions form text canonical table len count node e
-
-  -- the sheet's tree and the corrected one
-  abbrev old : Tree
-  old = c .old
-
-  abbrev now : Tree
-  now = replace old node (c .new)
-
+module _ {canonical table : List ℕ} {len count : ℕ} {old now : Tree} {k n s e : ℕ} {new : Forest} {holding : ℕ → Bool} {answer : Outcome}
+    (c : Correction canonical table len count old now k n s e new holding answer) where
   own : Own canonical len table count old
   own = own-of canonical len table count old (c .own)
 
-  in-tree : node < nodes old
-  in-tree = omega (arith, c .present, own .counted)
-
-  new-octets : answer .octets ≡ length (canon now)
-  unfolding filled
-  new-octets = ap (λ (o : Outcome). o .octets) (filled-now form text canonical table len count node e)
+  moves : Moves old now k n s (e - s) new
+  moves = change-moves (c .change)
 
   -- "Octets before the entry stay."
-  pub octets-stay : (i : ℕ) → i < rowOf old node .start → getD (answer .canonical) i 0 ≡ getD canonical i 0
+  pub octets-stay : (i : ℕ) → i < s → getD (answer .canonical) i 0 ≡ getD canonical i 0
   octets-stay i h =
-      octet-of (canon now) (answer .canonical) (answer .octets) i (corrected-sheet form text canonical table len count node e) (omega (arith, entry-in old node in-tree, replace-length old node in-tree (c .new)))
-      ∙ octet-before-stays old node in-tree (c .new) i h
-      ∙ sym (octet-of (canon old) canonical len i (own .sheet .is) (omega (arith, entry-in old node in-tree)))
+      octet-of (canon now) (answer .canonical) (answer .octets) i (corrected-sheet c) (omega (arith, moves .octetsIn, change-length (c .change)))
+      ∙ octet-before moves i h
+      ∙ sym (octet-of (canon old) canonical len i (own .sheet .is) (omega (arith, moves .octetsIn)))
+
+  -- the entry's own octets are those of what it gave way to
+  pub octets-new : (i : ℕ) → i < length (canons new) → getD (answer .canonical) (s + i) 0 ≡ getD (canons new) i 0
+  octets-new i h =
+      octet-of (canon now) (answer .canonical) (answer .octets) (s + i) (corrected-sheet c) (omega (arith, moves .octetsIn, change-length (c .change)))
+      ∙ octet-new moves i h
 
   -- "Octets after it are the same, in the same order, and only move.": by the new length less the old
-  pub octets-move : (i i′ : ℕ) → rowOf old node .end ≤ i → i < len → i′ + len ≡ i + answer .octets → getD (answer .canonical) i′ 0 ≡ getD canonical i 0
-  octets-move i i′ h k m =
-      octet-of (canon now) (answer .canonical) (answer .octets) i′ (corrected-sheet form text canonical table len count node e) (omega (arith, new-octets))
-      ∙ octet-after-moves old node in-tree (c .new) i i′ h (omega (arith, own .sheet .size, new-octets))
+  pub octets-move : (i i′ : ℕ) → e ≤ i → i < len → i′ + len ≡ i + answer .octets → getD (answer .canonical) i′ 0 ≡ getD canonical i 0
+  octets-move i i′ h l m =
+      octet-of (canon now) (answer .canonical) (answer .octets) i′ (corrected-sheet c) (omega (arith, corrected-octets c))
+      ∙ change-octet (c .change) i i′ (omega (arith, c .ordered)) (omega (arith, own .sheet .size, corrected-octets c))
       ∙ sym (octet-of (canon old) canonical len i (own .sheet .is) (omega (arith, own .sheet .size)))
 
-  -- the records of lower numbers are those of the two trees
-  module _ (j : ℕ) (h : j < node) where
-    pub record-was : recordAt table j ≡ numbers (rowOf old j)
-    record-was = record-of old table (width * count) j (own .recorded) (omega (arith, in-tree))
+  -- a record of the lent table is that of its tree
+  pub record-was : (j : ℕ) → j < nodes old → recordAt table j ≡ numbers (rowOf old j)
+  record-was j h = record-of old table (width * count) j (own .recorded) h
 
-    pub record-is : recordAt (answer .table) j ≡ numbers (rowOf now j)
-    record-is =
-        record-of now (answer .table) (width * answer .count) j (corrected-table form text canonical table len count node e)
-        (omega (arith, entry-in old node in-tree, replace-nodes old node in-tree (c .new)))
+  pub record-is : (j : ℕ) → j < nodes now → recordAt (answer .table) j ≡ numbers (rowOf now j)
+  record-is j h = record-of now (answer .table) (width * answer .count) j (corrected-table c) h
 
+  around-as : (j : ℕ) → j < k → around s (s + (e - s)) (rowOf old j) ≡ holding j
+  around-as j h = let x : s + (e - s) ≡ e = omega (arith, c .ordered) in rw x (sym (c .held j h))
+
+  module _ (j : ℕ) (h : j < k) where
     -- "Among earlier records only those of the lists around the entry change."
-    pub records-stay : holds old j node ≡ false → recordAt (answer .table) j ≡ recordAt table j
-    records-stay k = record-is ∙ ap numbers (record-stays old node in-tree (c .new) j h k) ∙ sym record-was
+    pub records-stay : holding j ≡ false → recordAt (answer .table) j ≡ recordAt table j
+    records-stay i =
+        record-is j (omega (arith, moves .nodesIn, change-nodes (c .change)))
+        ∙ ap numbers (change-stays (c .change) j h (around-as j h ∙ i))
+        ∙ sym (record-was j (omega (arith, moves .nodesIn)))
 
     -- 01, "their records change at most in end, node count and data end"
-    pub records-grow : holds old j node ≡ true → Grows (rowOf old j) (rowOf now j) (length (canon old)) (length (canon now)) (nodes old) (nodes now)
-    records-grow k = record-grows old node in-tree (c .new) j h k
+    pub records-grow : holding j ≡ true → Grows (rowOf old j) (rowOf now j) (length (canon old)) (length (canon now)) (nodes old) (nodes now)
+    records-grow i = change-grows (c .change) j h (around-as j h ∙ i)
+
+    -- they are those of lists
+    pub records-around : holding j ≡ true → (rowOf old j) .kind ≡ 2
+    records-around i = change-list (c .change) j h (around-as j h ∙ i)
+
+  -- the entry's own records are those of what it gave way to, at its start
+  pub records-new : (i : ℕ) → i < nodess new → rowOf now (k + i) ≡ getD (rowss new s) i (plainRow 0 0 0)
+  records-new i h = record-new moves i h
+
+  -- later records move with their nodes
+  pub records-shift : (j j′ : ℕ) → k + n ≤ j → j < nodes old → j′ + nodes old ≡ j + nodes now → Shifts (rowOf old j) (rowOf now j′) (length (canon old)) (length (canon now))
+  records-shift j j′ h i l = change-shifts (c .change) j j′ h i l

@@ -12,6 +12,10 @@ pub mod Lent
 pub mod Orders
 mod OrderExamples
 pub mod Space
+pub mod Inserting
+pub mod Removing
+pub mod Again
+pub mod Undone
 pub mod Stray
 pub mod Escapes
 pub mod Larger

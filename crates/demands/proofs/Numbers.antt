@@ -6,7 +6,8 @@ use mathlib.Core.Bool.{false}
 use mathlib.Core.List.{List}
 use lib.Dec.{eqb}
 use Rattle.model.specs.Answers.{Outcome, reading, replacing, Output, writing, Comparison, comparing}
-use Rattle.model.proofs.Numbered.{reading-numbered, replacing-numbered, writing-numbered, comparing-numbered}
+use Rattle.model.specs.Corrections.{inserting, removing}
+use Rattle.model.proofs.Numbered.{reading-numbered, replacing-numbered, inserting-numbered, removing-numbered, writing-numbered, comparing-numbered}
 use Rattle.answers.specs.Cases.{outcome, output, told}
 use Rattle.answers.specs.declared.Refusal.{Refusal}
 use Rattle.answers.specs.declared.Reading.the-variants as read
@@ -28,6 +29,14 @@ module _ (f : Refusal) where
   pub replace-over : (form : ℕ) (text canonical table : List ℕ) (len count node : ℕ) (c t : List ℕ) → outcome (read.Refused f) c t ≡ replacing form text canonical table len count node → 0 < f .number
   replace-over form text canonical table len count node c t e =
       refusing c t (replacing form text canonical table len count node) (replacing-numbered form text canonical table len count node) e
+
+  pub insert-over : (form : ℕ) (text canonical table : List ℕ) (len count node k : ℕ) (c t : List ℕ)
+      → outcome (read.Refused f) c t ≡ inserting form text canonical table len count node k → 0 < f .number
+  insert-over form text canonical table len count node k c t e =
+      refusing c t (inserting form text canonical table len count node k) (inserting-numbered form text canonical table len count node k) e
+
+  pub remove-over : (canonical table : List ℕ) (len count node : ℕ) (c t : List ℕ) → outcome (read.Refused f) c t ≡ removing canonical table len count node → 0 < f .number
+  remove-over canonical table len count node c t e = refusing c t (removing canonical table len count node) (removing-numbered canonical table len count node) e
 
   pub write-over : (form : ℕ) (canonical : List ℕ) (len : ℕ) (out o : List ℕ) → output (write.Refused f) o ≡ writing form canonical len out → 0 < f .number
   unfolding output

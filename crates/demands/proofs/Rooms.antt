@@ -1,18 +1,19 @@
--- Rows 1 to 3 of a text and rows 4 to 6 of a tree: none applies exactly when text and tree fit the limits and the room lent.
-use Prim.Native.Nat.{ℕ, _≤_}
+-- Rows 1 to 3 of a text, rows 4 to 6 of a tree, rows 7 and 8 of an entry: none applies exactly when text and tree fit the limits and
+-- the room lent, and the entry is there.
+use Prim.Native.Nat.{ℕ, _≤_, _<_}
 use native.Mathlib.Omega.{arith}
 use mathlib.Core.Path.{_≡_, ap, _∙_}
 use mathlib.Core.Bool.{false}
 use mathlib.Core.Option.{some}
-use mathlib.Core.List.{List}
+use mathlib.Core.List.{List, _∷_}
 use lib.ListN.{length}
-use lib.Dec.{ltb}
-use borrow.Author.Tests.{ltb-false, le-ltb}
+use lib.Dec.{leb, ltb}
+use borrow.Author.Tests.{leb-false, ltb-false, le-ltb, lt-leb}
 use Rattle.base.specs.Choice.{either, isNone}
 use Rattle.base.proofs.Cases.{unpicked, neither}
-use Rattle.model.specs.Answers.{Check, verdict, noForm, roomChecks, textChecks}
+use Rattle.model.specs.Answers.{Check, when, verdict, noForm, roomChecks, textChecks, ownTree}
 use Rattle.model.specs.Decode.{decode}
-use Rattle.model.specs.Limits.{maxSource, maxDepth, maxCanonical}
+use Rattle.model.specs.Limits.{maxSource, maxDepth, maxCanonical, NotOwn, NoNode}
 use Rattle.model.specs.Table.{records}
 use Rattle.model.specs.Tree.{Tree, canon, nodes, depth}
 use Rattle.demands.specs.Conditions.{Room}
@@ -56,3 +57,24 @@ module _ (form : ℕ) (text : List ℕ) (more : List Check) where
       let b : _ × _ = not-this 2 (ltb maxSource (length text)) _ (omega arith) (a .1) in
       let c : _ × _ = not-this 3 (isNone (decode form text)) _ (omega arith) (b .1) in
       there (decode form text) (c .0) (λ t i. record { tree = t; known = a .0; short = ltb-false _ _ (b .0); is = i; rest = c .1 })
+
+-- an entry that is there: the sheet's tree, and what the checks after rows 7 and 8 say
+pub record Entered (canonical table : List ℕ) (len count node : ℕ) (more : List Check) : Type 0 where
+  pub tree : Tree
+  pub own : ownTree canonical len table count ≡ some tree
+  pub present : node < count
+  pub rest : verdict more ≡ 0
+
+module _ (canonical table : List ℕ) (len count node : ℕ) (more : List Check) where
+  abbrev entryChecks : List Check
+  entryChecks = when NotOwn (isNone (ownTree canonical len table count)) ∷ when NoNode (leb count node) ∷ more
+
+  pub entry-none : Entered canonical table len count node more → verdict entryChecks ≡ 0
+  unfolding isNone
+  entry-none t = past 7 _ _ (ap isNone (t .own)) (past 8 _ _ (lt-leb _ _ (t .present)) (t .rest))
+
+  pub entry-of : verdict entryChecks ≡ 0 → Entered canonical table len count node more
+  entry-of v =
+      let d : _ × _ = not-this 7 (isNone (ownTree canonical len table count)) _ (omega arith) v in
+      let e : _ × _ = not-this 8 (leb count node) _ (omega arith) (d .1) in
+      there (ownTree canonical len table count) (d .0) (λ t j. record { tree = t; own = j; present = leb-false _ _ (e .0); rest = e .1 })

@@ -5,9 +5,9 @@ use mathlib.Core.Path.{_≡_, refl, sym, ap, _∙_}
 use mathlib.Core.Bool.{Bool, true, false}
 use mathlib.Core.List.{List, [], _∷_, _++_}
 use mathlib.Core.Option.{Option, none, some}
-use Rattle.base.specs.Choice.{isNone}
+use Rattle.base.specs.Choice.{pick, isNone}
 use Rattle.base.proofs.Cases.{by-bool, by-eq, picked, unpicked, untrue}
-use Rattle.model.specs.Answers.{Check, when, verdict, judged}
+use Rattle.model.specs.Answers.{Check, when, verdict, judged, Outcome, filled, unchanged}
 use Rattle.model.specs.Tree.{Tree}
 use Rattle.model.proofs.Judging.{judged-accepted, judged-refused, verdict-past}
 use Rattle.demands.specs.Conditions.{Quiet, no-check, not-applying, First}
@@ -70,7 +70,32 @@ pub none-applies : verdict [] ≡ 0
 unfolding verdict
 none-applies = refl
 
+-- checks at the end of which none applies where none before them does
+one-more : (n : ℕ) (t : Bool) (v w : ℕ) → (t ≡ false → w ≡ v) → pick t n w ≡ pick t n v
+one-more n true v w f = refl
+one-more n false v w f = f refl
+
+pub no-more : (cs ds : List Check) → (verdict cs ≡ 0 → verdict ds ≡ 0) → verdict (cs ++ ds) ≡ verdict cs
+unfolding verdict
+no-more [] ds f = f refl
+no-more (c ∷ cs) ds f = one-more (c .row) (c .applies) (verdict cs) (verdict (cs ++ ds)) (λ e. no-more cs ds (λ v. f (unpicked _ _ e ∙ v)))
+
 pub there : {G : Type 0} (o : Option Tree) → isNone o ≡ false → ((t : Tree) → o ≡ some t → G) → G
 unfolding isNone
 there none e g = untrue (sym e)
 there (some t) e g = g t refl
+
+-- ---- where a tree is put into the lent sheet and table, or nothing changes
+module _ (cs : List Check) (t : Tree) (len count : ℕ) (canonical table : List ℕ) where
+  abbrev answer : Outcome
+  answer = judged cs (filled t len count canonical table) (λ n. unchanged n canonical table)
+
+  pub fills-by : (n : ℕ) → 0 < n → First cs n → answer ≡ unchanged n canonical table
+  fills-by n h f = judged-by (λ (o : Outcome). o .number) cs _ (λ (k : ℕ). unchanged k canonical table) (λ k. refl) n h f
+
+  pub fills-for : (n : ℕ) → 0 < n → answer .number ≡ n → First cs n
+  unfolding filled
+  fills-for n h e = judged-for (λ (o : Outcome). o .number) cs _ (λ (k : ℕ). unchanged k canonical table) (λ k. refl) refl n h e
+
+  pub fills-held : answer .number ≡ 0 → verdict cs ≡ 0
+  fills-held e = no-row (λ (o : Outcome). o .number) cs _ (λ (k : ℕ). unchanged k canonical table) (λ k. refl) e

@@ -4,18 +4,18 @@
 use Prim.Native.Nat.{ℕ, _+_, _*_, _-_, _≤_, _<_, max}
 use native.Mathlib.Omega.{arith}
 use mathlib.Core.Path.{_≡_, sym, ap, _∙_}
+use mathlib.Core.Bool.{Bool}
 use mathlib.Core.List.{List, _++_}
 use lib.ListN.{length, take, drop, replicate, getD, length-append, length-take, length-drop, length-replicate, getD-replicate, List·getD-append}
 use lib.Seq.{getD-append-add, getD-take, getD-drop, ext-getD}
-use Rattle.model.specs.Answers.{settled, Outcome, filled, replacing}
-use Rattle.model.specs.Edit.{replace}
+use Rattle.model.specs.Answers.{settled, Outcome, filled}
 use Rattle.model.specs.Table.{width, tableOf}
-use Rattle.model.specs.Tree.{Tree, canon, nodes}
+use Rattle.model.specs.Tree.{Tree, Forest, canon}
 use Rattle.walk.proofs.Tabled.{table-length}
 use Rattle.lookup.proofs.Sheets.{Own, own-of}
-use Rattle.demands.specs.Conditions.{Conditions, recordAt}
-use Rattle.demands.proofs.Refused.{conditions}
-use Rattle.demands.proofs.Afresh.{filled-now}
+use Rattle.demands.specs.Conditions.{recordAt}
+use Rattle.demands.specs.Corrections.{Correction}
+use Rattle.demands.proofs.Afresh.{corrected-octets, corrected-count}
 
 -- ---- new contents of length n in lent space of which old elements were in use
 module _ (lent new : List ℕ) (old n : ℕ) (e : length new ≡ n) where
@@ -25,7 +25,7 @@ module _ (lent new : List ℕ) (old n : ℕ) (e : length new ≡ n) where
   abbrev rest : List ℕ
   rest = drop (max old (length new)) lent
 
-  settled-zero : (i : ℕ) → n ≤ i → i < old → (d : ℕ) → getD (settled lent old new) i d ≡ 0
+  pub settled-zero : (i : ℕ) → n ≤ i → i < old → (d : ℕ) → getD (settled lent old new) i d ≡ 0
   unfolding settled
   settled-zero i h k d =
       let j : ℕ = i - length new in
@@ -35,7 +35,7 @@ module _ (lent new : List ℕ) (old n : ℕ) (e : length new ≡ n) where
       ∙ List·getD-append (replicate zeros 0) rest d j (omega (arith, length-replicate {A = ℕ} zeros 0))
       ∙ getD-replicate zeros j 0 d (omega arith)
 
-  settled-rest : (i : ℕ) → n ≤ i → old ≤ i → (d : ℕ) → getD (settled lent old new) i d ≡ getD lent i d
+  pub settled-rest : (i : ℕ) → n ≤ i → old ≤ i → (d : ℕ) → getD (settled lent old new) i d ≡ getD lent i d
   unfolding settled
   settled-rest i h k d =
       let j : ℕ = i - max old (length new) in
@@ -47,7 +47,7 @@ module _ (lent new : List ℕ) (old n : ℕ) (e : length new ≡ n) where
       ∙ getD-drop (max old (length new)) lent j d
       ∙ ap (λ (m : ℕ). getD lent m d) t
 
-  settled-length : old ≤ length lent → n ≤ length lent → length (settled lent old new) ≡ length lent
+  pub settled-length : old ≤ length lent → n ≤ length lent → length (settled lent old new) ≡ length lent
   unfolding settled
   settled-length h k =
       length-append new (replicate zeros 0 ++ rest)
@@ -63,34 +63,24 @@ record-by a b j h k f =
     let g : i < width = omega (arith, length-take width (drop (width * j) a)) in
     getD-take width (drop (width * j) a) i 0 g ∙ getD-drop (width * j) a i 0 ∙ f i g ∙ sym (getD-take width b i 0 g))
 
-module _ (form : ℕ) (text canonical table : List ℕ) (len count node : ℕ) (e : replacing form text canonical table len count node .number ≡ 0) where
-  abbrev answer : Outcome
-  answer = replacing form text canonical table len count node
-
-  abbrev c : Conditions form text canonical table len count node
-  c = conditions form text canonical table len count node e
-
-  abbrev now : Tree
-  now = replace (c .old) node (c .new)
-
-  own : Own canonical len table count (c .old)
-  own = own-of canonical len table count (c .old) (c .own)
+module _ {canonical table : List ℕ} {len count : ℕ} {old now : Tree} {k n s e : ℕ} {new : Forest} {holding : ℕ → Bool} {answer : Outcome}
+    (c : Correction canonical table len count old now k n s e new holding answer) where
+  own : Own canonical len table count old
+  own = own-of canonical len table count old (c .own)
 
   canonical-is : answer .canonical ≡ settled canonical len (canon now)
   unfolding filled
-  canonical-is = ap (λ (o : Outcome). o .canonical) (filled-now form text canonical table len count node e)
+  canonical-is = ap (λ (o : Outcome). o .canonical) (c .is)
 
   octets-are : length (canon now) ≡ answer .octets
-  unfolding filled
-  octets-are = sym (ap (λ (o : Outcome). o .octets) (filled-now form text canonical table len count node e))
+  octets-are = sym (corrected-octets c)
 
   table-is : answer .table ≡ settled table (width * count) (tableOf now)
   unfolding filled
-  table-is = ap (λ (o : Outcome). o .table) (filled-now form text canonical table len count node e)
+  table-is = ap (λ (o : Outcome). o .table) (c .is)
 
   numbers-are : length (tableOf now) ≡ width * answer .count
-  unfolding filled
-  numbers-are = table-length now ∙ sym (ap (λ (o : Outcome). width * o .count) (filled-now form text canonical table len count node e))
+  numbers-are = table-length now ∙ sym (ap (λ (n : ℕ). width * n) (corrected-count c))
 
   -- "it sets octets between the new and a larger old length to 0"
   pub octets-zeroed : (i : ℕ) → answer .octets ≤ i → i < len → (d : ℕ) → getD (answer .canonical) i d ≡ 0
@@ -112,7 +102,7 @@ module _ (form : ℕ) (text canonical table : List ℕ) (len count node : ℕ) (
   canonical-long = ap length canonical-is ∙ settled-length canonical (canon now) len (answer .octets) octets-are (own .sheet .lent) (omega (arith, octets-are, c .room .roomy))
 
   table-held : width * count ≤ length table
-  table-held = omega (arith, ap length (own .recorded), length-take (width * count) table, table-length (c .old), own .counted)
+  table-held = omega (arith, ap length (own .recorded), length-take (width * count) table, table-length old, own .counted)
 
   pub table-long : length (answer .table) ≡ length table
   table-long = ap length table-is ∙ settled-length table (tableOf now) (width * count) (width * answer .count) numbers-are table-held (omega (arith, table-length now, numbers-are, c .room .recorded))

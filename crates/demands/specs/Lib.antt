@@ -2,3 +2,4 @@ pub mod Conditions
 pub mod Orders
 pub mod Values
 pub mod Lines
+pub mod Corrections

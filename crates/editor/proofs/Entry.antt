@@ -1,34 +1,93 @@
--- The entry: rows 1 and 2, and then what the text's tree gives.
+-- The entries: rows 1 and 2, and then what the text's tree gives; or, where nothing comes, what a removal gives.
 use Prim.Native.Nat.{ℕ, _≤_, _<_}
 use mathlib.Core.Path.{_≡_, sym, _∙_}
-use mathlib.Core.Bool.{Bool}
+use mathlib.Core.Bool.{Bool, true, false}
+use mathlib.Core.Option.{some}
 use mathlib.Core.List.{List}
 use lib.ListN.{length}
-use Rattle.model.specs.Answers.{unchanged, replaced, replacingChecks, replacing}
+use Rattle.base.proofs.Cases.{untrue}
+use Rattle.model.specs.Answers.{verdict, judged, unchanged, replaced, replacingChecks, replacing, Outcome}
+use Rattle.model.specs.Corrections.{inserted, noPlace, insertingChecks, inserting, removing}
 use Rattle.model.specs.Decode.{decode}
+use Rattle.model.specs.Tree.{list, nil}
 use Rattle.texts.specs.Texts.{textVerdict}
 use Rattle.texts.proofs.Rows.{text-refused, text-taken}
 use Rattle.answers.specs.Cases.{Refuses}
-use Rattle.plan.specs.Planned.{treeChecks, replaceTree}
+use Rattle.plan.specs.Asked.{changed, nodeOf, placeless, texted, changeChecks, changeTree, changing}
+use Rattle.plan.proofs.Removing.{removing-is}
+use Rattle.plan.specs.declared.Asked.{Asked}
+use Rattle.plan.specs.declared.Asked.the-variants.{Replace, Insert, Remove}
 use Rattle.answers.specs.declared.Reading.{Reading}
 use Rattle.answers.specs.declared.Reading.the-variants as reading
-use Rattle.editor.specs.Given.{Gives, GivesTree, GivesText}
-use Rattle.editor.proofs.Replacing.{gives-refused}
+use Rattle.editor.specs.Given.{Gives, GivesTree, GivesText, GivesReplaced, GivesInserted, GivesRemoved}
+use Rattle.editor.proofs.Placing.{gives-refused}
 
-module _ (form : ℕ) (text canonical : List ℕ) (len count room : ℕ) (own : Bool) (node : ℕ) (n : ℕ) (v : n ≡ textVerdict form (length text)) where
-  pub replace-refused : 0 < n → (notes : List ℕ) (a : Reading) → Refuses n a → GivesText form text canonical len count room own node canonical notes a
-  unfolding replacing replacingChecks
-  replace-refused h notes a f =
-      gives-refused _ _ canonical room notes count n a f
-      (λ table l. f .is canonical table ∙ sym (text-refused form text _ _ (λ (k : ℕ). unchanged k canonical table) n v h))
+-- another answer that is the same for every table
+pub gives-same : (Lent : List ℕ → Type 0) (answer answer′ : List ℕ → Outcome) (c : List ℕ) (n : ℕ) (notes : List ℕ) (old : ℕ) (r : Reading)
+    → ((table : List ℕ) → answer table ≡ answer′ table) → Gives Lent answer c n notes old r → Gives Lent answer′ c n notes old r
+unfolding Gives
+gives-same Lent answer answer′ c n notes old (reading.Accepted l k) e p =
+    record { tree = p .tree; held = p .held; recorded = p .recorded; few = p .few; is = λ table z. p .is table z ∙ e table }
+gives-same Lent answer answer′ c n notes old (reading.Refused f) e p = λ table z. p table z ∙ e table
 
-  taken : n ≤ 0 → (table : List ℕ) → replaceTree (decode form text) canonical len table count node ≡ replacing form text canonical table len count node
-  unfolding replacing replacingChecks replaceTree treeChecks replaced
-  taken h table = sym (text-taken form text _ _ (λ (k : ℕ). unchanged k canonical table) n v h)
+-- ---- with a text
+module _ (form : ℕ) (text canonical : List ℕ) (len count : ℕ) (n : ℕ) (v : n ≡ textVerdict form (length text)) (table : List ℕ) where
+  refused : (a : Asked) → texted a ≡ true → 0 < n → changing a form text canonical table len count ≡ unchanged n canonical table
+  unfolding changing texted replacing replacingChecks inserting insertingChecks
+  refused (Replace node) f h = text-refused form text _ _ (λ (k : ℕ). unchanged k canonical table) n v h
+  refused (Insert node k) f h = text-refused form text _ _ (λ (k : ℕ). unchanged k canonical table) n v h
+  refused (Remove node) f h = untrue f
 
-  pub replace-taken : n ≤ 0 → (canonical′ notes′ : List ℕ) (a : Reading) → GivesTree (decode form text) canonical len count room own node canonical′ notes′ a
-      → GivesText form text canonical len count room own node canonical′ notes′ a
-  unfolding Gives
-  replace-taken h canonical′ notes′ (reading.Accepted l c) p =
-      record { tree = p .tree; held = p .held; recorded = p .recorded; few = p .few; is = λ table z. p .is table z ∙ taken h table }
-  replace-taken h canonical′ notes′ (reading.Refused f) p = λ table z. p table z ∙ taken h table
+  taken : (a : Asked) → texted a ≡ true → n ≤ 0 → changeTree a (decode form text) canonical len table count ≡ changing a form text canonical table len count
+  unfolding changing texted replacing replacingChecks replaced inserting insertingChecks inserted noPlace changeTree changeChecks changed nodeOf placeless verdict judged
+  taken (Replace node) f h = sym (text-taken form text _ _ (λ (k : ℕ). unchanged k canonical table) n v h)
+  taken (Insert node k) f h = sym (text-taken form text _ _ (λ (k : ℕ). unchanged k canonical table) n v h)
+  taken (Remove node) f h = untrue f
+
+module _ (form : ℕ) (text canonical : List ℕ) (len count room : ℕ) (own : Bool) (a : Asked) (f : texted a ≡ true) (n : ℕ) (v : n ≡ textVerdict form (length text)) where
+  pub change-refused : 0 < n → (notes : List ℕ) (r : Reading) → Refuses n r → GivesText a form text canonical len count room own canonical notes r
+  change-refused h notes r w =
+      gives-refused _ _ canonical room notes count n r w (λ table l. w .is canonical table ∙ sym (refused form text canonical len count n v table a f h))
+
+  pub change-taken : n ≤ 0 → (canonical′ notes′ : List ℕ) (r : Reading) → GivesTree a (decode form text) canonical len count room own canonical′ notes′ r
+      → GivesText a form text canonical len count room own canonical′ notes′ r
+  change-taken h canonical′ notes′ r p = gives-same _ _ _ canonical′ room notes′ count r (λ table. taken form text canonical len count n v table a f h) p
+
+-- ---- with none
+strikes : (a : Asked) → texted a ≡ false → (form : ℕ) (text canonical table : List ℕ) (len count : ℕ) → changeTree a (some (list nil)) canonical len table count ≡ changing a form text canonical table len count
+unfolding texted changing
+strikes (Replace node) f form text canonical table len count = untrue (sym f)
+strikes (Insert node k) f form text canonical table len count = untrue (sym f)
+strikes (Remove node) f form text canonical table len count = removing-is canonical len table count node
+
+pub change-struck : (a : Asked) → texted a ≡ false → (form : ℕ) (text canonical : List ℕ) (len count room : ℕ) (own : Bool) (canonical′ notes′ : List ℕ) (r : Reading)
+    → GivesTree a (some (list nil)) canonical len count room own canonical′ notes′ r → GivesText a form text canonical len count room own canonical′ notes′ r
+change-struck a f form text canonical len count room own canonical′ notes′ r p =
+    gives-same _ _ _ canonical′ room notes′ count r (λ table. strikes a f form text canonical table len count) p
+
+-- ---- what is asked, by name
+module _ (form : ℕ) (text canonical table : List ℕ) (len count node : ℕ) (r : Outcome) where
+  pub named-replace : r ≡ changing (Replace node) form text canonical table len count → r ≡ replacing form text canonical table len count node
+  unfolding changing
+  named-replace e = e
+
+  pub named-insert : (k : ℕ) → r ≡ changing (Insert node k) form text canonical table len count → r ≡ inserting form text canonical table len count node k
+  unfolding changing
+  named-insert k e = e
+
+  pub named-remove : r ≡ changing (Remove node) form text canonical table len count → r ≡ removing canonical table len count node
+  unfolding changing
+  named-remove e = e
+
+module _ (form : ℕ) (text canonical : List ℕ) (len count room : ℕ) (own : Bool) (node : ℕ) (canonical′ notes′ : List ℕ) (r : Reading) where
+  pub notes-replace : GivesText (Replace node) form text canonical len count room own canonical′ notes′ r → GivesReplaced form text canonical len count room own node canonical′ notes′ r
+  unfolding changing
+  notes-replace p = p
+
+  pub notes-insert : (k : ℕ) → GivesText (Insert node k) form text canonical len count room own canonical′ notes′ r → GivesInserted form text canonical len count room own node k canonical′ notes′ r
+  unfolding changing
+  notes-insert k p = p
+
+  pub notes-remove : GivesText (Remove node) form text canonical len count room own canonical′ notes′ r → GivesRemoved canonical len count room own node canonical′ notes′ r
+  unfolding changing
+  notes-remove p = p

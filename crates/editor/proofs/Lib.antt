@@ -1,3 +1,3 @@
-pub mod Replacing
+pub mod Placing
 pub mod Entry
 pub mod Retelling

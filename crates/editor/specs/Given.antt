@@ -8,11 +8,14 @@ use Rattle.model.specs.Limits.{mostNodes}
 use Rattle.model.specs.Table.{width, tableOf}
 use Rattle.model.specs.Tree.{Tree}
 use Rattle.model.specs.Answers.{Outcome, settled, replacing}
+use Rattle.model.specs.Corrections.{inserting, removing}
 use Rattle.answers.specs.Cases.{outcome}
 use Rattle.answers.specs.declared.Reading.{Reading}
 use Rattle.answers.specs.declared.Reading.the-variants as reading
 use Rattle.sheets.specs.Told.{Holds}
-use Rattle.plan.specs.Planned.{Lends, replaceTree}
+use Rattle.plan.specs.Planned.{Lends}
+use Rattle.plan.specs.Asked.{changeTree, changing}
+use Rattle.plan.specs.declared.Asked.{Asked}
 
 -- notes for every tree of at most `more` nodes beside those of a sheet
 pub record Noteable (count more room : ℕ) : Type 0 where
@@ -32,10 +35,20 @@ unfoldable pub Gives : (List ℕ → Type 0) → (List ℕ → Outcome) → List
 Gives Lent answer c n notes old (reading.Accepted len count) = Giving Lent answer c n notes old len count
 Gives Lent answer c n notes old (reading.Refused f) = (table : List ℕ) → Lent table → outcome (reading.Refused f) c table ≡ answer table
 
--- that of replacing, of the tree that a text means
-abbrev pub GivesTree : Option Tree → List ℕ → ℕ → ℕ → ℕ → Bool → ℕ → List ℕ → List ℕ → Reading → Type 0
-GivesTree o c len count n own node c′ notes′ r = Gives (Lends c len count n own) (λ (table : List ℕ). replaceTree o c len table count node) c′ n notes′ count r
+-- that of a change, of the tree that a text means
+abbrev pub GivesTree : Asked → Option Tree → List ℕ → ℕ → ℕ → ℕ → Bool → List ℕ → List ℕ → Reading → Type 0
+GivesTree a o c len count n own c′ notes′ r = Gives (Lends c len count n own) (λ (table : List ℕ). changeTree a o c len table count) c′ n notes′ count r
 
 -- and of a text
-abbrev pub GivesText : ℕ → List ℕ → List ℕ → ℕ → ℕ → ℕ → Bool → ℕ → List ℕ → List ℕ → Reading → Type 0
-GivesText form text c len count n own node c′ notes′ r = Gives (Lends c len count n own) (λ (table : List ℕ). replacing form text c table len count node) c′ n notes′ count r
+abbrev pub GivesText : Asked → ℕ → List ℕ → List ℕ → ℕ → ℕ → ℕ → Bool → List ℕ → List ℕ → Reading → Type 0
+GivesText a form text c len count n own c′ notes′ r = Gives (Lends c len count n own) (λ (table : List ℕ). changing a form text c table len count) c′ n notes′ count r
+
+-- the three by name, for whoever doesn't know what is asked as a value
+abbrev pub GivesReplaced : ℕ → List ℕ → List ℕ → ℕ → ℕ → ℕ → Bool → ℕ → List ℕ → List ℕ → Reading → Type 0
+GivesReplaced form text c len count n own node c′ notes′ r = Gives (Lends c len count n own) (λ (table : List ℕ). replacing form text c table len count node) c′ n notes′ count r
+
+abbrev pub GivesInserted : ℕ → List ℕ → List ℕ → ℕ → ℕ → ℕ → Bool → ℕ → ℕ → List ℕ → List ℕ → Reading → Type 0
+GivesInserted form text c len count n own node k c′ notes′ r = Gives (Lends c len count n own) (λ (table : List ℕ). inserting form text c table len count node k) c′ n notes′ count r
+
+abbrev pub GivesRemoved : List ℕ → ℕ → ℕ → ℕ → Bool → ℕ → List ℕ → List ℕ → Reading → Type 0
+GivesRemoved c len count n own node c′ notes′ r = Gives (Lends c len count n own) (λ (table : List ℕ). removing c table len count node) c′ n notes′ count r

@@ -1,27 +1,38 @@
-// Replacing: a node of a sheet gives way to the tree of a text, in place. Text, sheet, table, node and room are judged before
-// anything is written, so that a refusal changes nothing. The core goes by the sheet's notes, and leaves those of the new sheet: the
-// table, as numbers or as records, is its caller's.
+// A sheet changed in place: a node gives way to the tree of a text, a text's tree comes into a list, or a node is removed. Text, sheet,
+// table, node and room are judged before anything is written, so that a refusal changes nothing. The core goes by the sheet's notes, and
+// leaves those of the new sheet: the table, as numbers or as records, is its caller's.
 mod numbers; // numbers.rt: the table as numbers
+mod records; // records.rt: what serves a table of records
 mod tiers; // tiers.rt: local space for a text
 
 ghost use mathlib.Core.Path.{_≡_};
-ghost use Prim.Native.Nat.{_*_};
+ghost use mathlib.Core.Bool.{true, false};
+ghost use mathlib.Core.Option.{some};
+ghost use Prim.Native.Nat.{_*_, _≤_};
 ghost use lib.ListN.{length};
 ghost use Rattle.model.specs.Decode.{decode};
+ghost use Rattle.model.specs.Tree.{list, nil};
 ghost use Rattle.octets.specs.Classes.{Classed, Lettered};
 ghost use Rattle.texts.specs.Texts.{Takeable};
+ghost use Rattle.plan.specs.Asked.{texted};
 ghost use Rattle.plan.specs.Planned.{Known};
 ghost use Rattle.editor.specs.Given.{Noteable, GivesTree, GivesText};
 ghost use Rattle.editor.specs.Placed.{Placeable, Placed};
 use answers::Reading;
 use answers::refused;
+pub use numbers::insert;
+pub use numbers::remove;
 pub use numbers::replace;
+use plan::Asked;
 use plan::Plan;
 use plan::Sizes;
+pub use records::insert_notes;
+pub use records::remove_notes;
+pub use records::replace_notes;
 use walk::Extent;
 
-// A node of a sheet of `old` octets and `held` nodes gives way to the tree of these sizes whose octets stand in scratch, and whose first
-// note is given.
+// A sheet of `old` octets and `held` nodes is changed: what comes has these sizes, its octets stand in scratch, and its first note is
+// given.
 fn place(
     canonical: &mut [u8],
     notes: &mut [usize],
@@ -29,19 +40,20 @@ fn place(
     records: usize,
     old: usize,
     held: usize,
-    node: usize,
+    asked: Asked,
     scratch: &[u8],
     text: Sizes,
     note: usize,
 ) -> Reading
-    requires { ⌜ Placeable (now scratch) text note ⌝ }
+    requires { ⌜ Placeable asked (now scratch) text note ⌝ }
     requires { ⌜ Known (now canonical) old held records (now notes) own ⌝ }
     requires { ⌜ Noteable held (text .nodes) (length (now notes)) ⌝ }
-    ensures { λ r. ⌜ Placed (now (scratch .entry)) text (now (canonical .entry)) (now (canonical .exit)) old held records own node (now (notes .exit)) r ⌝ }
+    ensures { λ r. ⌜ Placed asked (now (scratch .entry)) text (now (canonical .entry)) (now (canonical .exit)) old held records own (now (notes .exit)) r ⌝ }
 {
     let len = text.len;
-    match plan::judge(canonical, old, notes, own, records, held, node, text) {
+    match plan::judge(canonical, old, notes, own, records, held, asked, text) {
         Plan::Fits {
+            first,
             start,
             end,
             length,
@@ -56,7 +68,7 @@ fn place(
                 old,
                 length,
                 nodes,
-                node,
+                first,
                 start,
                 note,
                 alone,
@@ -67,7 +79,7 @@ fn place(
 }
 
 // By a text that rows 1 and 2 don't apply to, in the local space lent. Of the text's notes only the first is asked for.
-fn replace_in(
+fn change_in(
     classes: &[u8; 256],
     letters: &[u8; 256],
     form: u32,
@@ -78,7 +90,7 @@ fn replace_in(
     records: usize,
     old: usize,
     held: usize,
-    node: usize,
+    asked: Asked,
     scratch: &mut [u8],
 ) -> Reading
     requires { ⌜ Classed (now classes) ⌝ }
@@ -86,7 +98,8 @@ fn replace_in(
     requires { ⌜ Takeable form (length (now text)) (length (now scratch)) ⌝ }
     requires { ⌜ Known (now canonical) old held records (now notes) own ⌝ }
     requires { ⌜ Noteable held (2 * length (now text)) (length (now notes)) ⌝ }
-    ensures { λ r. ⌜ GivesTree (decode form (now (text .entry))) (now (canonical .entry)) old held records own node (now (canonical .exit)) (now (notes .exit)) r ⌝ }
+    requires { ⌜ texted asked ≡ true ⌝ }
+    ensures { λ r. ⌜ GivesTree asked (decode form (now (text .entry))) (now (canonical .entry)) old held records own (now (canonical .exit)) (now (notes .exit)) r ⌝ }
 {
     let mut one: [usize; 1] = [0; 1];
     match texts::take(classes, letters, form, text, scratch, &mut one) {
@@ -99,7 +112,7 @@ fn replace_in(
                 records,
                 old,
                 held,
-                node,
+                asked,
                 scratch,
                 sizes,
                 one[0],
@@ -109,9 +122,8 @@ fn replace_in(
     }
 }
 
-// A node of the sheet with this length, node count and notes gives way to the tree of a text of the form named, where sheet and
-// table are told to be good or not, and so many records are lent.
-fn replace_by(
+// By a text of the form named.
+fn text_by(
     form: u32,
     text: &[u8],
     canonical: &mut [u8],
@@ -120,11 +132,12 @@ fn replace_by(
     records: usize,
     old: usize,
     held: usize,
-    node: usize,
+    asked: Asked,
 ) -> Reading
     requires { ⌜ Known (now canonical) old held records (now notes) own ⌝ }
     requires { ⌜ Noteable held (2 * length (now text)) (length (now notes)) ⌝ }
-    ensures { λ r. ⌜ GivesText form (now (text .entry)) (now (canonical .entry)) old held records own node (now (canonical .exit)) (now (notes .exit)) r ⌝ }
+    requires { ⌜ texted asked ≡ true ⌝ }
+    ensures { λ r. ⌜ GivesText asked form (now (text .entry)) (now (canonical .entry)) old held records own (now (canonical .exit)) (now (notes .exit)) r ⌝ }
 {
     let row = texts::row(form, text.len());
     if row > 0 {
@@ -133,7 +146,7 @@ fn replace_by(
     let classes = octets::classes();
     let letters = octets::letters();
     if text.len() <= limits::SHORT {
-        return tiers::replace_short(
+        return tiers::change_short(
             &classes,
             &letters,
             form,
@@ -144,11 +157,11 @@ fn replace_by(
             records,
             old,
             held,
-            node,
+            asked,
         );
     }
     if text.len() <= limits::MIDDLE {
-        return tiers::replace_middle(
+        return tiers::change_middle(
             &classes,
             &letters,
             form,
@@ -159,10 +172,10 @@ fn replace_by(
             records,
             old,
             held,
-            node,
+            asked,
         );
     }
-    tiers::replace_long(
+    tiers::change_long(
         &classes,
         &letters,
         form,
@@ -173,34 +186,64 @@ fn replace_by(
         records,
         old,
         held,
-        node,
+        asked,
     )
 }
 
-// The same, with room for every note.
-pub fn replace_notes(
-    form: u32,
-    text: &[u8],
+// By nothing: what stood there goes.
+fn strike(
     canonical: &mut [u8],
-    notes: &mut [usize; limits::NODES],
+    notes: &mut [usize],
     own: bool,
     records: usize,
-    length: usize,
-    nodes: usize,
-    node: usize,
+    old: usize,
+    held: usize,
+    asked: Asked,
 ) -> Reading
-    requires { ⌜ Known (now canonical) length nodes records (now notes) own ⌝ }
-    ensures { λ r. ⌜ GivesText form (now (text .entry)) (now (canonical .entry)) length nodes records own node (now (canonical .exit)) (now (notes .exit)) r ⌝ }
+    requires { ⌜ Known (now canonical) old held records (now notes) own ⌝ }
+    requires { ⌜ Noteable held 0 (length (now notes)) ⌝ }
+    requires { ⌜ texted asked ≡ false ⌝ }
+    ensures { λ r. ⌜ GivesTree asked (some (list nil)) (now (canonical .entry)) old held records own (now (canonical .exit)) (now (notes .exit)) r ⌝ }
 {
-    replace_by(
-        form,
-        text,
+    let none: [u8; 1] = [0; 1];
+    let sizes = Sizes {
+        len: 0,
+        nodes: 0,
+        depth: 0,
+    };
+    place(
         canonical,
         notes,
         own,
         records,
-        length,
-        nodes,
-        node,
+        old,
+        held,
+        asked,
+        &none,
+        sizes,
+        0,
     )
+}
+
+// The sheet with this length, node count and notes changed as asked, where sheet and table are told to be good or not, and so many
+// records are lent. A removal has no text, and what is lent for one is not looked at.
+fn change_by(
+    form: u32,
+    text: &[u8],
+    canonical: &mut [u8],
+    notes: &mut [usize],
+    own: bool,
+    records: usize,
+    old: usize,
+    held: usize,
+    asked: Asked,
+) -> Reading
+    requires { ⌜ Known (now canonical) old held records (now notes) own ⌝ }
+    requires { ⌜ Noteable held (2 * length (now text)) (length (now notes)) ⌝ }
+    ensures { λ r. ⌜ GivesText asked form (now (text .entry)) (now (canonical .entry)) old held records own (now (canonical .exit)) (now (notes .exit)) r ⌝ }
+{
+    if plan::has_text(asked) {
+        return text_by(form, text, canonical, notes, own, records, old, held, asked);
+    }
+    strike(canonical, notes, own, records, old, held, asked)
 }

@@ -1,30 +1,33 @@
-// Replacing where the table is lent as numbers. Notes stand in local space, in three sizes.
+// A sheet changed where the table is lent as numbers. Notes stand in local space, in three sizes.
 ghost use mathlib.Core.Path.{_≡_};
 ghost use Prim.Native.Nat.{_*_, _≤_};
 ghost use lib.ListN.{length};
 ghost use Rattle.model.specs.Answers.{replacing};
+ghost use Rattle.model.specs.Corrections.{inserting, removing};
 ghost use Rattle.answers.specs.Cases.{outcome};
+ghost use Rattle.plan.specs.Asked.{changing};
 ghost use Rattle.editor.specs.Given.{Noteable};
-use crate::replace_by;
+use crate::change_by;
 use answers::Reading;
+use plan::Asked;
 
-// In the local space lent: the sheet noted and its table compared, the octets replaced, and the table told by the new notes.
-fn replace_in(
+// In the local space lent: the sheet noted and its table compared, the octets changed, and the table told by the new notes.
+fn change_in(
     form: u32,
     text: &[u8],
     canonical: &mut [u8],
     table: &mut [u32],
     old: usize,
     held: usize,
-    node: usize,
+    asked: Asked,
     notes: &mut [usize],
 ) -> Reading
     requires { ⌜ Noteable held (2 * length (now text)) (length (now notes)) ⌝ }
-    ensures { λ r. ⌜ outcome r (now (canonical .exit)) (now (table .exit)) ≡ replacing form (now (text .entry)) (now (canonical .entry)) (now (table .entry)) old held node ⌝ }
+    ensures { λ r. ⌜ outcome r (now (canonical .exit)) (now (table .exit)) ≡ changing asked form (now (text .entry)) (now (canonical .entry)) (now (table .entry)) old held ⌝ }
 {
     let own = lookup::own_notes(canonical, old, table, held, notes);
     let records = table.len() / limits::WIDTH;
-    match replace_by(form, text, canonical, notes, own, records, old, held, node) {
+    match change_by(form, text, canonical, notes, own, records, old, held, asked) {
         Reading::Accepted { length, nodes } => {
             splice::retell(notes, table, held, nodes);
             Reading::Accepted { length, nodes }
@@ -34,55 +37,80 @@ fn replace_in(
 }
 
 // A short sheet and text.
-fn replace_short(
+fn change_short(
     form: u32,
     text: &[u8],
     canonical: &mut [u8],
     table: &mut [u32],
     old: usize,
     held: usize,
-    node: usize,
+    asked: Asked,
 ) -> Reading
     requires { ⌜ held ≤ 64 ⌝ }
     requires { ⌜ length (now text) ≤ 64 ⌝ }
-    ensures { λ r. ⌜ outcome r (now (canonical .exit)) (now (table .exit)) ≡ replacing form (now (text .entry)) (now (canonical .entry)) (now (table .entry)) old held node ⌝ }
+    ensures { λ r. ⌜ outcome r (now (canonical .exit)) (now (table .exit)) ≡ changing asked form (now (text .entry)) (now (canonical .entry)) (now (table .entry)) old held ⌝ }
 {
     let mut notes: [usize; limits::SHORT_NOTES] = [0; limits::SHORT_NOTES];
-    replace_in(form, text, canonical, table, old, held, node, &mut notes)
+    change_in(form, text, canonical, table, old, held, asked, &mut notes)
 }
 
 // Of middle length.
-fn replace_middle(
+fn change_middle(
     form: u32,
     text: &[u8],
     canonical: &mut [u8],
     table: &mut [u32],
     old: usize,
     held: usize,
-    node: usize,
+    asked: Asked,
 ) -> Reading
     requires { ⌜ held ≤ 512 ⌝ }
     requires { ⌜ length (now text) ≤ 512 ⌝ }
-    ensures { λ r. ⌜ outcome r (now (canonical .exit)) (now (table .exit)) ≡ replacing form (now (text .entry)) (now (canonical .entry)) (now (table .entry)) old held node ⌝ }
+    ensures { λ r. ⌜ outcome r (now (canonical .exit)) (now (table .exit)) ≡ changing asked form (now (text .entry)) (now (canonical .entry)) (now (table .entry)) old held ⌝ }
 {
     let mut notes: [usize; limits::MIDDLE_NOTES] = [0; limits::MIDDLE_NOTES];
-    replace_in(form, text, canonical, table, old, held, node, &mut notes)
+    change_in(form, text, canonical, table, old, held, asked, &mut notes)
 }
 
 // Of any length.
-fn replace_long(
+fn change_long(
     form: u32,
     text: &[u8],
     canonical: &mut [u8],
     table: &mut [u32],
     old: usize,
     held: usize,
-    node: usize,
+    asked: Asked,
 ) -> Reading
-    ensures { λ r. ⌜ outcome r (now (canonical .exit)) (now (table .exit)) ≡ replacing form (now (text .entry)) (now (canonical .entry)) (now (table .entry)) old held node ⌝ }
+    ensures { λ r. ⌜ outcome r (now (canonical .exit)) (now (table .exit)) ≡ changing asked form (now (text .entry)) (now (canonical .entry)) (now (table .entry)) old held ⌝ }
 {
     let mut notes: [usize; limits::NODES] = [0; limits::NODES];
-    replace_in(form, text, canonical, table, old, held, node, &mut notes)
+    change_in(form, text, canonical, table, old, held, asked, &mut notes)
+}
+
+// By both lengths.
+fn change(
+    form: u32,
+    text: &[u8],
+    canonical: &mut [u8],
+    table: &mut [u32],
+    old: usize,
+    held: usize,
+    asked: Asked,
+) -> Reading
+    ensures { λ r. ⌜ outcome r (now (canonical .exit)) (now (table .exit)) ≡ changing asked form (now (text .entry)) (now (canonical .entry)) (now (table .entry)) old held ⌝ }
+{
+    if held <= limits::SHORT_NOTES / 3 {
+        if text.len() <= limits::SHORT_NOTES / 3 {
+            return change_short(form, text, canonical, table, old, held, asked);
+        }
+    }
+    if held <= limits::MIDDLE_NOTES / 3 {
+        if text.len() <= limits::MIDDLE_NOTES / 3 {
+            return change_middle(form, text, canonical, table, old, held, asked);
+        }
+    }
+    change_long(form, text, canonical, table, old, held, asked)
 }
 
 // A node of the sheet with this length, node count and table gives way to the tree of a text of the form named (1 canonical,
@@ -99,15 +127,38 @@ pub fn replace(
 ) -> Reading
     ensures { λ r. ⌜ outcome r (now (canonical .exit)) (now (table .exit)) ≡ replacing form (now (text .entry)) (now (canonical .entry)) (now (table .entry)) length nodes node ⌝ }
 {
-    if nodes <= limits::SHORT_NOTES / 3 {
-        if text.len() <= limits::SHORT_NOTES / 3 {
-            return replace_short(form, text, canonical, table, length, nodes, node);
-        }
-    }
-    if nodes <= limits::MIDDLE_NOTES / 3 {
-        if text.len() <= limits::MIDDLE_NOTES / 3 {
-            return replace_middle(form, text, canonical, table, length, nodes, node);
-        }
-    }
-    replace_long(form, text, canonical, table, length, nodes, node)
+    let asked = Asked::Replace { node };
+    change(form, text, canonical, table, length, nodes, asked)
+}
+
+// The tree of a text becomes element k of a list.
+pub fn insert(
+    form: u32,
+    text: &[u8],
+    canonical: &mut [u8],
+    table: &mut [u32],
+    length: usize,
+    nodes: usize,
+    node: usize,
+    k: usize,
+) -> Reading
+    ensures { λ r. ⌜ outcome r (now (canonical .exit)) (now (table .exit)) ≡ inserting form (now (text .entry)) (now (canonical .entry)) (now (table .entry)) length nodes node k ⌝ }
+{
+    let asked = Asked::Insert { node, k };
+    change(form, text, canonical, table, length, nodes, asked)
+}
+
+// A node is removed, with all that is in it.
+pub fn remove(
+    canonical: &mut [u8],
+    table: &mut [u32],
+    length: usize,
+    nodes: usize,
+    node: usize,
+) -> Reading
+    ensures { λ r. ⌜ outcome r (now (canonical .exit)) (now (table .exit)) ≡ removing (now (canonical .entry)) (now (table .entry)) length nodes node ⌝ }
+{
+    let none: [u8; 1] = [0; 1];
+    let asked = Asked::Remove { node };
+    change(1, &none, canonical, table, length, nodes, asked)
 }

@@ -1,17 +1,20 @@
 // Local space for a text, in three sizes: a short text does not pay for clearing the largest.
 ghost use mathlib.Core.Path.{_≡_};
+ghost use mathlib.Core.Bool.{true};
 ghost use Prim.Native.Nat.{_*_};
 ghost use lib.ListN.{length};
 ghost use Rattle.model.specs.Decode.{decode};
 ghost use Rattle.model.specs.Limits.{maxSource};
 ghost use Rattle.octets.specs.Classes.{Classed, Lettered};
 ghost use Rattle.texts.specs.Texts.{Formed};
+ghost use Rattle.plan.specs.Asked.{texted};
 ghost use Rattle.plan.specs.Planned.{Known};
 ghost use Rattle.editor.specs.Given.{Noteable, GivesTree};
-use crate::replace_in;
+use crate::change_in;
 use answers::Reading;
+use plan::Asked;
 
-pub fn replace_short(
+pub fn change_short(
     classes: &[u8; 256],
     letters: &[u8; 256],
     form: u32,
@@ -22,17 +25,18 @@ pub fn replace_short(
     records: usize,
     old: usize,
     held: usize,
-    node: usize,
+    asked: Asked,
 ) -> Reading
     requires { ⌜ Classed (now classes) ⌝ }
     requires { ⌜ Lettered (now letters) ⌝ }
     requires { ⌜ Formed form (length (now text)) 128 ⌝ }
     requires { ⌜ Known (now canonical) old held records (now notes) own ⌝ }
     requires { ⌜ Noteable held (2 * length (now text)) (length (now notes)) ⌝ }
-    ensures { λ r. ⌜ GivesTree (decode form (now (text .entry))) (now (canonical .entry)) old held records own node (now (canonical .exit)) (now (notes .exit)) r ⌝ }
+    requires { ⌜ texted asked ≡ true ⌝ }
+    ensures { λ r. ⌜ GivesTree asked (decode form (now (text .entry))) (now (canonical .entry)) old held records own (now (canonical .exit)) (now (notes .exit)) r ⌝ }
 {
     let mut scratch: [u8; limits::SHORT_SCRATCH] = [0; limits::SHORT_SCRATCH];
-    replace_in(
+    change_in(
         classes,
         letters,
         form,
@@ -43,12 +47,12 @@ pub fn replace_short(
         records,
         old,
         held,
-        node,
+        asked,
         &mut scratch,
     )
 }
 
-pub fn replace_middle(
+pub fn change_middle(
     classes: &[u8; 256],
     letters: &[u8; 256],
     form: u32,
@@ -59,17 +63,18 @@ pub fn replace_middle(
     records: usize,
     old: usize,
     held: usize,
-    node: usize,
+    asked: Asked,
 ) -> Reading
     requires { ⌜ Classed (now classes) ⌝ }
     requires { ⌜ Lettered (now letters) ⌝ }
     requires { ⌜ Formed form (length (now text)) 1024 ⌝ }
     requires { ⌜ Known (now canonical) old held records (now notes) own ⌝ }
     requires { ⌜ Noteable held (2 * length (now text)) (length (now notes)) ⌝ }
-    ensures { λ r. ⌜ GivesTree (decode form (now (text .entry))) (now (canonical .entry)) old held records own node (now (canonical .exit)) (now (notes .exit)) r ⌝ }
+    requires { ⌜ texted asked ≡ true ⌝ }
+    ensures { λ r. ⌜ GivesTree asked (decode form (now (text .entry))) (now (canonical .entry)) old held records own (now (canonical .exit)) (now (notes .exit)) r ⌝ }
 {
     let mut scratch: [u8; limits::MIDDLE_SCRATCH] = [0; limits::MIDDLE_SCRATCH];
-    replace_in(
+    change_in(
         classes,
         letters,
         form,
@@ -80,12 +85,12 @@ pub fn replace_middle(
         records,
         old,
         held,
-        node,
+        asked,
         &mut scratch,
     )
 }
 
-pub fn replace_long(
+pub fn change_long(
     classes: &[u8; 256],
     letters: &[u8; 256],
     form: u32,
@@ -96,17 +101,18 @@ pub fn replace_long(
     records: usize,
     old: usize,
     held: usize,
-    node: usize,
+    asked: Asked,
 ) -> Reading
     requires { ⌜ Classed (now classes) ⌝ }
     requires { ⌜ Lettered (now letters) ⌝ }
     requires { ⌜ Formed form (length (now text)) maxSource ⌝ }
     requires { ⌜ Known (now canonical) old held records (now notes) own ⌝ }
     requires { ⌜ Noteable held (2 * length (now text)) (length (now notes)) ⌝ }
-    ensures { λ r. ⌜ GivesTree (decode form (now (text .entry))) (now (canonical .entry)) old held records own node (now (canonical .exit)) (now (notes .exit)) r ⌝ }
+    requires { ⌜ texted asked ≡ true ⌝ }
+    ensures { λ r. ⌜ GivesTree asked (decode form (now (text .entry))) (now (canonical .entry)) old held records own (now (canonical .exit)) (now (notes .exit)) r ⌝ }
 {
     let mut scratch: [u8; limits::LONG_SCRATCH] = [0; limits::LONG_SCRATCH];
-    replace_in(
+    change_in(
         classes,
         letters,
         form,
@@ -117,7 +123,7 @@ pub fn replace_long(
         records,
         old,
         held,
-        node,
+        asked,
         &mut scratch,
     )
 }

@@ -1,4 +1,4 @@
--- The lists around a node, by octets and by node numbers: the same lists, before a replacement and after it.
+-- The lists around a node, by octets and by node numbers: the same lists.
 use Prim.Native.Nat.{ℕ, _+_, _-_, _≤_, _<_}
 use native.Mathlib.Omega.{arith}
 use mathlib.Core.Path.{_≡_, sym, ap, ap₂, _∙_}
@@ -14,26 +14,25 @@ use Rattle.model.specs.Tree.{Tree, nil, canons, nodes, nodess}
 use Rattle.model.specs.Node.{nodeAmong, nodeAt}
 use Rattle.edits.specs.Node.{holds}
 use Rattle.edits.proofs.Find.{nodes-pos, nodeAt-among, node-fill}
-use Rattle.edits.proofs.Moved.{record-aside, record-around}
 use Rattle.edits.proofs.Sides.{Side, aside, round, sides}
-use Rattle.edits.proofs.Whole.{nodess-one, moves-at, locate, count-at, end-at}
+use Rattle.edits.proofs.Whole.{nodess-one, locate, count-at, end-at}
 
 module _ (s l : ℕ) (r : Row) where
-  is-aside : r .end ≤ s → around s (s + l) r ≡ false
+  pub is-aside : r .end ≤ s → around s (s + l) r ≡ false
   is-aside h =
       by-le s (r .start)
       (λ k. rw (le-ltb (r .start) s k))
       (λ k. rw (lt-ltb (r .start) s k) (le-ltb (s + l) (r .end) (omega arith)))
 
-  is-around : r .start < s → s + l < r .end → around s (s + l) r ≡ true
+  pub is-around : r .start < s → s + l < r .end → around s (s + l) r ≡ true
   is-around h k = true-both (lt-ltb (r .start) s h) (lt-ltb (s + l) (r .end) k)
 
 -- for an earlier node, the count decides
 pub holds-count : (t : Tree) (j k : ℕ) → j < k → holds t j k ≡ ltb k (j + (rowOf t j) .count)
 holds-count t j k h = picked _ _ (lt-ltb j k h)
 
+-- by octets and by numbers
 module _ (t : Tree) (p : Place) (x : Tree) (e : one t ≡ fill p (one x)) (j : ℕ) (h : j < number p) where
-  -- by octets and by numbers
   pub around-at : around (length (before p)) (length (before p) + length (canons (one x))) (rowOf t j) ≡ holds t j (number p)
   around-at = by (sides t p (one x) e j h)
     where
@@ -42,20 +41,6 @@ module _ (t : Tree) (p : Place) (x : Tree) (e : one t ≡ fill p (one x)) (j : �
       by (aside y z) = is-aside _ _ (rowOf t j) y ∙ sym (holds-count t j (number p) h ∙ le-ltb (number p) (j + (rowOf t j) .count) z)
       by (round y z w v q) =
           is-around _ _ (rowOf t j) z w ∙ sym (holds-count t j (number p) h ∙ lt-ltb (number p) (j + (rowOf t j) .count) (omega (arith, nodess-one x, nodes-pos x)))
-
-  -- another tree at the place has the same lists around it
-  pub holds-at : (t' x' : Tree) → one t' ≡ fill p (one x') → holds t' j (number p) ≡ holds t j (number p)
-  holds-at t' x' e' = by (sides t p (one x) e j h)
-    where
-      by : Side (rowOf t j) j (number p) (nodess (one x)) (length (before p)) (length (before p) + length (canons (one x))) → holds t' j (number p) ≡ holds t j (number p)
-      by (aside y z) =
-          let r = record-aside t t' (number p) (nodess (one x)) (length (before p)) (length (canons (one x))) (one x') (moves-at t t' p (one x) (one x') e e') j h (is-aside _ _ (rowOf t j) y) in
-          (holds-count t' j (number p) h ∙ le-ltb (number p) (j + (rowOf t' j) .count) (omega (arith, ap (λ (r : Row). r .count) r)))
-          ∙ sym (holds-count t j (number p) h ∙ le-ltb (number p) (j + (rowOf t j) .count) z)
-      by (round y z w v q) =
-          let r = record-around t t' (number p) (nodess (one x)) (length (before p)) (length (canons (one x))) (one x') (moves-at t t' p (one x) (one x') e e') j h (is-around _ _ (rowOf t j) z w) in
-          (holds-count t' j (number p) h ∙ lt-ltb (number p) (j + (rowOf t' j) .count) (omega (arith, ap (λ (r : Row). r .count) r, nodess-one x', nodes-pos x')))
-          ∙ sym (holds-count t j (number p) h ∙ lt-ltb (number p) (j + (rowOf t j) .count) (omega (arith, nodess-one x, nodes-pos x)))
 
 -- ---- of two nodes, by their numbers
 module _ (t : Tree) (j k : ℕ) (h : j < k) (i : k < nodes t) where

@@ -10,7 +10,7 @@ use lib.Seq.{take-at}
 use lib.Dec.{ltb}
 use borrow.Author.Tests.{lt-ltb, le-ltb}
 use Rattle.base.specs.Choice.{pick}
-use Rattle.base.proofs.Cases.{by-le, picked, unpicked}
+use Rattle.base.proofs.Cases.{picked, unpicked}
 use Rattle.model.specs.Edit.{one, replace}
 use Rattle.model.specs.Table.{Row, plainRow, rows}
 use Rattle.model.specs.Tree.{Tree, canon, nodes, nodess, depth, canons}
@@ -20,7 +20,9 @@ use Rattle.edits.specs.Place.{number, past, Place, here, down, level, le
 use Rattle.edits.proofs.Find.{nodes-pos}
 use Rattle.edits.proofs.Rows.{lead-length}
 use Rattle.edits.proofs.Sides.{rows-before}
-use Rattle.edits.proofs.Whole.{nodess-one, depths-one, rows-at, depth-at, locate, replaced-at}
+use Rattle.edits.proofs.Changed.{change-deep}
+use Rattle.edits.proofs.Gives.{gives-way}
+use Rattle.edits.proofs.Whole.{nodess-one, depths-one, rows-at, locate, replaced-at}
 
 -- ---- holders
 
@@ -75,11 +77,4 @@ module _ (t : Tree) (k : ℕ) (h : k < nodes t) where
 
   -- a tree of at most m deep, with the node replaced, is deeper only where the node's place and the text are
   pub replace-deep : (m : ℕ) → depth t ≤ m → (u : Tree) → ltb m (depth (replace t k u)) ≡ ltb m (level place + depth u)
-  replace-deep m l u =
-      let a = locate t k h in
-      let now = depth-at (replace t k u) place (one u) (replaced-at t k h u) in
-      let was = depth-at t place (one (a .node)) (a .is) in
-      let d = depths-one u in
-      by-le (level place + depth u) m
-      (λ g. le-ltb m (depth (replace t k u)) (omega arith) ∙ sym (le-ltb m (level place + depth u) g))
-      (λ g. lt-ltb m (depth (replace t k u)) (omega arith) ∙ sym (lt-ltb m (level place + depth u) g))
+  replace-deep m l u = change-deep (gives-way t k h (replace t k u) (one u) (replaced-at t k h u)) m l ∙ rw depths-one

@@ -29,7 +29,7 @@ getD-map-in f [] i a b h = absurd (omega arith)
 getD-map-in f (x ∷ l) zero a b h = refl
 getD-map-in f (x ∷ l) (suc i) a b h = getD-map-in f l i a b (omega arith)
 
-module _ (t t' : Tree) (k n s l : ℕ) (g : Forest) (m : Moves t t' k n s l g) where
+module _ {t t' : Tree} {k n s l : ℕ} {g : Forest} (m : Moves t t' k n s l g) where
   -- ---- octets
   start-length : length (take s (canon t)) ≡ s
   start-length = length-take-le s (canon t) (omega (arith, m .octetsIn))

@@ -29,7 +29,7 @@ pub record BeginsFrom (r : Row) (s : ℕ) : Type 0 where
   pub dataEnd : s ≤ r .dataEnd
 
 -- of two lists, one after the other: what holds of each row, by its number
-part : (a b : List Row) (i : ℕ) (P : Row → Type 0) → (i < length a → P (getD a i (plainRow 0 0 0))) → (length a ≤ i → P (getD b (i - length a) (plainRow 0 0 0))) → P (getD (a ++ b) i (plainRow 0 0 0))
+pub part : (a b : List Row) (i : ℕ) (P : Row → Type 0) → (i < length a → P (getD a i (plainRow 0 0 0))) → (length a ≤ i → P (getD b (i - length a) (plainRow 0 0 0))) → P (getD (a ++ b) i (plainRow 0 0 0))
 part a b i P f g =
     by-le (length a) i
     (λ l. let e : length a + (i - length a) ≡ i = omega arith in subst P (sym (getD-append-add a b (i - length a) (plainRow 0 0 0)) ∙ rw e) (g l))

@@ -78,7 +78,7 @@ pub record HeadRow (t : Tree) (at : ℕ) (r : Row) : Type 0 where
   pub end : r .end ≡ at + length (canon t)
   pub count : r .count ≡ nodes t
 
-head-row : (t : Tree) (at : ℕ) (rest : List Row) → HeadRow t at (getD (rows t at ++ rest) 0 (plainRow 0 0 0))
+pub head-row : (t : Tree) (at : ℕ) (rest : List Row) → HeadRow t at (getD (rows t at ++ rest) 0 (plainRow 0 0 0))
 unfolding rows canon nodes
 head-row (plain d) at rest = record { start = refl; end = refl; count = refl }
 head-row (hinted h d) at rest = record { start = refl; end = simp length-append (omega arith); count = refl }
@@ -99,7 +99,7 @@ module _ (t : Tree) (p : Place) (x : Tree) (e : one t ≡ fill p (one x)) where
   row-at = subst (HeadRow x (length (before p))) (sym row-first) (head-row x (length (before p)) (trail p (length (before p) + length (canons (one x)))))
 
 -- ---- a replacement in a tree is one in the forest of that tree alone
-replace-across : (t : Tree) (k : ℕ) (u : Tree) → k < nodes t → one (replace t k u) ≡ across (λ (x : Tree). one u) (one t) k
+pub replace-across : (t : Tree) (k : ℕ) (u : Tree) → k < nodes t → one (replace t k u) ≡ across (λ (x : Tree). one u) (one t) k
 unfolding replace join
 replace-across t zero u h = sym (across-here (λ (x : Tree). one u) t nil)
 replace-across t (suc k) u h = sym (across-in (λ (x : Tree). one u) t nil k h)

@@ -5,7 +5,21 @@ use mathlib.Core.List.{_++_, map}
 use lib.ListN.{length, take, drop}
 use Rattle.model.specs.Table.{Row, rows, rowss}
 use Rattle.model.specs.Tree.{Tree, Forest, canon, canons, nodes, nodess}
-use Rattle.edits.specs.Place.{moved, kept}
+use Rattle.model.specs.Edit.{one}
+use Rattle.edits.specs.Place.{Place, fill, before, number, level, moved, kept}
+
+-- the one notion of a change, for replacing, inserting and removing alike: t' is t, where what stood at a place has given way to the
+-- forest g. At it stood n nodes from node k on, l octets from octet s on, in d lists
+pub record Change (t t' : Tree) (k n s l d : ℕ) (g : Forest) : Type 0 where
+  pub place : Place
+  pub old : Forest
+  pub was : one t ≡ fill place old
+  pub is : one t' ≡ fill place g
+  pub at : number place ≡ k
+  pub some : nodess old ≡ n
+  pub start : length (before place) ≡ s
+  pub long : length (canons old) ≡ l
+  pub deep : level place ≡ d
 
 -- t' is t, where the n nodes from node k on, which are the l octets from octet s on, have given way to the forest g
 pub record Moves (t t' : Tree) (k n s l : ℕ) (g : Forest) : Type 0 where

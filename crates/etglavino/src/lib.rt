@@ -2,6 +2,7 @@
 // equation with one definition, of crate model or, of what requests brought, of spools, typed, extracts or batch: it settles the
 // answer and every lent octet and number afterwards.
 mod batching; // batching.rt: sheets written back to back
+mod corrections; // corrections.rt: elements put into lists, and nodes removed
 mod foremen; // foremen.rt: extracts
 mod spooling; // spooling.rt: a spool of sheets
 mod typing; // typing.rt: values with a type, and hours
@@ -15,6 +16,8 @@ use answers::Place;
 use answers::Reading;
 use answers::Writing;
 pub use batching::split;
+pub use corrections::insert;
+pub use corrections::remove;
 pub use foremen::extract;
 pub use foremen::extract_own;
 pub use spooling::spool_add;

@@ -1,6 +1,7 @@
 // The C interface: the public entries with 01's number as the return value. What is asked for goes out through pointers and is
 // 0 in a refusal. include/etglavino.h tells a C program how to call them.
 mod batching; // batching.rt: sheets written back to back
+mod corrections; // corrections.rt: elements put into lists, and nodes removed
 mod extract; // extract.rt: extracts for foremen
 mod spooling; // spooling.rt: the spool
 mod values; // values.rt: values with a type, and hours

@@ -24,6 +24,7 @@ pub mod Spellings
 pub mod Listed
 pub mod Laws
 mod Starred
+mod Corrected
 mod Examples
 pub mod Judging
 pub mod Numbered

@@ -18,7 +18,7 @@ use Rattle.walk.proofs.Tabled.{rows-length}
 use Rattle.sheets.specs.Told.{rowAt, Countable, Holds}
 use Rattle.sheets.proofs.Telling.{holds-row}
 use Rattle.edits.specs.Levels.{holders}
-use Rattle.plan.specs.Planned.{Recorded, levels, Levels}
+use Rattle.plan.specs.Spots.{Recorded, levels, Levels}
 
 -- ---- the loop: running on from here gives what running from the start gives
 pub record Levelling (notes : List ℕ) (node level j : ℕ) : Type 0 where

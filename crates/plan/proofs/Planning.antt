@@ -2,30 +2,34 @@
 use Prim.Native.Nat.{ℕ, _-_, _≤_, _<_}
 use native.Mathlib.Omega.{arith}
 use mathlib.Core.Path.{_≡_, refl, sym, ap, _∙_, subst}
-use mathlib.Core.Bool.{Bool}
-use mathlib.Core.Option.{some}
+use mathlib.Core.Bool.{Bool, true, false}
+use mathlib.Core.Option.{Option, some}
 use mathlib.Core.List.{List}
 use lib.ListN.{length}
 use lib.Dec.{ltb}
 use borrow.Author.Tests.{le-ltb, ltb-false}
+use Rattle.base.specs.Choice.{not, isNone}
 use Rattle.base.proofs.Cases.{some-same}
 use Rattle.model.specs.Limits.{maxDepth}
-use Rattle.model.specs.Edit.{replace}
 use Rattle.model.specs.Table.{records}
 use Rattle.model.specs.Answers.{ownTree}
 use Rattle.model.specs.Tree.{Tree, canon, nodes, depth}
 use Rattle.model.proofs.Laws.{small-nodes}
 use Rattle.reader.specs.Stored.{roomVerdict}
 use Rattle.reader.proofs.Rooms.{Lodged, roomy}
+use Rattle.sheets.specs.Told.{Holds}
 use Rattle.lookup.specs.Noted.{Sheet}
 use Rattle.lookup.proofs.Sheets.{tree-of, sheet-of, Own, own-of}
 use Rattle.lookup.proofs.Sheets as good
-use Rattle.plan.specs.Planned.{Known, Lends, Sized, Small, Findable, Finding, Refusing, Finds, AtNode, Resizable, resized, Plans}
-use Rattle.plan.proofs.Finding.{node-refused, node-accepted}
+use Rattle.plan.specs.Asked.{changed, given, placeless, changeTree}
+use Rattle.plan.specs.Spots.{Findable, Finding, Refusing, Finds}
+use Rattle.plan.specs.Planned.{Known, Lends, Sized, Small, AtSpot, Resizable, resized, Plans}
+use Rattle.plan.proofs.Finding.{spot-refused, spot-accepted}
 use Rattle.plan.proofs.Resizing.{resizable, long-is, nodes-are, deep-where}
+use Rattle.plan.specs.declared.Asked.{Asked}
 use Rattle.plan.specs.declared.Sizes.{Sizes}
 use Rattle.plan.specs.declared.Found.{Found}
-use Rattle.plan.specs.declared.Found.the-variants.{Node, Unfound}
+use Rattle.plan.specs.declared.Found.the-variants.{Spot, Unfound}
 use Rattle.plan.specs.declared.Plan.the-variants.{Fits, Misfit}
 
 -- only whether a tree is too deep plays a part
@@ -33,7 +37,7 @@ same-verdict : (o k d d′ : ℕ) {n n′ l l′ : ℕ} → ltb maxDepth d ≡ l
 unfolding roomVerdict
 same-verdict o k d d′ p q r = rw (p, q, r)
 
-module _ (c : List ℕ) (len : ℕ) (notes : List ℕ) (own : Bool) (room count node : ℕ) (known : Known c len count room notes own) where
+module _ (c : List ℕ) (len : ℕ) (notes : List ℕ) (own : Bool) (room count : ℕ) (a : Asked) (known : Known c len count room notes own) where
   pub plan-findable : Findable notes count own
   plan-findable =
       record {
@@ -42,17 +46,26 @@ module _ (c : List ℕ) (len : ℕ) (notes : List ℕ) (own : Bool) (room count 
             record { tree = s .tree; held = s .held; few = omega (arith, s .held .counted, sheet-of c len (s .tree) (s .is) .fitting .many) };
       }
 
-  module _ (text : Sizes) (small : Small text) (r : Found) (w : Finds notes count own node r) where
-    pub plan-unfound : (k : ℕ) → r ≡ Unfound k → Plans c len count room own node text (Misfit k)
+  -- the sheet has one tree, and its notes are lent
+  held-by : (table : List ℕ) → Lends c len count room own table → (t : Tree) → ownTree c len table count ≡ some t → Holds notes count t
+  unfolding isNone
+  held-by table l t i =
+      let y : own ≡ true = l .tells ∙ ap (λ (o : Option Tree). not (isNone o)) i in
+      let s : Sheet c len count room notes = known .sheet y in
+      let o : Own c len table count t = own-of c len table count t i in
+      subst (Holds notes count) (some-same (λ (v : Tree). s .tree ≡ v) (sym (sheet-of c len (s .tree) (s .is) .decoded) ∙ o .sheet .decoded) refl) (s .held)
+
+  module _ (text : Sizes) (small : Small text) (r : Found) (w : Finds notes count own a r) where
+    pub plan-unfound : (k : ℕ) → r ≡ Unfound k → Plans c len count room own a text (Misfit k)
     unfolding Finds Plans
     plan-unfound k e =
-        let g : Refusing count own node k = subst (Finds notes count own node) e w in
-        record { answer = λ table l u s. g .is c len table (l .tells) u }
+        let g : Refusing notes count own a k = subst (Finds notes count own a) e w in
+        record { answer = λ table l u s. g .is c len table (l .tells) (λ t i. held-by table l t i) u }
 
-    module _ (start end n level : ℕ) (e : r ≡ Node start end n level) where
-      finding : Finding notes count own node start end n level
+    module _ (first n start end level : ℕ) (e : r ≡ Spot first n start end level) where
+      finding : Finding notes count own a first n start end level
       unfolding Finds
-      finding = subst (Finds notes count own node) e w
+      finding = subst (Finds notes count own a) e w
 
       sheet : Sheet c len count room notes
       sheet = known .sheet (finding .good)
@@ -63,7 +76,10 @@ module _ (c : List ℕ) (len : ℕ) (notes : List ℕ) (own : Bool) (room count 
       good-sheet : good.Sheet c len t
       good-sheet = sheet-of c len t (sheet .is)
 
-      at : AtNode len count start end n level t node
+      has-place : placeless a t ≡ false
+      has-place = finding .has t (sheet .held)
+
+      at : AtSpot len count first n start end level a t
       at =
           record {
             long = sym (good-sheet .size);
@@ -71,12 +87,11 @@ module _ (c : List ℕ) (len : ℕ) (notes : List ℕ) (own : Bool) (room count 
             shallow = good-sheet .fitting .deep;
             counted = sheet .held .counted;
             few = omega (arith, sheet .held .counted, good-sheet .fitting .many);
-            inside = omega (arith, finding .inside, sheet .held .counted);
             spot = finding .spot t (sheet .held);
           }
 
       pub plan-resizable : Resizable len count start end n level text
-      plan-resizable = resizable len count node start end n level t at text small
+      plan-resizable = resizable len count first n start end level a t at text small
 
       -- the sheet has one tree
       owned-tree : (table : List ℕ) → Lends c len count room own table → ownTree c len table count ≡ some t
@@ -87,27 +102,27 @@ module _ (c : List ℕ) (len : ℕ) (notes : List ℕ) (own : Bool) (room count 
           i ∙ ap some (sym (some-same (λ (v : Tree). t ≡ v) (sym (good-sheet .decoded) ∙ o .sheet .decoded) refl)))
 
       module _ (to : Sizes) (z : to ≡ resized len count start end n level text) (row : ℕ) (v : row ≡ roomVerdict (to .depth) (to .nodes) (to .len) (length c) room) where
-        deep : (u : Tree) → Sized u text → ltb maxDepth (to .depth) ≡ ltb maxDepth (depth (replace t node u))
-        deep u s = ap (λ (x : Sizes). ltb maxDepth (x .depth)) z ∙ deep-where len count node start end n level t at u text s
+        deep : (u : Tree) → Sized (given a u) text → ltb maxDepth (to .depth) ≡ ltb maxDepth (depth (changed a t u))
+        deep u s = ap (λ (x : Sizes). ltb maxDepth (x .depth)) z ∙ deep-where len count first n start end level a t at u text s
 
-        counted : (u : Tree) → Sized u text → to .nodes ≡ nodes (replace t node u)
-        counted u s = ap (λ (x : Sizes). x .nodes) z ∙ nodes-are len count node start end n level t at u text s
+        counted : (u : Tree) → Sized (given a u) text → to .nodes ≡ nodes (changed a t u)
+        counted u s = ap (λ (x : Sizes). x .nodes) z ∙ nodes-are len count first n start end level a t at u text s
 
-        long : (u : Tree) → Sized u text → to .len ≡ length (canon (replace t node u))
-        long u s = ap (λ (x : Sizes). x .len) z ∙ long-is len count node start end n level t at u text s
+        long : (u : Tree) → Sized (given a u) text → to .len ≡ length (canon (changed a t u))
+        long u s = ap (λ (x : Sizes). x .len) z ∙ long-is len count first n start end level a t at u text s
 
-        verdict-of : (table : List ℕ) → Lends c len count room own table → (u : Tree) → Sized u text
-            → row ≡ roomVerdict (depth (replace t node u)) (nodes (replace t node u)) (length (canon (replace t node u))) (length c) (records table)
+        verdict-of : (table : List ℕ) → Lends c len count room own table → (u : Tree) → Sized (given a u) text
+            → row ≡ roomVerdict (depth (changed a t u)) (nodes (changed a t u)) (length (canon (changed a t u))) (length c) (records table)
         verdict-of table l u s =
-            v ∙ same-verdict (length c) room (to .depth) (depth (replace t node u)) (deep u s) (counted u s) (long u s)
-            ∙ ap (roomVerdict (depth (replace t node u)) (nodes (replace t node u)) (length (canon (replace t node u))) (length c)) (sym (l .recorded))
+            v ∙ same-verdict (length c) room (to .depth) (depth (changed a t u)) (deep u s) (counted u s) (long u s)
+            ∙ ap (roomVerdict (depth (changed a t u)) (nodes (changed a t u)) (length (canon (changed a t u))) (length c)) (sym (l .recorded))
 
-        pub plan-misfit : 0 < row → Plans c len count room own node text (Misfit row)
+        pub plan-misfit : 0 < row → Plans c len count room own a text (Misfit row)
         unfolding Plans
         plan-misfit h =
-            record { answer = λ table l u s. node-refused c len table count node t (owned-tree table l) u (finding .inside) row (verdict-of table l u s) h }
+            record { answer = λ table l u s. spot-refused a c len table count t (owned-tree table l) u (finding .inside) has-place row (verdict-of table l u s) h }
 
-        pub plan-fits : row ≤ 0 → Plans c len count room own node text (Fits start end (to .len) (to .nodes))
+        pub plan-fits : row ≤ 0 → Plans c len count room own a text (Fits first start end (to .len) (to .nodes))
         unfolding Plans
         plan-fits h =
             let none : row ≡ 0 = omega arith in
@@ -131,5 +146,5 @@ module _ (c : List ℕ) (len : ℕ) (notes : List ℕ) (own : Bool) (room count 
                     short = g .small;
                     lent = g .lent;
                   };
-              answer = λ table l u s. node-accepted c len table count node t (owned-tree table l) u (finding .inside) (sym (verdict-of table l u s) ∙ none);
+              answer = λ table l u s. spot-accepted a c len table count t (owned-tree table l) u (finding .inside) has-place (sym (verdict-of table l u s) ∙ none);
             }

@@ -1,15 +1,17 @@
--- The sizes of the tree with a node replaced.
+-- The sizes of the new tree, whatever is asked.
 use Prim.Native.Nat.{ℕ, _+_, _-_, _≤_}
 use native.Mathlib.Omega.{arith}
-use mathlib.Core.Path.{_≡_, sym, ap₂, _∙_}
+use mathlib.Core.Path.{_≡_, sym, ap, _∙_}
 use lib.ListN.{length}
 use lib.Dec.{ltb}
 use Rattle.model.specs.Limits.{maxDepth}
-use Rattle.model.specs.Edit.{replace}
 use Rattle.model.specs.Tree.{Tree, plain, hinted, list, Forest, nil, cons, canon, nodes, nodess, depth, depths}
-use Rattle.edits.proofs.Demand.{entry-in, replace-length, replace-nodes}
-use Rattle.edits.proofs.Levels.{level-holders, replace-deep}
-use Rattle.plan.specs.Planned.{Sized, Small, AtNode, Resizable}
+use Rattle.edits.specs.Moves.{Moves}
+use Rattle.edits.proofs.Changed.{change-moves, change-deep}
+use Rattle.edits.proofs.Moved.{new-length}
+use Rattle.plan.specs.Asked.{changed, given}
+use Rattle.plan.specs.Planned.{Sized, Small, AtSpot, Resizable}
+use Rattle.plan.specs.declared.Asked.{Asked}
 use Rattle.plan.specs.declared.Sizes.{Sizes}
 
 -- a tree is at most as deep as it has nodes
@@ -25,11 +27,14 @@ mutual
   depths-few nil = omega arith
   depths-few (cons t f) = omega (arith, depth-few t, depths-few f)
 
-module _ (len count node start end n level : ℕ) (t : Tree) (a : AtNode len count start end n level t node) where
+module _ (len count first n start end level : ℕ) (a : Asked) (t : Tree) (at : AtSpot len count first n start end level a t) where
+  pub moves : (u : Tree) → Moves t (changed a t u) first n start (end - start) (given a u)
+  moves u = change-moves (at .spot .change u)
+
   pub ordered : (start ≤ end) × (end ≤ len) × (n ≤ count)
   ordered =
-      let x = entry-in t node (a .inside) in
-      (omega (arith, x .0, a .spot .begins, a .spot .ends), omega (arith, x .1, a .spot .ends, a .long), omega (arith, x .2, a .spot .has, a .counted))
+      let m = moves t in
+      (at .spot .ordered, omega (arith, at .spot .ordered, m .octetsIn, at .long), omega (arith, m .nodesIn, at .counted))
 
   pub resizable : (text : Sizes) → Small text → Resizable len count start end n level text
   resizable text small =
@@ -37,26 +42,22 @@ module _ (len count node start end n level : ℕ) (t : Tree) (a : AtNode len cou
         ordered = ordered .0;
         ended = ordered .1;
         fewer = ordered .2;
-        short = a .short;
-        few = a .few;
-        low = omega (arith, a .spot .low, a .inside, a .counted, a .few);
+        short = at .short;
+        few = at .few;
+        low = omega (arith, at .spot .low, at .counted, at .few);
         small = small;
       }
 
-  module _ (u : Tree) (text : Sizes) (s : Sized u text) where
-    pub long-is : len - (end - start) + text .len ≡ length (canon (replace t node u))
+  module _ (u : Tree) (text : Sizes) (s : Sized (given a u) text) where
+    pub long-is : len - (end - start) + text .len ≡ length (canon (changed a t u))
     long-is =
-        let x = ordered in
-        let y : length (canon (replace t node u)) + (end - start) ≡ length (canon t) + length (canon u) = rw (a .spot .begins, a .spot .ends) (replace-length t node (a .inside) u) in
-        omega (arith, x .0, x .1, y, a .long, s .long)
+        let y = new-length (moves u) in
+        omega (arith, ordered .0, ordered .1, y, at .long, s .long)
 
-    pub nodes-are : count - n + text .nodes ≡ nodes (replace t node u)
-    nodes-are =
-        let x = ordered in
-        let y : nodes (replace t node u) + n ≡ nodes t + nodes u = rw (a .spot .has) (replace-nodes t node (a .inside) u) in
-        omega (arith, x .2, y, a .counted, s .counted)
+    pub nodes-are : count - n + text .nodes ≡ nodes (changed a t u)
+    nodes-are = omega (arith, ordered .2, moves u .count, at .counted, s .counted)
 
-    pub deep-where : ltb maxDepth (level + text .depth) ≡ ltb maxDepth (depth (replace t node u))
+    pub deep-where : ltb maxDepth (level + text .depth) ≡ ltb maxDepth (depth (changed a t u))
     deep-where =
-        ap₂ (λ (x d : ℕ). ltb maxDepth (x + d)) (a .spot .lies ∙ level-holders t node (a .inside)) (s .deepest)
-        ∙ sym (replace-deep t node (a .inside) maxDepth (a .shallow) u)
+        ap (λ (d : ℕ). ltb maxDepth (level + d)) (s .deepest)
+        ∙ sym (change-deep (at .spot .change u) maxDepth (at .shallow))

@@ -1,23 +1,35 @@
-// Replacing judged, with nothing written: where the node stands, the sizes of the tree with it replaced, and whether that
-// tree has room. What is put in its place is known by its sizes alone, the sheet by its notes, and the table by the number of its
-// records and whether it is the sheet's own.
-ghost use mathlib.Core.Path.{_≡_};
-ghost use lib.ListN.{length};
-ghost use Rattle.plan.specs.Planned.{Known, Small, Findable, Finds, Recorded, Levels, Resizable, resized, Plans};
+// A change judged, with nothing written: where it takes place, the sizes of the new tree, and whether that tree has room. What comes to
+// stand there is known by its sizes alone, the sheet by its notes, and the table by the number of its records and whether it is the
+// sheet's own.
+mod spots; // spots.rt: where a change takes place
 
-// The canonical length, the node count and the depth of a tree.
+ghost use mathlib.Core.Path.{_≡_};
+ghost use Rattle.plan.specs.Asked.{texted};
+ghost use Rattle.plan.specs.Planned.{Known, Small, Resizable, resized, Plans};
+use spots::find;
+
+// What is asked: a node gives way to a text's tree, a text's tree becomes element k of a list, or a node is removed.
+pub enum Asked {
+    Replace { node: usize },
+    Insert { node: usize, k: usize },
+    Remove { node: usize },
+}
+
+// The canonical length, the node count and the depth of what comes; all 0 where nothing does.
 pub struct Sizes {
     pub len: usize,
     pub nodes: usize,
     pub depth: usize,
 }
 
-// Where a node stands, how many nodes it has, and how many lists are around it; or the number of the refusal.
+// The nodes that give way: the first one's number and how many they are, their octets, and how many lists are around them; or the
+// number of the refusal.
 pub enum Found {
-    Node {
+    Spot {
+        first: usize,
+        count: usize,
         start: usize,
         end: usize,
-        count: usize,
         level: usize,
     },
     Unfound {
@@ -25,9 +37,10 @@ pub enum Found {
     },
 }
 
-// Where a node stands, and the new length and node count; or the number of the refusal.
+// The first node that gives way, the octets that do, and the new length and node count; or the number of the refusal.
 pub enum Plan {
     Fits {
+        first: usize,
         start: usize,
         end: usize,
         length: usize,
@@ -38,41 +51,15 @@ pub enum Plan {
     },
 }
 
-// How many lists are around a node: of the nodes before it, those that count it among theirs.
-fn level(notes: &[usize], node: usize) -> usize
-    requires { ⌜ Recorded (length (now notes)) node ⌝ }
-    ensures { λ r. ⌜ Levels (now (notes .entry)) node r ⌝ }
+// Whether a text comes with it.
+pub fn has_text(asked: Asked) -> bool
+    ensures { λ r. ⌜ r ≡ texted asked ⌝ }
 {
-    let mut level: usize = 0;
-    let mut j: usize = 0;
-    while j < node {
-        if sheets::over(notes, j, node - j) {
-            level += 1;
-        }
-        j += 1;
+    match asked {
+        Asked::Replace { node: _ } => true,
+        Asked::Insert { node: _, k: _ } => true,
+        Asked::Remove { node: _ } => false,
     }
-    level
-}
-
-// The node of a sheet with its own table.
-fn find(notes: &[usize], own: bool, nodes: usize, node: usize) -> Found
-    requires { ⌜ Findable (now notes) nodes own ⌝ }
-    ensures { λ r. ⌜ Finds (now (notes .entry)) nodes own node r ⌝ }
-{
-    if own {
-        if node >= nodes {
-            return Found::Unfound { number: 8 };
-        }
-        let row = sheets::row_of(notes, node);
-        let around = level(notes, node);
-        return Found::Node {
-            start: row.start as usize,
-            end: row.end as usize,
-            count: row.nodes as usize,
-            level: around,
-        };
-    }
-    Found::Unfound { number: 7 }
 }
 
 // The sizes of a tree of which a part gives way to what has the sizes given. The old tree fits, so that the new one is too deep
@@ -96,7 +83,7 @@ fn resize(
     }
 }
 
-// Rows 7, 8, 4, 5 and 6, where so many records are lent.
+// Rows 7, 8, 9, 4, 5 and 6, where so many records are lent.
 pub fn judge(
     canonical: &[u8],
     length: usize,
@@ -104,18 +91,19 @@ pub fn judge(
     own: bool,
     records: usize,
     nodes: usize,
-    node: usize,
+    asked: Asked,
     text: Sizes,
 ) -> Plan
     requires { ⌜ Small text ⌝ }
     requires { ⌜ Known (now canonical) length nodes records (now notes) own ⌝ }
-    ensures { λ r. ⌜ Plans (now (canonical .entry)) length nodes records own node text r ⌝ }
+    ensures { λ r. ⌜ Plans (now (canonical .entry)) length nodes records own asked text r ⌝ }
 {
-    match find(notes, own, nodes, node) {
-        Found::Node {
+    match find(notes, own, nodes, asked) {
+        Found::Spot {
+            first,
+            count,
             start,
             end,
-            count,
             level,
         } => {
             let to = resize(length, nodes, start, end, count, level, text);
@@ -124,6 +112,7 @@ pub fn judge(
                 return Plan::Misfit { number: row };
             }
             Plan::Fits {
+                first,
                 start,
                 end,
                 length: to.len,

@@ -29,7 +29,7 @@ use denote.Triple.Walked.{says}
 use Rattle.answers.specs.declared.Reading.{Reading}
 use Rattle.answers.proofs.Reading as R
 use Rattle.plan.specs.Planned.{Known}
-use Rattle.editor.specs.Given.{GivesText}
+use Rattle.editor.specs.Given.{GivesReplaced}
 use Rattle.editor.proofs.replace_notes as core
 use Rattle.records.proofs.Spelled.{Notes}
 use Rattle.records.proofs.Noted.{at-local}
@@ -53,7 +53,7 @@ module _ {M : Type 1} (𝓤 : URA M) (H : Heap 𝓤) (A : Atoms 𝓤) (W : Given
   Can = MutSlice (named 1) κ₁ u8 .own can (sc ∷ [])
 
   abbrev pub Said : Bool → Reading → List ℕ → List ℕ → Type 0
-  Said own r c′ f′ = GivesText form (txt .now) (can .now) len nodes room own node c′ f′ r
+  Said own r c′ f′ = GivesReplaced form (txt .now) (can .now) len nodes room own node c′ f′ r
 
   module _ (l ν : ℕ) (ε : GName) (f : List ℕ) (own : Bool) where
     abbrev pub to-core : Core 𝓤 H A mem run .Ghost

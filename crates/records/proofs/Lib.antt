@@ -13,4 +13,6 @@ pub mod Retelling
 pub mod Holding
 pub mod SheetNoting
 pub mod Correcting
+pub mod Inserting
+pub mod Striking
 pub mod Judging

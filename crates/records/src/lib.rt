@@ -1,5 +1,6 @@
 // The node table as a lent slice of records. Every entry goes by the notes of a sheet, in local space. The functions that take
 // records are few and thin.
+mod corrections; // corrections.rt: elements put into lists, and nodes removed
 mod foremen; // foremen.rt: extracts
 mod told; // told.rt: the record that a note tells
 
@@ -14,6 +15,8 @@ ghost use Rattle.records.specs.Places.{Inside};
 ghost use Rattle.records.specs.Told.{countOf, touched, told, agreed, looked, Tells, Comparable};
 use answers::Place;
 use answers::Reading;
+pub use corrections::insert;
+pub use corrections::remove;
 pub use foremen::extract;
 pub use foremen::extract_own;
 

@@ -1,4 +1,4 @@
-use Rattle.editor.proofs.Replacing.{place-misfit, place-gap, place-source, place-room, place-rewritable, place-workable, place-accepted}
+use Rattle.editor.proofs.Placing.{place-misfit, place-gap, place-source, place-room, place-rewritable, place-workable, place-accepted}
 use native.Mathlib.Omega.{arith}
 use borrow.Author.Needs.{needs}
 use Rattle.editor.proofs.place.Statement.{statement}
@@ -19,8 +19,8 @@ settle-requires c κs =
     let judged = found .before .before in
     let entry = judged .before .before .before .before .before .before in
     let notes = entry .args .notes .now in (
-      place-rewritable _ _ _ _ _ _ notes _ _ _ (entry .pre .0) _ (judged .judge .ensures) _ _ _ _ (found .start .given .1) _ (moved .gap .ensures) _ _ (copied .copy .ensures) (entry .pre .1 .1),
-      place-workable _ _ _ _ _ _ notes _ _ _ (entry .pre .0) _ (judged .judge .ensures) _ _ _ _ (found .start .given .1) _ (moved .gap .ensures) _ _ (copied .copy .ensures) (entry .pre .1 .0) _ (judged-alone .alone .ensures),
+      place-rewritable _ _ _ _ _ _ notes _ _ _ (entry .pre .0) _ (judged .judge .ensures) _ _ _ _ _ (found .first .given .1) _ (moved .gap .ensures) _ _ (copied .copy .ensures) (entry .pre .1 .1),
+      place-workable _ _ _ _ _ _ notes _ _ _ (entry .pre .0) _ (judged .judge .ensures) _ _ _ _ _ (found .first .given .1) _ (moved .gap .ensures) _ _ (copied .copy .ensures) (entry .pre .1 .0) _ (judged-alone .alone .ensures),
     )
 
 returns : tie.Need-returns
@@ -31,7 +31,7 @@ returns c =
     let found = moved .before .before .before in
     let judged = found .before .before in
     let entry = judged .before .before .before .before .before .before in
-    place-accepted _ _ _ _ _ _ (entry .args .notes .now) _ _ _ (entry .pre .0) _ (judged .judge .ensures) _ _ _ _ (found .start .given .1) _ (moved .gap .ensures) _ _ (copied .copy .ensures) _ _ _ (settled .settle .ensures)
+    place-accepted _ _ _ _ _ _ (entry .args .notes .now) _ _ _ (entry .pre .0) _ (judged .judge .ensures) _ _ _ _ _ (found .first .given .1) _ (moved .gap .ensures) _ _ (copied .copy .ensures) _ _ _ (settled .settle .ensures)
 
 returns-2 : tie.Need-returns-2
 returns-2 c = search (place-misfit, arith)

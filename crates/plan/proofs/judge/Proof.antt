@@ -7,11 +7,20 @@ use Rattle.plan.proofs.judge.Tie as tie
 find-requires : tie.Need-find-requires
 find-requires c κs = search (plan-findable, arith)
 
+enum-known-first : tie.Need-enum-known-first
+enum-known-first c = search needs
+
 resize-requires : tie.Need-resize-requires
 resize-requires c κs = search (plan-resizable, arith)
 
+room-requires : tie.Need-room-requires
+room-requires c κs = search needs
+
 returns : tie.Need-returns
 returns c = search (plan-misfit, arith)
+
+enum-known-number : tie.Need-enum-known-number
+enum-known-number c = search needs
 
 returns-2 : tie.Need-returns-2
 returns-2 c = search (plan-fits, arith)
@@ -24,10 +33,10 @@ judge-spec =
     tie.close
     (tie.spec
     find-requires
-    (λ c. search needs)
+    enum-known-first
     resize-requires
-    (λ c κs. search needs)
+    room-requires
     returns
-    (λ c. search needs)
+    enum-known-number
     returns-2
     returns-3)

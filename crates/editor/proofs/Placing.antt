@@ -1,0 +1,335 @@
+-- A text taken, the change judged, the octets put in place and the rest rewritten, whatever the form and whatever is asked.
+use Prim.Native.Nat.{ℕ, _+_, _*_, _-_, _≤_}
+use native.Mathlib.Omega.{arith}
+use mathlib.Core.Path.{_≡_, refl, sym, ap, ap₂, _∙_, subst}
+use mathlib.Core.Bool.{Bool, true, false}
+use mathlib.Core.Option.{Option, none, some}
+use mathlib.Core.List.{List, [], _∷_, _++_}
+use lib.ListN.{length, take, drop, getD, replicate, length-take}
+use lib.Seq.{sets, length-sets}
+use Rattle.base.specs.Choice.{isNone}
+use Rattle.base.proofs.Cases.{differ, untrue, some-same}
+use Rattle.model.specs.Answers.{the, Outcome, unchanged, filled}
+use Rattle.model.specs.Decode.{decode₁, decode}
+use Rattle.model.specs.Edit.{one, replace, insert}
+use Rattle.model.specs.Limits.{Accepted, maxCanonical}
+use Rattle.model.specs.Table.{rowOf}
+use Rattle.model.specs.Tree.{Tree, list, Forest, nil, canon, canons, nodes, nodess, depth, depths}
+use Rattle.model.proofs.Exact.{canon-complete}
+use Rattle.model.proofs.Laws.{canonical-unique, nodes-within-half}
+use Rattle.model.proofs.Judging.{judged-refused, verdict-here}
+use Rattle.model.proofs.OutputSizes.{nodes-half}
+use Rattle.walk.specs.Extent.{Wholly, Measures}
+use Rattle.scan.specs.Writes.{Wrote}
+use Rattle.texts.specs.Texts.{Takeable, Taken}
+use Rattle.texts.proofs.Sizes.{tripled}
+use Rattle.answers.specs.Cases.{outcome, Refuses}
+use Rattle.edits.specs.Moves.{Moves}
+use Rattle.edits.proofs.Moved.{new-length}
+use Rattle.edits.proofs.Whole.{canons-one, nodess-one, depths-one}
+use Rattle.lookup.proofs.Sheets.{sheet-of}
+use Rattle.lookup.proofs.Sheets as good
+use Rattle.sheets.specs.Told.{Holds}
+use Rattle.sheets.proofs.Keeping.{noted-length}
+use Rattle.lookup.specs.Noted.{Sheet}
+use Rattle.plan.specs.Asked.{changed, given, texted, changeChecks, changeTree}
+use Rattle.plan.specs.Spots.{Replaces}
+use Rattle.plan.specs.Planned.{Known, AtSpot, Taking, Fitting, Misfitting, Plans}
+use Rattle.editor.specs.Given.{Noteable, Gives, GivesTree}
+use Rattle.editor.specs.Placed.{Standing, Placeable, Placed}
+use Rattle.plan.proofs.Resizing.{depth-few, moves, ordered}
+use Rattle.splice.specs.Rewritten.{Movable, Rewritable, Reworkable, Alone, Workable, Rewritten}
+use Rattle.splice.proofs.Spliced.{spliced, front-written, zeroed}
+use Rattle.answers.specs.declared.Reading.{Reading}
+use Rattle.answers.specs.declared.Reading.the-variants as reading
+use Rattle.walk.specs.declared.Extent.{Extent}
+use Rattle.walk.specs.declared.Extent.the-variants as extent
+use Rattle.plan.specs.declared.Asked.{Asked}
+use Rattle.plan.specs.declared.Asked.the-variants.{Replace, Insert, Remove}
+use Rattle.plan.specs.declared.Sizes.{Sizes}
+use Rattle.plan.specs.declared.Plan.{Plan}
+use Rattle.plan.specs.declared.Plan.the-variants.{Fits, Misfit}
+
+same-outcome : {a a′ b b′ : ℕ} {c c′ d d′ : List ℕ} → a ≡ a′ → b ≡ b′ → c ≡ c′ → d ≡ d′
+    → _≡_ {A = Outcome} (record { accepted = true; number = Accepted; place = 0; octets = a; count = b; canonical = c; table = d }) (record { accepted = true; number = Accepted; place = 0; octets = a′; count = b′; canonical = c′; table = d′ })
+same-outcome p q r s = λ i. record { accepted = true; number = Accepted; place = 0; octets = p i; count = q i; canonical = r i; table = s i }
+
+-- what stands at the front of scratch decides the new tree
+changed-by : (a : Asked) (t u v : Tree) → canons (given a u) ≡ canons (given a v) → changed a t u ≡ changed a t v
+unfolding changed given
+changed-by (Replace node) t u v e = ap (replace t node) (canonical-unique u v (sym (canons-one u) ∙ e ∙ canons-one v))
+changed-by (Insert node k) t u v e = ap (insert t node k) (canonical-unique u v (sym (canons-one u) ∙ e ∙ canons-one v))
+changed-by (Remove node) t u v e = refl
+
+pub tree-none : (a : Asked) (o : Option Tree) (canonical : List ℕ) (len : ℕ) (table : List ℕ) (count : ℕ) → o ≡ none
+    → changeTree a o canonical len table count ≡ unchanged 3 canonical table
+unfolding changeTree changeChecks isNone
+tree-none a o canonical len table count e = judged-refused _ _ _ 3 (verdict-here 3 (isNone o) _ (ap isNone e)) (omega arith)
+
+-- what refuses is no acceptance
+pub gives-refused : (Lent : List ℕ → Type 0) (answer : List ℕ → Outcome) (c : List ℕ) (n : ℕ) (notes : List ℕ) (old k : ℕ) (r : Reading) → Refuses k r
+    → ((table : List ℕ) → Lent table → outcome r c table ≡ answer table) → Gives Lent answer c n notes old r
+unfolding Gives outcome
+gives-refused Lent answer c n notes old k (reading.Accepted len count) f g = differ refl (ap (λ (x : Outcome). x .accepted) (f .is [] []))
+gives-refused Lent answer c n notes old k (reading.Refused x) f g = g
+
+-- ---- what a change puts in, known by its sizes, of which the canonical form stands at the front of scratch
+module _ (canonical : List ℕ) (len count room : ℕ) (own : Bool) (a : Asked) (notes : List ℕ) (scratch : List ℕ) (sizes : Sizes) (note : ℕ) (g : Placeable a scratch sizes note) (p : Plan) (w : Plans canonical len count room own a sizes p) where
+  abbrev n : ℕ
+  n = sizes .len
+
+  abbrev u : Tree
+  u = g .tree
+
+  pub place-misfit : (number : ℕ) → p ≡ Misfit number → (r : Reading) → Refuses number r → Placed a scratch sizes canonical canonical len count room own notes r
+  unfolding Plans
+  place-misfit number z r f =
+      let m : Misfitting canonical len count room own a sizes number = subst (Plans canonical len count room own a sizes) z w in
+      record { is = λ v s. gives-refused _ _ canonical room notes count number r f (λ table l. f .is canonical table ∙ sym (m .answer table l v (s .sized))) }
+
+  module _ (first start end len′ count′ : ℕ) (z : p ≡ Fits first start end len′ count′) where
+    fitting : Fitting canonical len count room own a sizes first start end len′ count′
+    unfolding Plans
+    fitting = subst (Plans canonical len count room own a sizes) z w
+
+    abbrev t : Tree
+    t = fitting .tree
+
+    abbrev new : Tree
+    new = changed a t u
+
+    sheet : good.Sheet canonical len t
+    sheet = sheet-of canonical len t (fitting .is)
+
+    at-spot : AtSpot len count first (fitting .number) start end (fitting .level) a t
+    at-spot = fitting .at
+
+    takes : Taking new canonical room len′ count′
+    takes = fitting .takes u (g .is .sized)
+
+    in-order : (start ≤ end) × (end ≤ len) × (fitting .number ≤ count)
+    in-order = ordered len count first (fitting .number) start end (fitting .level) a t at-spot
+
+    moved : Moves t new first (fitting .number) start (end - start) (given a u)
+    moved = moves len count first (fitting .number) start end (fitting .level) a t at-spot u
+
+    -- the octets before the spot, what comes, and the octets after it
+    new-octets : take start (take len canonical) ++ (canons (given a u) ++ drop end (take len canonical)) ≡ canon new
+    new-octets =
+        let x : start + (end - start) ≡ end = omega (arith, in-order .0) in
+        rw (sheet .is) (rw x at (sym (moved .octets)))
+
+    new-long : length (canon new) ≡ start + n + (len - end)
+    new-long = omega (arith, new-length moved, sheet .size, g .is .sized .long, in-order .0, in-order .1)
+
+    pub place-gap : Movable (length canonical) start end len n
+    place-gap =
+        record { ordered = in-order .0; ended = in-order .1; lent = sheet .lent; fits = omega (arith, new-long, takes .long, takes .lent) }
+
+    short : n ≤ maxCanonical
+    short = omega (arith, new-long, takes .long, takes .short)
+
+    stands : take n scratch ≡ canons (given a u)
+    stands = g .is .octets short
+
+    pub place-source : 0 + n ≤ length scratch
+    place-source = omega (arith, length-take n scratch, ap length stands, g .is .sized .long)
+
+    module _ (canonical₁ : List ℕ) (g₁ : canonical₁ ≡ sets canonical (start + n) (take (len - end) (drop end canonical))) where
+      pub place-room : start + n ≤ length canonical₁
+      place-room = omega (arith, ap length g₁, length-sets canonical (start + n) (take (len - end) (drop end canonical)), place-gap .fits)
+
+      module _ (canonical₂ : List ℕ) (q : ℕ) (f₂ : Wrote (take n (drop 0 scratch)) start canonical₁ canonical₂ q) where
+        g₂ : Wrote (canons (given a u)) start canonical₁ canonical₂ q
+        g₂ = subst (λ (y : List ℕ). Wrote y start canonical₁ canonical₂ q) stands f₂
+
+        written : canonical₂ ≡ sets canonical 0 (canon new)
+        written =
+            let y : start + n ≡ start + length (canons (given a u)) = omega (arith, g .is .sized .long) in
+            g₂ .same ∙ ap (λ (c : List ℕ). sets c start (canons (given a u))) (g₁ ∙ ap (λ (i : ℕ). sets canonical i (take (len - end) (drop end canonical))) y)
+            ∙ spliced canonical (canons (given a u)) start end len (in-order .0) (in-order .1) (sheet .lent) (omega (arith, g .is .sized .long, place-gap .fits))
+            ∙ ap (sets canonical 0) new-octets
+
+        kept-long : length canonical₂ ≡ length canonical
+        kept-long = ap length written ∙ length-sets canonical 0 (canon new)
+
+        new-fits : length (canon new) ≤ length canonical
+        new-fits = omega (arith, takes .long, takes .lent)
+
+        front-is : take len′ canonical₂ ≡ canon new
+        front-is = ap₂ take (takes .long) written ∙ front-written canonical (canon new) new-fits
+
+        front-decodes : decode₁ (take len′ canonical₂) ≡ some new
+        front-decodes = ap decode₁ front-is ∙ canon-complete new
+
+        pub place-rewritable : Noteable count (sizes .nodes) (length notes) → Rewritable canonical₂ (length notes) len len′ count′
+        place-rewritable e =
+            record {
+              tree = new;
+              is = front-decodes;
+              deep = takes .shallow;
+              counted = takes .counted;
+              noted = omega (arith, e .enough, fitting .grows, takes .few);
+              short = takes .short;
+              lent = omega (arith, kept-long, takes .lent);
+              oldLent = omega (arith, kept-long, sheet .lent);
+            }
+
+        -- one node for one: a node is replaced, every node keeps its number, and the notes move
+        works : Known canonical len count room notes own → sizes .nodes ≡ 1 → count ≡ count′ → Reworkable canonical₂ notes len len′ count′ first start note
+        unfolding changed given
+        works known one same =
+            let s : Sheet canonical len count room notes = known .sheet (fitting .good) in
+            let q : s .tree ≡ t = some-same (λ (v : Tree). s .tree ≡ v) (sym (s .is) ∙ fitting .is) refl in
+            let o : nodess (given a u) ≡ 1 = sym (g .is .sized .counted) ∙ one in
+            let r : Replaces a first start t = at-spot .spot .single u o (omega (arith, moved .count, o, takes .counted, at-spot .counted, same)) in
+            let z : new ≡ replace t first u = ap (λ (b : Asked). changed b t u) (r .is) ∙ ap (λ (i : ℕ). replace t i u) (sym (r .here)) in
+            record {
+              tree = t;
+              text = u;
+              inside = omega (arith, r .here, r .inside);
+              single = sym (nodess-one u) ∙ ap (λ (b : Asked). nodess (given b u)) (sym (r .is)) ∙ o;
+              same = omega (arith, ap nodes z, takes .counted, at-spot .counted, same);
+              held = subst (λ (c : ℕ). Holds notes c t) same (subst (Holds notes count) q (s .held));
+              entry = g .noted one short;
+              starts = r .begins ∙ ap (λ (i : ℕ). (rowOf t i) .start) (sym (r .here));
+              oldLong = at-spot .long;
+              long = takes .long ∙ ap (λ (v : Tree). length (canon v)) z;
+              is = front-decodes ∙ ap some z;
+              few = takes .few;
+              short = takes .short;
+              oldShort = at-spot .short;
+              lent = omega (arith, kept-long, takes .lent);
+              oldLent = omega (arith, kept-long, sheet .lent);
+            }
+
+        pub place-workable : Known canonical len count room notes own → (b : Bool) → Alone (sizes .nodes) count count′ b → Workable canonical₂ notes len len′ count′ first start note b
+        place-workable known b c = record { works = λ y. works known (c .single y) (c .same y) }
+
+        pub place-accepted : (canonical₃ notes′ : List ℕ) (r : Reading) → Rewritten canonical₂ len len′ count′ canonical₃ notes′ r
+            → Placed a scratch sizes canonical canonical₃ len count room own notes′ r
+        unfolding Gives outcome filled
+        place-accepted canonical₃ notes′ r f =
+            record {
+              is = λ v s. subst (GivesTree a (some v) canonical len count room own canonical₃ notes′) (sym (f .tells)) (giving v s);
+            }
+          where
+            giving : (v : Tree) → Standing scratch sizes (given a v) → GivesTree a (some v) canonical len count room own canonical₃ notes′ (reading.Accepted len′ count′)
+            giving v s =
+                let same : new ≡ changed a t v = changed-by a t u v (sym stands ∙ s .octets short) in
+                record {
+                  tree = new;
+                  held = f .held new front-decodes;
+                  recorded = (takes .recorded, fitting .recorded);
+                  few = (takes .few, at-spot .few);
+                  is = λ table l.
+                      same-outcome (takes .long) (takes .counted)
+                      (f .octets
+                      ∙ ap₂ (λ (c : List ℕ) (i : ℕ). sets c i (replicate (len - i) 0)) written (takes .long)
+                      ∙ zeroed canonical (canon new) len (sheet .lent) new-fits)
+                      refl
+                      ∙ ap (λ (y : Tree). filled y len count canonical table) same
+                      ∙ sym (fitting .answer table l v (s .sized));
+                }
+
+given-one : (a : Asked) (u : Tree) → texted a ≡ true → given a u ≡ one u
+unfolding texted given
+given-one (Replace node) u f = refl
+given-one (Insert node k) u f = refl
+given-one (Remove node) u f = untrue f
+
+given-none : (a : Asked) (u : Tree) → texted a ≡ false → given a u ≡ nil
+unfolding texted given
+given-none (Replace node) u f = untrue (sym f)
+given-none (Insert node k) u f = untrue (sym f)
+given-none (Remove node) u f = refl
+
+-- ---- whether a text comes
+module _ (a : Asked) (b : Bool) (e : b ≡ texted a) where
+  pub comes-text : b ≡ true → texted a ≡ true
+  comes-text y = sym e ∙ y
+
+  pub comes-none : b ≡ false → texted a ≡ false
+  comes-none y = sym e ∙ y
+
+-- ---- nothing comes
+module _ (a : Asked) (f : texted a ≡ false) (scratch : List ℕ) where
+  abbrev nothing : Sizes
+  nothing = record { len = 0; nodes = 0; depth = 0 }
+
+  leaves : Standing scratch nothing (given a (list nil))
+  unfolding canons nodess depths
+  leaves = rw (given-none a (list nil) f) (record { sized = record { long = refl; counted = refl; deepest = refl }; octets = λ h. refl })
+
+  pub strike-placeable : (note : ℕ) → Placeable a scratch nothing note
+  strike-placeable note =
+      record { tree = list nil; is = leaves; small = record { len = omega arith; nodes = omega arith; depth = omega arith }; noted = λ c s. absurd (omega (arith, c)) }
+
+  pub strike-noteable : (count more room : ℕ) → Noteable count more room → Noteable count 0 room
+  strike-noteable count more room h = record { enough = omega (arith, h .enough) }
+
+  pub strike-placed : (canonical canonical′ : List ℕ) (len count room : ℕ) (own : Bool) (notes′ : List ℕ) (r : Reading)
+      → Placed a scratch nothing canonical canonical′ len count room own notes′ r → GivesTree a (some (list nil)) canonical len count room own canonical′ notes′ r
+  strike-placed canonical canonical′ len count room own notes′ r q = q .is (list nil) leaves
+
+-- ---- a text taken, which means a tree or none
+module _ (form : ℕ) (text : List ℕ) (space : ℕ) (k : Takeable form (length text) space) (canonical : List ℕ) (len count room : ℕ) (own : Bool) (a : Asked)
+    (scratch first first′ : List ℕ) (x : Extent) (m : Taken (decode form text) scratch first first′ x) where
+  pub change-none : x ≡ extent.Refused → (notes : List ℕ) (r : Reading) → Refuses 3 r → GivesTree a (decode form text) canonical len count room own canonical notes r
+  unfolding Measures
+  change-none e notes r f =
+      gives-refused _ _ canonical room notes count 3 r f
+      (λ table l. f .is canonical table ∙ sym (tree-none a (decode form text) canonical len table count (subst (Measures (decode form text)) e (m .measures))))
+
+  module _ (n c d : ℕ) (e : x ≡ extent.Whole n c d) (f : texted a ≡ true) where
+    whole : Wholly (decode form text) n c d
+    unfolding Measures
+    whole = subst (Measures (decode form text)) e (m .measures)
+
+    abbrev told : Sizes
+    told = record { len = n; nodes = c; depth = d }
+
+    few : length (canon (whole .tree)) ≤ 98304
+    few = omega (arith, tripled form text (whole .tree) (whole .is), k .lent .short)
+
+    abbrev w : Tree
+    w = whole .tree
+
+    comes : given a w ≡ one w
+    comes = given-one a w f
+
+    standing : Standing scratch told (given a w)
+    standing =
+        rw comes
+        (record {
+          sized = record { long = whole .long ∙ ap length (sym (canons-one w)); counted = whole .counted ∙ sym (nodess-one w); deepest = whole .deepest ∙ sym (depths-one w) };
+          octets = λ h. ap (λ (i : ℕ). take i scratch) (whole .long) ∙ m .octets w (whole .is) (omega (arith, whole .long)) ∙ sym (canons-one w);
+        })
+
+    alone : (l : List ℕ) → Holds l 1 (whole .tree) → Holds (getD l 0 0 ∷ []) 1 (whole .tree)
+    alone [] h = absurd (omega (arith, ap length (h .kept), noted-length (whole .tree), h .counted))
+    alone (y ∷ l) h = record { counted = h .counted; kept = h .kept; short = h .short }
+
+    pub change-placeable : 1 ≤ length first → Placeable a scratch told (getD first′ 0 0)
+    change-placeable room =
+        record {
+          tree = whole .tree;
+          is = standing;
+          noted = λ c s.
+              let one-node : nodes (whole .tree) ≡ 1 = sym (whole .counted) ∙ c in
+              alone first′ (subst (λ (i : ℕ). Holds first′ i (whole .tree)) one-node (m .noted (whole .tree) (whole .is) (omega (arith, whole .long)) (omega (arith, depth-few (whole .tree))) (omega arith)));
+          small = record {
+            len = omega (arith, few, whole .long);
+            nodes = omega (arith, few, whole .counted, nodes-half (whole .tree));
+            depth = omega (arith, few, whole .deepest, depth-few (whole .tree), nodes-half (whole .tree));
+          };
+        }
+
+    pub change-noteable : (space : ℕ) → Noteable count (2 * length text) space → Noteable count c space
+    change-noteable space h =
+        record { enough = omega (arith, h .enough, whole .counted, nodes-within-half (whole .tree), tripled form text (whole .tree) (whole .is)) }
+
+    pub change-placed : (canonical′ notes′ : List ℕ) (r : Reading) → Placed a scratch told canonical canonical′ len count room own notes′ r
+        → GivesTree a (decode form text) canonical len count room own canonical′ notes′ r
+    change-placed canonical′ notes′ r q =
+        subst (λ (o : Option Tree). GivesTree a o canonical len count room own canonical′ notes′ r) (sym (whole .is)) (q .is w standing)

@@ -1,0 +1,20 @@
+use Rattle.editor.proofs.Entry.{named-replace}
+use native.Mathlib.Omega.{arith}
+use borrow.Author.Needs.{needs}
+use Rattle.editor.proofs.numbers.replace.Statement.{statement}
+use Rattle.editor.proofs.numbers.replace.Tie as tie
+
+change-requires : tie.Need-change-requires
+change-requires c κs = search needs
+
+same-length : tie.Need-same-length
+same-length c = search needs
+
+same-length-2 : tie.Need-same-length-2
+same-length-2 c = search needs
+
+returns : tie.Need-returns
+returns c = search (named-replace, arith)
+
+pub replace-spec : {M : Type 1} → statement M
+replace-spec = tie.close (tie.spec change-requires same-length same-length-2 returns)

@@ -1,0 +1,18 @@
+use Rattle.texts.proofs.Sizes.{small-takes}
+use native.Mathlib.Omega.{arith}
+use borrow.Author.Needs.{needs}
+use Rattle.editor.proofs.tiers.change_middle.Statement.{statement}
+use Rattle.editor.proofs.tiers.change_middle.Tie as tie
+
+change-in-requires : tie.Need-change-in-requires
+change-in-requires c κs = (search needs, (search needs, (small-takes _ _ _ 1024 (search needs) (omega arith) (search needs) (search needs), (search needs, (search needs, search needs)))))
+
+pub change-middle-spec : {M : Type 1} → statement M
+change-middle-spec =
+    tie.close
+    (tie.spec
+    (λ c. search needs)
+    change-in-requires
+    (λ c. search needs)
+    (λ c. search needs)
+    (λ c. search needs))
