@@ -20,15 +20,17 @@ const char *etg_refusal_text(uint32_t number)
     case ETG_SYNTAX:
         return "the source is not in the form's language";
     case ETG_DEPTH:
-        return "lists nest over 32 deep";
+        return "lists nest over 128 deep";
     case ETG_NODES:
-        return "over 4,096 nodes, or more than records are lent";
+        return "more nodes than records are lent";
     case ETG_SIZE:
         return "over 16,384 canonical octets, or a result over the lent room";
     case ETG_NOT_OWN:
         return "not one tree's canonical form with its own table, or a place outside what is lent";
     case ETG_NO_NODE:
         return "there is no node of that number";
+    case ETG_NO_PLACE:
+        return "not a list, no such place in it, or node 0 to be removed";
     case ETG_DAMAGED:
         return "the area of the spool is damaged";
     case ETG_NOT_TYPED:

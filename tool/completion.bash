@@ -2,7 +2,7 @@
 
 _etglavino() {
     local word=${COMP_WORDS[COMP_CWORD]} before=${COMP_WORDS[COMP_CWORD - 1]}
-    local commands='convert check show table replace same extract hours spool' flags
+    local commands='convert check show table replace insert remove same extract split hours spool' flags
     COMPREPLY=()
 
     case $before in
@@ -25,8 +25,10 @@ _etglavino() {
         check) flags='--from --threads' ;;
         show) flags='--from --paths --html --output' ;;
         table) flags='--from' ;;
-        replace) flags='--from --to --text --output' ;;
+        replace | insert) flags='--from --to --text --output' ;;
+        remove) flags='--from --to --output' ;;
         same) flags='--from --hint' ;;
+        split) flags='--to --output' ;;
         hours) flags='--from --csv --output' ;;
         spool)
             case ${COMP_WORDS[2]} in

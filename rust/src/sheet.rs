@@ -5,7 +5,7 @@ use core::ops::Range;
 
 use crate::node::{Node, Nodes};
 use crate::room::Room;
-use crate::{Extent, Form, Record, Refusal, MAX_CANONICAL, MAX_NODES};
+use crate::{Extent, Form, Record, Refusal, Slot, MAX_CANONICAL, MAX_NODES};
 
 /// A tree's canonical octets with their own table, in space that is lent or
 /// owned: anything that is [`Room`], as `&mut [u8]` and `&mut [Record]`, or
@@ -189,6 +189,30 @@ impl<O: Room<u8>, R: Room<Record>> Sheet<O, R> {
     pub fn replace(&mut self, form: Form, text: &[u8], node: usize) -> Result<(), Refusal> {
         self.edited(text.len().saturating_mul(3), |octets, records, extent| {
             crate::replace_records(form, text, octets, records, extent, node)
+        })
+    }
+
+    /// Puts the tree of a text into a list; see [`crate::insert`]. A refusal
+    /// leaves the sheet as it was.
+    ///
+    /// # Errors
+    ///
+    /// [`Refusal`]s 2, 3, 8, 9, 4, 5 and 6, the first that applies.
+    pub fn insert(&mut self, form: Form, text: &[u8], slot: Slot) -> Result<(), Refusal> {
+        self.edited(text.len().saturating_mul(3), |octets, records, extent| {
+            crate::insert_records(form, text, octets, records, extent, slot)
+        })
+    }
+
+    /// Removes a node; see [`crate::remove`]. A refusal leaves the sheet as it
+    /// was.
+    ///
+    /// # Errors
+    ///
+    /// [`Refusal`]s 8 and 9, the first that applies.
+    pub fn remove(&mut self, node: usize) -> Result<(), Refusal> {
+        self.edited(0, |octets, records, extent| {
+            crate::remove_records(octets, records, extent, node)
         })
     }
 

@@ -23,8 +23,16 @@ pub fn name(file: Option<&OsStr>) -> String {
 /// A file's octets, one more at most than a source may have, so that a longer
 /// one is refused.
 pub fn read(file: Option<&OsStr>) -> Result<Vec<u8>, Problem> {
+    read_most(file, MAX_SOURCE as u64 + 1)
+}
+
+/// All octets of a file.
+pub fn read_whole(file: Option<&OsStr>) -> Result<Vec<u8>, Problem> {
+    read_most(file, u64::MAX)
+}
+
+fn read_most(file: Option<&OsStr>, most: u64) -> Result<Vec<u8>, Problem> {
     let mut octets = Vec::new();
-    let most = MAX_SOURCE as u64 + 1;
     let done = match file {
         Some(path) if path != "-" => {
             File::open(path).and_then(|file| file.take(most).read_to_end(&mut octets))

@@ -73,6 +73,31 @@ class Replace(Case):
         self.assertLessEqual(seen, {LIST, *texts})
 
 
+class InsertAndRemove(Case):
+    def test_into_a_file_and_out_of_it(self) -> None:
+        path = self.file("list", LIST)
+        self.gives(b"", "insert", "0", "1", "(d)", "list")
+        self.assertEqual(path.read_bytes(), b'(abc (d) [x]"")\n')
+        self.gives(b"", "insert", "0/1", "1", "e", "list")
+        self.gives(b"", "remove", "0/0", "list")
+        self.assertEqual(path.read_bytes(), b'((d e) [x]"")\n')
+        self.gives(b"((d e))\n", "remove", "0/1", source=path.read_bytes())
+
+    def test_refusals_leave_the_file(self) -> None:
+        path = self.file("list", LIST)
+        for said, *arguments in (
+            (b"TEXT: " + SYNTAX, "insert", "0/9", "0", "("),
+            (b"list: refused 8: ", "insert", "0/9", "0", "a"),
+            (b"list: refused 9: ", "insert", "0/0", "0", "a"),
+            (b"list: refused 9: ", "insert", "0", "3", "a"),
+            (b"list: refused 8: ", "remove", "3"),
+            (b"list: refused 9: ", "remove", "0"),
+        ):
+            self.fails(1, said, *arguments, "list")
+            self.assertEqual(path.read_bytes(), LIST)
+        self.fails(2, b"is no number", "insert", "0", "x", "a", "list")
+
+
 class Hours(Case):
     def test_a_week(self) -> None:
         _, out, _ = self.run_tool("hours", str(WEEK))

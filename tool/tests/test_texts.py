@@ -134,6 +134,21 @@ class Same(Case):
         self.fails(2, b"missing", "same", "list", "missing")
 
 
+class Split(Case):
+    def test_sheets_back_to_back(self) -> None:
+        run = LIST + b"0:" + LIST
+        lines = LIST_ADVANCED + b'""\n' + LIST_ADVANCED
+        self.gives(lines, "split", source=run)
+        self.gives(run, "split", "--to", "canonical", source=run)
+        self.gives(b"", "split", source=b"")
+        # Longer than one source may be.
+        self.gives(lines * 1000, "split", source=run * 1000)
+
+    def test_refusals(self) -> None:
+        self.fails(1, b"standard input, sheet 1: " + SYNTAX, "split", source=LIST + b"(")
+        self.fails(1, b"standard input, sheet 0: refused 4: ", "split", source=b"(" * 200 + b")" * 200)
+
+
 class Extract(Case):
     def test_private_lists(self) -> None:
         text = b"(shift (private sick) (a (private)) (public) private)"

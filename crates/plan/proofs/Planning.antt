@@ -142,7 +142,7 @@ module _ (c : List ℕ) (len : ℕ) (notes : List ℕ) (own : Bool) (room count 
                     counted = counted u s;
                     shallow = ltb-false maxDepth _ (sym (deep u s) ∙ le-ltb maxDepth (to .depth) (g .shallow));
                     recorded = g .recorded;
-                    few = omega (arith, counted u s, small-nodes (replace t node u) (omega (arith, long u s, g .small)));
+                    few = omega (arith, counted u s, small-nodes (changed a t u) (omega (arith, long u s, g .small)));
                     short = g .small;
                     lent = g .lent;
                   };

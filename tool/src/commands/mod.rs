@@ -5,9 +5,12 @@ mod convert;
 mod edit;
 mod extract;
 mod hours;
+mod insert;
+mod remove;
 mod replace;
 mod same;
 pub mod show;
+mod split;
 mod spool;
 mod table;
 
@@ -24,8 +27,11 @@ const ALL: &[&Command] = &[
     &show::COMMAND,
     &table::COMMAND,
     &replace::COMMAND,
+    &insert::COMMAND,
+    &remove::COMMAND,
     &same::COMMAND,
     &extract::COMMAND,
+    &split::COMMAND,
     &hours::COMMAND,
     &spool::ADD,
     &spool::LIST,
