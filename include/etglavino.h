@@ -29,13 +29,13 @@
  * library's memset and memcpy take:
  *   etg_read                  84,896
  *   etg_read_records          84,112
- *   etg_write                 33,552
- *   etg_replace               84,672
- *   etg_replace_records       84,464
- *   etg_insert                     ?
- *   etg_insert_records             ?
- *   etg_remove                     ?
- *   etg_remove_records             ?
+ *   etg_write                 33,568
+ *   etg_replace               84,720
+ *   etg_replace_records       84,336
+ *   etg_insert                84,720
+ *   etg_insert_records        84,336
+ *   etg_remove                84,736
+ *   etg_remove_records        84,336
  *   etg_same                     912
  *   etg_hint                  33,584
  *   etg_hint_records          33,616
@@ -45,19 +45,19 @@
  *   etg_spool_add_start          928
  *   etg_spool_add_step            40
  *   etg_spool_add_commits          8
- *   etg_spool_add                944
+ *   etg_spool_add                928
  *   etg_value                 33,536
- *   etg_value_records         33,504
- *   etg_put_value                 16
- *   etg_line                  33,536
- *   etg_line_records          33,504
+ *   etg_value_records         33,520
+ *   etg_put_value                 24
+ *   etg_line                  33,552
+ *   etg_line_records          33,536
  *   etg_total                     72
  *   etg_week                  33,536
  *   etg_week_records          33,520
- *   etg_extract              100,720
+ *   etg_extract              100,704
  *   etg_extract_own          100,720
- *   etg_extract_records      100,704
- *   etg_extract_own_records  100,704
+ *   etg_extract_records      100,688
+ *   etg_extract_own_records  100,688
  *
  * Refusals. Every function but those that find a hint or data, or that go on
  * with an addition to a spool, returns one of these numbers. In a refusal the
