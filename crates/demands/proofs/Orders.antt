@@ -23,7 +23,7 @@ use Rattle.lookup.proofs.Sheets.{Own, own-of}
 use Rattle.pairs.specs.Deeds.{Deed, to, with-in, away, makes, done, upTo}
 use Rattle.pairs.proofs.Apart.{done-nodes, either-order}
 use Rattle.pairs.proofs.Inserted.{inserted-either, inserted-before, inserted-after}
-use Rattle.pairs.proofs.Removed.{deeper-earlier, removed-earlier}
+use Rattle.pairs.proofs.Removed.{kept-after, deeper-earlier, removed-earlier}
 use Rattle.demands.specs.Conditions.{SameResult}
 use Rattle.demands.specs.Orders.{Errand, replacement, insertion, removal, correcting, then}
 use Rattle.demands.proofs.Afresh.{front-octets, same-tree}
@@ -269,6 +269,11 @@ module _ (form : ℕ) (text : List ℕ) (d : Errand) (t : Tree) (f : Forest) (le
     pub inserted-way-after : i < upTo f k → (k' : ℕ) → k' + elements f ≡ k + elements (across (makes (deedOf d)) f i)
         → insert-then-d b .number ≡ 0 → d-then-insert k' .number ≡ 0 → SameResult (insert-then-d b) (d-then-insert k')
     inserted-way-after q k' m = by-trees b k' (inserted-after t n f list-present is (deedOf d) i b z o k u k' q m)
+
+    -- before it, and not removed: nothing is shifted
+    pub kept-way : (deedOf d ≡ away → ⊥) → i < upTo f k
+        → insert-then-d b .number ≡ 0 → d-then-insert k .number ≡ 0 → SameResult (insert-then-d b) (d-then-insert k)
+    kept-way c q = by-trees b k (kept-after t n f list-present is k u (deedOf d) c i b z o q)
 
     -- deeper inside an earlier element, the j-th: nothing is shifted
     pub deeper-way : (j : ℕ) → upTo f j < i → i < upTo f (suc j) → j < k

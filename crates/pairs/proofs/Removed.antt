@@ -11,7 +11,7 @@ use Rattle.edits.proofs.Whole.{Located, locate, nodess-one}
 use Rattle.model.specs.Edit.{join, one, across, insert, remove}
 use Rattle.model.specs.Node.{nodeAt, nodeIn, nodeAmong, elements}
 use Rattle.model.specs.Tree.{Tree, list, Forest, nil, cons, nodes, nodess}
-use Rattle.pairs.specs.Deeds.{Deed, away, makes, done, upTo}
+use Rattle.pairs.specs.Deeds.{Deed, to, with-in, away, makes, done, upTo}
 use Rattle.pairs.proofs.Inserted.{across-beyond, join-elements, list-nodes, at-nodes, inserted-before, inserted-after}
 
 -- ---- the nodes of the first elements
@@ -77,6 +77,12 @@ kept-elements e c (cons t f) (suc i) =
     (λ l. omega (arith, ap elements (across-beyond e t f (suc i) l), kept-elements e c f (suc i - nodes t)))
     (λ l. omega (arith, ap elements (across-in e t f i l)))
 
+one-stays : (d : Deed) → (d ≡ away → ⊥) → (x : Tree) → elements (makes d x) ≡ 1
+unfolding makes elements
+one-stays (to u) c x = refl
+one-stays (with-in k u) c x = refl
+one-stays away c x = absurd (c refl)
+
 -- a node deeper inside the j-th element
 deeper-elements : (e : Tree → Forest) (f : Forest) (j i : ℕ) → upTo f j < i → i < upTo f (suc j) → elements (across e f i) ≡ elements f
 unfolding elements upTo
@@ -102,10 +108,10 @@ gone-elements (cons t f) (suc j) h =
 
 -- ---- in a tree: node n is a list of the elements f, and the tree u comes into it as its k-th
 module _ (t : Tree) (n : ℕ) (f : Forest) (h : n < nodes t) (is : nodeAt t n ≡ list f) (k : ℕ) (u : Tree) where
-  -- a node before it that gives way to one tree: nothing is shifted
-  pub kept-after : (d : Deed) → ((x : Tree) → elements (makes d x) ≡ 1) → (i b : ℕ) → b ≡ n + 1 + i → i < nodess f → i < upTo f k
+  -- a node before it, whatever is done but removing it: nothing is shifted
+  pub kept-after : (d : Deed) → (d ≡ away → ⊥) → (i b : ℕ) → b ≡ n + 1 + i → i < nodess f → i < upTo f k
       → insert (done d t b) n k u ≡ done d (insert t n k u) b
-  kept-after d c i b z o q = inserted-after t n f h is d i b z o k u k q (omega (arith, kept-elements (makes d) c f i))
+  kept-after d c i b z o q = inserted-after t n f h is d i b z o k u k q (omega (arith, kept-elements (makes d) (one-stays d c) f i))
 
   -- a node deeper inside the j-th element, removed or whatever else
   module _ (d : Deed) (j i b : ℕ) (z : b ≡ n + 1 + i) (from : upTo f j < i) (before : i < upTo f (suc j)) where
