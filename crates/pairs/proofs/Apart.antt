@@ -1,17 +1,17 @@
 -- Two changes of different nodes of a tree, neither inside the other, make the same tree in either order (02, Ask 14).
 use Prim.Native.Nat.{ℕ, zero, suc, _+_, _-_, _≤_, _<_}
 use native.Mathlib.Omega.{arith}
-use mathlib.Core.Path.{_≡_, refl, sym, ap, ap₂, _∙_, subst}
+use mathlib.Core.Path.{_≡_, sym, ap, ap₂, _∙_}
 use lib.ListN.{length}
 use Rattle.edits.specs.Place.{Place, fill, before, number}
 use Rattle.edits.proofs.Fill.{fill-nodes}
 use Rattle.edits.proofs.Find.{across-at, nodes-pos, across-in}
 use Rattle.edits.proofs.Sides.{BeginsFrom, sides-after}
-use Rattle.edits.proofs.Whole.{Located, locate, nodess-one, canons-one}
-use Rattle.model.specs.Edit.{join, one, across, replace, insert, remove}
+use Rattle.edits.proofs.Whole.{Located, locate, nodess-one}
+use Rattle.model.specs.Edit.{one, across, replace, insert, remove}
 use Rattle.model.specs.Node.{nodeAt}
 use Rattle.model.specs.Table.{rowOf}
-use Rattle.model.specs.Tree.{Tree, list, Forest, nil, cons, canons, nodes, nodess}
+use Rattle.model.specs.Tree.{Tree, Forest, nil, canons, nodes, nodess}
 use Rattle.pairs.specs.Deeds.{Deed, to, with-in, away, makes, done, shifted}
 use Rattle.pairs.specs.Two.{Two, fillTwo, first, second}
 use Rattle.pairs.proofs.Two.{fill-first, fill-second, number-first, number-second, Pair, find-two}
@@ -100,13 +100,8 @@ done-across (to u) t (suc k) z h = sym (across-in (makes (to u)) t nil k h)
 done-across (with-in j u) t (suc k) z h = sym (across-in (makes (with-in j u)) t nil k h)
 done-across away t (suc k) z h = sym (across-in (makes away) t nil k h)
 
-the-tree : Forest → Tree
-the-tree nil = list nil
-the-tree (cons t f) = t
-
 pub only : {t u : Tree} → one t ≡ one u → t ≡ u
-unfolding the-tree
-only e = ap the-tree e
+only e = cc
 
 -- 02, Ask 14: the same tree in either order; replaced, inserted into or removed, any two of these
 module _ (t : Tree) (a b : ℕ) (h : b < nodes t) (o : a + nodes (nodeAt t a) ≤ b) where

@@ -1,9 +1,10 @@
 -- Two things done to one sheet, computed: in either order the same, and how far that holds.
 use Prim.Native.Nat.{ℕ}
 use native.Mathlib.Omega.{arith}
-use mathlib.Core.Path.{_≡_, refl, sym, _∙_}
+use mathlib.Core.Path.{_≡_, refl, sym, ap, _∙_}
 use mathlib.Core.List.{List, [], _∷_}
 use Rattle.model.specs.Edit.{join, within, across, replace, put, putIn, insert, remove}
+use Rattle.model.specs.Node.{nodeAt, nodeIn, nodeAmong}
 use Rattle.model.specs.Tree.{Tree, plain, hinted, list, Forest, nil, cons, nodes}
 
 -- a string of one octet
@@ -47,7 +48,20 @@ removed-second : remove (insert sheet 0 1 (s 120)) 1 ≡ list (cons (s 120) (con
 unfolding sheet insert putIn put remove within join nodes
 removed-second = refl
 
+place-tells : insert (remove sheet 1) 0 1 (s 120) ≡ remove (insert sheet 0 1 (s 120)) 1 → ⊥
+unfolding nodes nodeAt nodeIn nodeAmong
+place-tells e = let z : _≡_ {A = ℕ} 2 1 = ap (λ (t : Tree). nodes (nodeAt t 1)) (sym removed-first ∙ e ∙ removed-second) in omega arith
+
+-- with one less it is the same
+removed-less : insert (remove sheet 1) 0 0 (s 120) ≡ remove (insert sheet 0 1 (s 120)) 1
+unfolding sheet insert putIn put remove within join nodes
+removed-less = refl
+
 -- node 3 is inside node 2: what is done to it first is gone with it
 inside : replace (replace sheet 3 (s 121)) 2 (s 120) ≡ list (cons (s 97) (cons (s 120) (cons (s 99) nil)))
 unfolding sheet replace within join nodes
 inside = refl
+
+-- in the other order node 3 is another (`corrected-too`), so that the two differ
+inside-tells : replace (replace sheet 3 (s 121)) 2 (s 120) ≡ replace (replace sheet 2 (s 120)) 3 (s 121) → ⊥
+inside-tells e = let z : _≡_ {A = ℕ} 99 121 = cc (sym inside ∙ e ∙ corrected-too) in omega arith
