@@ -1,12 +1,13 @@
 //! `compare SEED COUNT`: the fixed cases and COUNT random ones of the seed, each
 //! answered by the library and by the reference program; then extracts, about as
-//! many random ones again; then spools; then the fixed sheets of values and
+//! many random ones again; then the places of texts that are refused; then spools; then the fixed sheets of values and
 //! hours, and a tenth as many random ones, node by node. Answers and all lent
 //! buffers must be the same. Of what differs the first five of each part are
 //! shown, the rest counted; the exit status is 1 where anything does.
 
 mod extract;
 mod library;
+mod place;
 mod spool;
 mod values;
 
@@ -60,6 +61,7 @@ fn compare(seed: u64, count: u64) -> ExitCode {
         "{} cases, {differences} differences",
         tally.values().sum::<u64>()
     );
+    differences += place::compare();
     differences += spool::compare(seed, count);
     let typed = values::compare(seed, count.div_ceil(10));
     println!(

@@ -27,6 +27,16 @@ def arguments(given: list[str] | None = None) -> argparse.Namespace:
     return parser.parse_args(given)
 
 
+def shown(source: bytes, place: int) -> str | None:
+    """The line of a place with a caret under it; none where it can't be printed."""
+    start = source.rfind(b"\n", 0, place) + 1
+    end = source.find(b"\n", place)
+    line = source[start:] if end < 0 else source[start:end]
+    if not all(32 <= octet < 127 for octet in line):
+        return None
+    return f"{line.decode('ascii')}\n{' ' * (place - start)}^"
+
+
 def main() -> int:
     """Converts, and gives the exit status."""
     options = vars(arguments())
@@ -36,6 +46,10 @@ def main() -> int:
         text = read(FORMS[options["from"]], source).write(FORMS[options["to"]])
     except Refusal as refusal:
         print(refusal, file=sys.stderr)
+        told = refusal.number == 3 and options["from"] != "advanced"
+        line = shown(source, refusal.place) if told and source[:1] != b"{" else None
+        if line is not None:
+            print(line, file=sys.stderr)
         return 1
     except LibraryMissing as error:
         print(f"etglavino: {error}", file=sys.stderr)

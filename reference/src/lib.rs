@@ -18,6 +18,7 @@ pub mod extract;
 pub mod lexeme;
 pub mod limits;
 pub mod output;
+pub mod place;
 pub mod spool;
 pub mod tree;
 pub mod values;

@@ -7,7 +7,7 @@ use mathlib.Core.List.{List}
 use lib.Dec.{leb}
 use borrow.Author.Tests.{leb-false, lt-leb}
 use Rattle.base.specs.Choice.{isNone}
-use Rattle.model.specs.Answers.{Check, verdict, the, roomChecks, ownTree, Outcome, filled, unchanged, replaced, replacingChecks, replacing}
+use Rattle.model.specs.Answers.{Check, verdict, the, roomChecks, ownTree, Outcome, filled, unchanged, replaced, replacingChecks, replacing, placeOf, telling}
 use Rattle.model.specs.Edit.{replace}
 use Rattle.model.specs.Tree.{Tree}
 use Rattle.model.proofs.Judging.{judged-accepted}
@@ -45,8 +45,8 @@ module _ (form : ℕ) (text canonical table : List ℕ) (len count node : ℕ) w
 
     -- the conditions hold: accepted, and the corrected tree is put in the old one's place
     pub accepted : answer ≡ filled (replace (c .old) node (c .new)) len count canonical table
-    unfolding replacing
-    accepted = judged-accepted _ _ _ all-hold ∙ ap (λ (u : Tree). filled u len count canonical table) corrected
+    unfolding replacing filled telling
+    accepted = ap (telling (placeOf form text)) (judged-accepted _ _ _ all-hold ∙ ap (λ (u : Tree). filled u len count canonical table) corrected)
 
   -- ---- what an acceptance gives
 
@@ -72,15 +72,15 @@ module _ (form : ℕ) (text canonical table : List ℕ) (len count node : ℕ) w
 
   -- accepted: the conditions held
   pub conditions : answer .number ≡ 0 → Conditions form text canonical table len count node
-  unfolding replacing
+  unfolding replacing telling
   conditions e = held (no-row (λ (o : Outcome). o .number) checks _ (λ (k : ℕ). unchanged k canonical table) (λ k. refl) e)
 
-  -- ---- row by row: refused with a number, and nothing changed, exactly when that row is the first that applies
+  -- ---- row by row: refused with a number, and nothing changed, exactly when that row is the first that applies; with 3 a place is told
 
-  pub refused-by : (n : ℕ) → 0 < n → First checks n → answer ≡ unchanged n canonical table
+  pub refused-by : (n : ℕ) → 0 < n → First checks n → answer ≡ telling (placeOf form text) (unchanged n canonical table)
   unfolding replacing
-  refused-by n h f = judged-by (λ (o : Outcome). o .number) checks _ (λ (k : ℕ). unchanged k canonical table) (λ k. refl) n h f
+  refused-by n h f = ap (telling (placeOf form text)) (judged-by (λ (o : Outcome). o .number) checks _ (λ (k : ℕ). unchanged k canonical table) (λ k. refl) n h f)
 
   pub refused-for : (n : ℕ) → 0 < n → answer .number ≡ n → First checks n
-  unfolding replacing filled
+  unfolding replacing filled telling
   refused-for n h e = judged-for (λ (o : Outcome). o .number) checks _ (λ (k : ℕ). unchanged k canonical table) (λ k. refl) refl n h e

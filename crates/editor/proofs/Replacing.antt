@@ -9,7 +9,7 @@ use lib.ListN.{length, take, drop, getD, replicate, length-take}
 use lib.Seq.{sets, length-sets}
 use Rattle.base.specs.Choice.{isNone}
 use Rattle.base.proofs.Cases.{differ, some-same}
-use Rattle.model.specs.Answers.{the, Outcome, unchanged, filled}
+use Rattle.model.specs.Answers.{the, Outcome, unchangedAt, unchanged, placeOf, telling, filled}
 use Rattle.model.specs.Decode.{decode₁, decode}
 use Rattle.model.specs.Edit.{replace}
 use Rattle.model.specs.Limits.{Accepted, maxCanonical}
@@ -17,20 +17,21 @@ use Rattle.model.specs.Tree.{Tree, canon, nodes, depth}
 use Rattle.model.proofs.Exact.{canon-complete}
 use Rattle.model.proofs.Laws.{canonical-unique, nodes-within-half}
 use Rattle.model.proofs.Judging.{judged-refused, verdict-here}
+use Rattle.model.proofs.Telling.{other-row, other-past, rooms-other, telling-judged}
 use Rattle.model.proofs.OutputSizes.{nodes-half}
 use Rattle.walk.specs.Extent.{Wholly, Measures}
 use Rattle.scan.specs.Writes.{Wrote}
 use Rattle.texts.specs.Texts.{Takeable, Taken}
 use Rattle.texts.proofs.Sizes.{tripled}
-use Rattle.answers.specs.Cases.{outcome, Refuses}
+use Rattle.answers.specs.Cases.{outcome, RefusesAt, Refuses}
 use Rattle.edits.proofs.Demand.{replace-octets, replace-length}
 use Rattle.lookup.proofs.Sheets.{sheet-of}
 use Rattle.lookup.proofs.Sheets as good
 use Rattle.sheets.specs.Told.{Holds}
 use Rattle.sheets.proofs.Keeping.{noted-length}
 use Rattle.lookup.specs.Noted.{Sheet}
-use Rattle.plan.specs.Planned.{Known, treeChecks, replaceTree, AtNode, Taking, Fitting, Misfitting, Plans}
-use Rattle.editor.specs.Given.{Noteable, Gives, GivesTree}
+use Rattle.plan.specs.Planned.{Known, newTree, treeChecks, replaceTree, AtNode, Taking, Fitting, Misfitting, Plans}
+use Rattle.editor.specs.Given.{Noteable, Gives, GivesTree, GivesMeant}
 use Rattle.editor.specs.Placed.{Standing, Placeable, Placed}
 use Rattle.plan.proofs.Resizing.{depth-few, ordered}
 use Rattle.splice.specs.Rewritten.{Movable, Rewritable, Alone, Workable, Rewritten}
@@ -61,11 +62,27 @@ unfolding replaceTree treeChecks isNone
 tree-none o canonical len table count node e = judged-refused _ _ _ 3 (verdict-here 3 (isNone o) _ (ap isNone e)) (omega arith)
 
 -- what refuses is no acceptance
-pub gives-refused : (Lent : List ℕ → Type 0) (answer : List ℕ → Outcome) (c : List ℕ) (n : ℕ) (notes : List ℕ) (old k : ℕ) (r : Reading) → Refuses k r
+pub gives-refused : (Lent : List ℕ → Type 0) (answer : List ℕ → Outcome) (c : List ℕ) (n : ℕ) (notes : List ℕ) (old k p : ℕ) (r : Reading) → RefusesAt k p r
     → ((table : List ℕ) → Lent table → outcome r c table ≡ answer table) → Gives Lent answer c n notes old r
 unfolding Gives outcome
-gives-refused Lent answer c n notes old k (reading.Accepted len count) f g = differ refl (ap (λ (x : Outcome). x .accepted) (f .is [] []))
-gives-refused Lent answer c n notes old k (reading.Refused x) f g = g
+gives-refused Lent answer c n notes old k p (reading.Accepted len count) f g = differ refl (ap (λ (x : Outcome). x .accepted) (f .is [] []))
+gives-refused Lent answer c n notes old k p (reading.Refused x) f g = g
+
+-- another answer that is the same
+pub gives-same : (Lent : List ℕ → Type 0) (answer answer′ : List ℕ → Outcome) → ((table : List ℕ) → answer table ≡ answer′ table)
+    → (c : List ℕ) (n : ℕ) (notes : List ℕ) (old : ℕ) (r : Reading) → Gives Lent answer c n notes old r → Gives Lent answer′ c n notes old r
+unfolding Gives
+gives-same Lent answer answer′ e c n notes old (reading.Accepted len count) p =
+    record { tree = p .tree; held = p .held; recorded = p .recorded; few = p .few; is = λ table z. p .is table z ∙ e table }
+gives-same Lent answer answer′ e c n notes old (reading.Refused x) p = λ table z. p table z ∙ e table
+
+-- no place is told of a tree
+told-some : (p : ℕ) (canonical : List ℕ) (len : ℕ) (table : List ℕ) (count node : ℕ) (t : Tree)
+    → telling p (replaceTree (some t) canonical len table count node) ≡ replaceTree (some t) canonical len table count node
+unfolding replaceTree treeChecks isNone filled
+told-some p canonical len table count node t =
+    telling-judged p (treeChecks (some t) canonical len table count node) (filled (newTree (some t) canonical len table count node) len count canonical table) canonical table
+    (other-past refl (other-row refl (other-row refl (rooms-other (newTree (some t) canonical len table count node) canonical table)))) refl
 
 -- ---- a tree u, known by its sizes, of which the canonical form stands at the front of scratch
 module _ (canonical : List ℕ) (len count room : ℕ) (own : Bool) (node : ℕ) (notes : List ℕ) (scratch : List ℕ) (sizes : Sizes) (note : ℕ) (g : Placeable scratch sizes note) (p : Plan) (w : Plans canonical len count room own node sizes p) where
@@ -79,7 +96,7 @@ module _ (canonical : List ℕ) (len count room : ℕ) (own : Bool) (node : ℕ)
   unfolding Plans
   place-misfit number z r f =
       let m : Misfitting canonical len count room own node sizes number = subst (Plans canonical len count room own node sizes) z w in
-      record { is = λ v s. gives-refused _ _ canonical room notes count number r f (λ table l. f .is canonical table ∙ sym (m .answer table l v (s .sized))) }
+      record { is = λ v s. gives-refused _ _ canonical room notes count number 0 r f (λ table l. f .is canonical table ∙ sym (m .answer table l v (s .sized))) }
 
   module _ (start end len′ count′ : ℕ) (z : p ≡ Fits start end len′ count′) where
     fitting : Fitting canonical len count room own node sizes start end len′ count′
@@ -217,12 +234,14 @@ module _ (canonical : List ℕ) (len count room : ℕ) (own : Bool) (node : ℕ)
 
 -- ---- a text taken, which means a tree or none
 module _ (form : ℕ) (text : List ℕ) (space : ℕ) (k : Takeable form (length text) space) (canonical : List ℕ) (len count room : ℕ) (own : Bool) (node : ℕ)
-    (scratch one one′ : List ℕ) (x : Extent) (m : Taken (decode form text) scratch one one′ x) where
-  pub replace-none : x ≡ extent.Refused → (notes : List ℕ) (r : Reading) → Refuses 3 r → GivesTree (decode form text) canonical len count room own node canonical notes r
-  unfolding Measures
-  replace-none e notes r f =
-      gives-refused _ _ canonical room notes count 3 r f
-      (λ table l. f .is canonical table ∙ sym (tree-none (decode form text) canonical len table count node (subst (Measures (decode form text)) e (m .measures))))
+    (scratch one one′ : List ℕ) (x : Extent) (m : Taken (decode form text) (placeOf form text) scratch one one′ x) where
+  pub replace-none : (q : ℕ) → x ≡ extent.Refused q → (notes : List ℕ) (r : Reading) → RefusesAt 3 q r → GivesMeant form text canonical len count room own node canonical notes r
+  unfolding Measures telling
+  replace-none q e notes r f =
+      gives-refused _ _ canonical room notes count 3 q r f
+      (λ table l.
+      f .is canonical table ∙ ap (λ (p : ℕ). unchangedAt 3 p canonical table) (m .fails q e)
+      ∙ sym (ap (telling (placeOf form text)) (tree-none (decode form text) canonical len table count node (subst (Measures (decode form text)) e (m .measures)))))
 
   module _ (n c d : ℕ) (e : x ≡ extent.Whole n c d) where
     whole : Wholly (decode form text) n c d
@@ -266,6 +285,11 @@ module _ (form : ℕ) (text : List ℕ) (space : ℕ) (k : Takeable form (length
         record { enough = omega (arith, h .enough, whole .counted, nodes-within-half (whole .tree), tripled form text (whole .tree) (whole .is)) }
 
     pub replace-placed : (canonical′ notes′ : List ℕ) (r : Reading) → Placed scratch told canonical canonical′ len count room own node notes′ r
-        → GivesTree (decode form text) canonical len count room own node canonical′ notes′ r
+        → GivesMeant form text canonical len count room own node canonical′ notes′ r
     replace-placed canonical′ notes′ r f =
-        subst (λ (o : Option Tree). GivesTree o canonical len count room own node canonical′ notes′ r) (sym (whole .is)) (f .is (whole .tree) standing)
+        gives-same _ _ _ (λ table. same table) canonical′ room notes′ count r (f .is (whole .tree) standing)
+      where
+        same : (table : List ℕ) → replaceTree (some (whole .tree)) canonical len table count node ≡ telling (placeOf form text) (replaceTree (decode form text) canonical len table count node)
+        same table =
+            sym (ap (λ (o : Option Tree). telling (placeOf form text) (replaceTree o canonical len table count node)) (whole .is)
+            ∙ told-some (placeOf form text) canonical len table count node (whole .tree))

@@ -7,7 +7,8 @@ use mathlib.Core.List.{List}
 use Rattle.model.specs.Limits.{maxNodes}
 use Rattle.model.specs.Table.{width, tableOf}
 use Rattle.model.specs.Tree.{Tree}
-use Rattle.model.specs.Answers.{Outcome, settled, replacing}
+use Rattle.model.specs.Answers.{Outcome, settled, placeOf, telling, replacing}
+use Rattle.model.specs.Decode.{decode}
 use Rattle.answers.specs.Cases.{outcome}
 use Rattle.answers.specs.declared.Reading.{Reading}
 use Rattle.answers.specs.declared.Reading.the-variants as reading
@@ -35,6 +36,11 @@ Gives Lent answer c n notes old (reading.Refused f) = (table : List ℕ) → Len
 -- that of replacing, of the tree that a text means
 abbrev pub GivesTree : Option Tree → List ℕ → ℕ → ℕ → ℕ → Bool → ℕ → List ℕ → List ℕ → Reading → Type 0
 GivesTree o c len count n own node c′ notes′ r = Gives (Lends c len count n own) (λ (table : List ℕ). replaceTree o c len table count node) c′ n notes′ count r
+
+-- of what a text means, with the place that is told where it means nothing
+abbrev pub GivesMeant : ℕ → List ℕ → List ℕ → ℕ → ℕ → ℕ → Bool → ℕ → List ℕ → List ℕ → Reading → Type 0
+GivesMeant form text c len count n own node c′ notes′ r =
+    Gives (Lends c len count n own) (λ (table : List ℕ). telling (placeOf form text) (replaceTree (decode form text) c len table count node)) c′ n notes′ count r
 
 -- and of a text
 abbrev pub GivesText : ℕ → List ℕ → List ℕ → ℕ → ℕ → ℕ → Bool → ℕ → List ℕ → List ℕ → Reading → Type 0

@@ -7,14 +7,14 @@ mod tiers; // tiers.rt: local space for a text
 ghost use mathlib.Core.Path.{_≡_};
 ghost use Prim.Native.Nat.{_*_};
 ghost use lib.ListN.{length};
-ghost use Rattle.model.specs.Decode.{decode};
 ghost use Rattle.octets.specs.Classes.{Classed, Lettered};
 ghost use Rattle.texts.specs.Texts.{Takeable};
 ghost use Rattle.plan.specs.Planned.{Known};
-ghost use Rattle.editor.specs.Given.{Noteable, GivesTree, GivesText};
+ghost use Rattle.editor.specs.Given.{Noteable, GivesMeant, GivesText};
 ghost use Rattle.editor.specs.Placed.{Placeable, Placed};
 use answers::Reading;
 use answers::refused;
+use answers::refused_at;
 pub use numbers::replace;
 use plan::Plan;
 use plan::Sizes;
@@ -86,7 +86,7 @@ fn replace_in(
     requires { ⌜ Takeable form (length (now text)) (length (now scratch)) ⌝ }
     requires { ⌜ Known (now canonical) old held records (now notes) own ⌝ }
     requires { ⌜ Noteable held (2 * length (now text)) (length (now notes)) ⌝ }
-    ensures { λ r. ⌜ GivesTree (decode form (now (text .entry))) (now (canonical .entry)) old held records own node (now (canonical .exit)) (now (notes .exit)) r ⌝ }
+    ensures { λ r. ⌜ GivesMeant form (now (text .entry)) (now (canonical .entry)) old held records own node (now (canonical .exit)) (now (notes .exit)) r ⌝ }
 {
     let mut one: [usize; 1] = [0; 1];
     match texts::take(classes, letters, form, text, scratch, &mut one) {
@@ -105,7 +105,7 @@ fn replace_in(
                 one[0],
             )
         }
-        Extent::Refused => refused(3),
+        Extent::Refused { place } => refused_at(3, place),
     }
 }
 

@@ -85,8 +85,8 @@ counted (hinted h d) = omega arith
 counted (list f) = omega arith
 
 module _ (c : List ℕ) (n : ℕ) (before notes : List ℕ) (r : Extent) (v : Noted (take n c) before notes r) (lent : n ≤ length c) where
-  pub note-none : r ≡ extent.Refused → Judges (sheetTree c n) c n notes 0 (ltb 0 0)
-  note-none e = unsheeted c n notes (sheet-none c n lent r (v .measures) e)
+  pub note-none : (p : ℕ) → r ≡ extent.Refused p → Judges (sheetTree c n) c n notes 0 (ltb 0 0)
+  note-none p e = unsheeted c n notes (sheet-none c n lent r (v .measures) p e)
 
   module _ (len count deep : ℕ) (e : r ≡ extent.Whole len count deep) where
     pub note-deep : maxDepth < deep → Judges (sheetTree c n) c n notes 0 (ltb 0 0)

@@ -43,7 +43,7 @@ pub fn sheet(canonical: &[u8], length: usize) -> bool
             }
             nodes <= limits::NODES
         }
-        Extent::Refused => false,
+        Extent::Refused { place: _ } => false,
     }
 }
 

@@ -25,4 +25,5 @@ pub mod Laws
 mod Starred
 mod Examples
 pub mod Judging
+pub mod Telling
 pub mod Numbered

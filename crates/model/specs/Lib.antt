@@ -10,4 +10,7 @@ pub mod Write
 pub mod Compare
 pub mod Edit
 pub mod Limits
+pub mod Count
+pub mod Begins
+pub mod Automaton
 pub mod Answers
