@@ -15,12 +15,7 @@ use answers::Writing;
 use records::Record;
 
 // An answer of reading or replacing, with its place.
-fn hand_placed(
-    answer: Reading,
-    length: &mut usize,
-    nodes: &mut usize,
-    place: &mut usize,
-) -> u32
+fn hand_placed(answer: Reading, length: &mut usize, nodes: &mut usize, place: &mut usize) -> u32
     ensures { λ r. ⌜ HandsPlaced answer r (now (length .exit)) (now (nodes .exit)) (now (place .exit)) ⌝ }
 {
     match answer {

@@ -99,10 +99,10 @@ module _ (src : List ℕ) (at : ℕ) (due : Bool) (out₀ out : List ℕ) (o : �
       close-written = write-by closing (at + 1) closes (set out o 41) (o + 1) (front-one out o 41 close-room)
 
     module _ (x d : ℕ) (v : HintAt src at x d) where
-      pub no-data : d ≡ 0 → Front (advanced (the (decode₁ src))) 0 out₀ out o
+      pub no-data : d < shift → Front (advanced (the (decode₁ src))) 0 out₀ out o
       no-data z = left-never src at due (w .rest) (w .left) h (other-none src at (v .none z))
 
-      module _ (m : d ≡ 0 → ⊥) (from to s e : ℕ) (f : from ≡ startOf x) (q : to ≡ endOf x) (g : s ≡ startOf d) (k : e ≡ endOf d) where
+      module _ (m : shift ≤ d) (from to s e : ℕ) (f : from ≡ startOf x) (q : to ≡ endOf x) (g : s ≡ startOf d) (k : e ≡ endOf d) where
         hinted : ItemAt src at (Hinted from to s e)
         hinted = rw (f, q, g, k) (v .some m)
 

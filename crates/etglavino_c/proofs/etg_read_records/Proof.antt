@@ -159,8 +159,8 @@ module _ {M : Type 1} (𝓤 : URA M) (H : Heap 𝓤) (A : Atoms 𝓤) (W : Given
       ends r u is c′ zs lc lz said =
           assigns ! (addr ! (from ! (hop ! (look ! 31 refl) (stop !)))) (from ! (stop !)) (init ! 15 refl (tt, tt)) $ assigns ! (addr ! (from ! (hop ! (look ! 29 refl) (stop !)))) (from ! (stop !)) (init ! 13 refl (tt, tt)) $ assigns ! (addr ! (from ! (hop ! (look ! 27 refl) (stop !)))) (from ! (stop !)) (init ! 11 refl (tt, tt)) $
           move ! (1 ∷ 2 ∷ []) $ join ! $ move ! (1 ∷ 0 ∷ []) $ join ! $ move ! (7 ∷ 8 ∷ []) $ join ! $ move ! (7 ∷ 0 ∷ []) $ join ! $ use2 W (raw (Handing 𝓤 H A mem run .pre (to-hand 𝓤 H A W mem run κ₃ κ₄ κ₅ q₃ q₄ q₅ r u out count spot))) (goes-hand 𝓤 H A W mem run κ₃ κ₄ κ₅ q₃ q₄ q₅ r u out count spot is) $
-          calls-at ! (fmOf 𝓤 H (W .laws) 𝓣) (Handing 𝓤 H A mem run) known-hand (to-hand 𝓤 H A W mem run κ₃ κ₄ κ₅ q₃ q₄ q₅ r u out count spot) (and-then ! (load ! (from ! (stop !)) (look ! 20 refl)) (and-then ! (load ! (from ! (stop !)) (look ! 10 refl)) (and-then ! (load ! (from ! (stop !)) (look ! 8 refl)) (and-then ! (load ! (from ! (stop !)) (look ! 6 refl)) (no-more !))))) (λ w. 
-          use1 W (Left 𝓤 H A W mem run κ₃ κ₄ κ₅ q₃ q₄ q₅ r u out count spot w) (id⊢ 𝓤 _) $ await ! tt $ pick ! (λ n. split ! $ move ! (1 ∷ []) $ use1 W (LastOf 𝓤 H A W mem run κ₃ κ₄ κ₅ q₃ q₄ q₅ r u out count spot n) (id⊢ 𝓤 _) $ pick ! (λ ws. split ! $ move ! (1 ∷ []) $ heard ! (HandsPlaced r n (ws .1 .0) (ws .1 .1 .0) (ws .1 .1 .1 .0)) (λ h. 
+          calls-at ! (fmOf 𝓤 H (W .laws) 𝓣) (Handing 𝓤 H A mem run) known-hand (to-hand 𝓤 H A W mem run κ₃ κ₄ κ₅ q₃ q₄ q₅ r u out count spot) (and-then ! (load ! (from ! (stop !)) (look ! 20 refl)) (and-then ! (load ! (from ! (stop !)) (look ! 10 refl)) (and-then ! (load ! (from ! (stop !)) (look ! 8 refl)) (and-then ! (load ! (from ! (stop !)) (look ! 6 refl)) (no-more !))))) (λ w.
+          use1 W (Left 𝓤 H A W mem run κ₃ κ₄ κ₅ q₃ q₄ q₅ r u out count spot w) (id⊢ 𝓤 _) $ await ! tt $ pick ! (λ n. split ! $ move ! (1 ∷ []) $ use1 W (LastOf 𝓤 H A W mem run κ₃ κ₄ κ₅ q₃ q₄ q₅ r u out count spot n) (id⊢ 𝓤 _) $ pick ! (λ ws. split ! $ move ! (1 ∷ []) $ heard ! (HandsPlaced r n (ws .1 .0) (ws .1 .1 .0) (ws .1 .1 .1 .0)) (λ h.
           fsplit ! $ move ! (1 ∷ []) $ fsplit ! $ move ! (1 ∷ []) $ fsplit ! $ move ! (1 ∷ []) $ fsplit ! $ move ! (5 ∷ []) $ split ! $ move ! (1 ∷ []) $
           peeks ! u32 (Is u32) (shows 𝓤 H A u32) n (w ∷ []) (λ is′. drop ! $ land ! (from ! (stop !)) (init ! 41 refl (uint-lawful 𝓤 H A W w32 .typed n (w ∷ []) is′ .0)) $ returns ! (look ! 41 refl) $
           forget ! 11 refl $ forget ! 13 refl $ forget ! 15 refl $ forget ! 25 refl $ forget ! 27 refl $ forget ! 29 refl $ forget ! 31 refl $ forget ! 33 refl $ forget ! 35 refl $ forget ! 37 refl $ forget ! 39 refl $ forget ! 41 refl $
@@ -179,7 +179,7 @@ module _ {M : Type 1} (𝓤 : URA M) (H : Heap 𝓤) (A : Atoms 𝓤) (W : Given
         assigns ! (addr ! (from ! (fld ! refl (hop ! (look-in ! 34 (sub ! 0 refl (whole !))) (stop !))))) (from ! (stop !)) (init ! 20 refl (tt, tt)) $
         assigns ! (agg ! (and-then ! (load ! (from ! (stop !)) (look ! 20 refl)) (and-then ! (load ! (from ! (fld ! refl (stop !))) (look-in ! 34 (sub ! 1 refl (whole !)))) (no-more !)))) (from ! (stop !)) (init ! 18 refl (tt, (tt, (record { fits = room₂ .0 }, tt)))) $
         move ! (1 ∷ 0 ∷ []) $ join ! $ move ! (1 ∷ 0 ∷ []) $ join ! $ move ! (5 ∷ 6 ∷ []) $ join ! $ move ! (5 ∷ 0 ∷ []) $ join ! $ use2 W (raw (Core 𝓤 H A mem run .pre to-core)) goes-core $
-        calls-at ! (fmOf 𝓤 H (W .laws) 𝓣) (Core 𝓤 H A mem run) known-core to-core (and-then ! (load ! (from ! (stop !)) (look ! 35 refl)) (and-then ! (load ! (from ! (stop !)) (look ! 33 refl)) (and-then ! (load ! (from ! (stop !)) (look ! 17 refl)) (and-then ! (load ! (from ! (stop !)) (look ! 13 refl)) (no-more !))))) (λ u. 
+        calls-at ! (fmOf 𝓤 H (W .laws) 𝓣) (Core 𝓤 H A mem run) known-core to-core (and-then ! (load ! (from ! (stop !)) (look ! 35 refl)) (and-then ! (load ! (from ! (stop !)) (look ! 33 refl)) (and-then ! (load ! (from ! (stop !)) (look ! 17 refl)) (and-then ! (load ! (from ! (stop !)) (look ! 13 refl)) (no-more !))))) (λ u.
         use1 W (later (some (λ (r : Reading). ((‵ (flft κ₀ q₀) ⊛ ‵ (flft κ₁ q₁) ⊛ ‵ (flft κ₂ q₂) ⊛ ‵ ftrue) ⊛ ‵ (R.the-row .own r (u ∷ []))) ⊛ raw (ensured 𝓤 H A callee.ended (callee.clauses 𝓤 H A mem run) (κ₀, (κ₁, (κ₂, tt))) (form, (src, (can, (rec, tt)))) tt r)))) (id⊢ 𝓤 _) $ await ! tt $ pick ! (λ r. split ! $ move ! (1 ∷ []) $
         use1 W (some (λ (ws : Unit {0} × (Unit {0} × (List ℕ × (List Record × Unit {0})))). ‵ (lasts callee.ended (κ₀, (κ₁, (κ₂, tt))) (form, (src, (can, (rec, tt)))) ws) ⊛ raw (fact 𝓤 (Said r (ws .1 .1 .0) (ws .1 .1 .1 .0))))) (id⊢ 𝓤 _) $ pick ! (λ ws. split ! $ move ! (1 ∷ []) $
         heard ! (Said r (ws .1 .1 .0) (ws .1 .1 .1 .0)) (λ said. fsplit ! $ move ! (1 ∷ []) $ fsplit ! $ move ! (1 ∷ []) $ fsplit ! $ fsplit ! $ move ! (1 ∷ []) $ feqL ! (λ lc. move ! (1 ∷ []) $ fsplit ! $ fsplit ! $ move ! (1 ∷ []) $ feqL ! (λ lz. move ! (5 ∷ []) $ split ! $ move ! (1 ∷ []) $
