@@ -43,7 +43,11 @@ fn both(reader: &mut Reader, form: u32, source: &[u8], answer: Answer, left: &Le
     let proved = etglavino::read_form(form, source, &mut two.canonical, &mut two.table);
     // It tells no place.
     let numbered = answer.map_err(Refusal::number);
-    assert_eq!(plain.map_err(Refusal::number), numbered, "plain, form {form}: {start}");
+    assert_eq!(
+        plain.map_err(Refusal::number),
+        numbered,
+        "plain, form {form}: {start}"
+    );
     assert_eq!(proved, answer, "library, form {form}: {start}");
     assert!(one == *left, "plain, form {form}: {start}");
     assert!(two == *left, "library, form {form}: {start}");

@@ -83,7 +83,9 @@ impl Tally {
         self.asked += 1;
         for form in 1..=3 {
             for (entry, answer) in answers(form, text) {
-                let told = answer.err().map_or((0, 0), |refusal| (refusal.number(), refusal.place()));
+                let told = answer
+                    .err()
+                    .map_or((0, 0), |refusal| (refusal.number(), refusal.place()));
                 let wanted = if told.0 == 3 { place(form, text) } else { 0 };
                 if entry == "read" && form == 1 && told.0 == 3 {
                     self.refused += 1;
@@ -91,7 +93,9 @@ impl Tally {
                 if told.1 != wanted {
                     self.differences += 1;
                     if self.differences <= SHOWN {
-                        println!("{entry}, form {form}: {told:?}, place {wanted}\n  text {text:02x?}");
+                        println!(
+                            "{entry}, form {form}: {told:?}, place {wanted}\n  text {text:02x?}"
+                        );
                     }
                 }
             }
@@ -108,7 +112,8 @@ fn answers(form: u32, text: &[u8]) -> [(&'static str, Result<Extent, Refusal>); 
     let read_records = etglavino::read_records_form(form, text, &mut octets, &mut records);
     let sheet = etglavino::read_form(1, b"(1:a)", &mut octets, &mut numbers).expect("a sheet");
     let replaced = etglavino::replace_form(form, text, &mut octets, &mut numbers, sheet, 1);
-    let sheet = etglavino::read_records_form(1, b"(1:a)", &mut octets, &mut records).expect("a sheet");
+    let sheet =
+        etglavino::read_records_form(1, b"(1:a)", &mut octets, &mut records).expect("a sheet");
     let replaced_records =
         etglavino::replace_records_form(form, text, &mut octets, &mut records, sheet, 1);
     [

@@ -16,7 +16,10 @@ enum Look {
 /// does not begin with a brace; else 0.
 pub fn place(form: u32, text: &[u8]) -> usize {
     if form == 1 || (form == 2 && text.first() != Some(&b'{')) {
-        (0..=text.len()).rev().find(|&taken| begins(&text[..taken])).unwrap_or(0)
+        (0..=text.len())
+            .rev()
+            .find(|&taken| begins(&text[..taken]))
+            .unwrap_or(0)
     } else {
         0
     }
@@ -69,7 +72,10 @@ fn string(octets: &[u8]) -> Look {
 }
 
 fn verbatim(octets: &[u8]) -> Look {
-    let digits = octets.iter().take_while(|octet| octet.is_ascii_digit()).count();
+    let digits = octets
+        .iter()
+        .take_while(|octet| octet.is_ascii_digit())
+        .count();
     match (digits, octets.first()) {
         (_, None) => return Look::Short,
         (0, _) => return Look::Wrong,

@@ -94,9 +94,18 @@ fn not_in_the_language() {
     ];
     for source in advanced {
         let shown = String::from_utf8_lossy(source);
-        assert_eq!(canonical(3, source), Err(Refusal::Syntax { place: 0 }), "{shown}");
+        assert_eq!(
+            canonical(3, source),
+            Err(Refusal::Syntax { place: 0 }),
+            "{shown}"
+        );
     }
-    for (source, place) in [(&b"3:abc\n"[..], 5), (b"4294967299:abc", 14), (b"abc", 0), (b"", 0)] {
+    for (source, place) in [
+        (&b"3:abc\n"[..], 5),
+        (b"4294967299:abc", 14),
+        (b"abc", 0),
+        (b"", 0),
+    ] {
         assert_eq!(canonical(1, source), Err(Refusal::Syntax { place }));
         assert_eq!(canonical(2, source), Err(Refusal::Syntax { place }));
     }
