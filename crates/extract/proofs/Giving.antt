@@ -226,7 +226,7 @@ module _ (sheet : List ℕ) (len : ℕ) (before : List ℕ) (n : ℕ) (own : Boo
         is = λ o j.
             let e : o ≡ none = none-of o (sym y ∙ j .tells) in
             subst (λ (x : Option Tree). Puts (extractOf x canonical) canonical k notes r) (sym e)
-            (puts-refused (extractOf none canonical) canonical notes k 7 (omega arith) r f (λ table z. f .is canonical table ∙ refused-7 table));
+            (puts-refused (extractOf none canonical) canonical notes k 7 (omega arith) 0 r f (λ table z. f .is canonical table ∙ refused-7 table));
       }
 
 -- ---- the entries
