@@ -98,8 +98,9 @@ fn each_refusal() {
     }
     let long = padded(b"hi", MAX_SOURCE + 1);
     assert_eq!(replaced(3, &long, 1), Err(Refusal::SourceSize));
-    assert_eq!(replaced(1, b"hi", 1), Err(Refusal::Syntax));
-    assert_eq!(replaced(3, b"", 1), Err(Refusal::Syntax));
+    assert_eq!(replaced(1, b"hi", 1), Err(Refusal::Syntax { place: 0 }));
+    assert_eq!(replaced(1, b"3:abcX", 1), Err(Refusal::Syntax { place: 5 }));
+    assert_eq!(replaced(3, b"", 1), Err(Refusal::Syntax { place: 0 }));
     for node in [3, 4, usize::MAX] {
         assert_eq!(replaced(3, b"hi", node), Err(Refusal::NoNode));
     }
@@ -161,7 +162,7 @@ fn the_first_refusal_that_applies() {
     let long = padded(b"(", MAX_SOURCE + 1);
     assert_eq!(bad.replace(9, &long, 9), Err(Refusal::Form));
     assert_eq!(bad.replace(3, &long, 9), Err(Refusal::SourceSize));
-    assert_eq!(bad.replace(3, b"(", 9), Err(Refusal::Syntax));
+    assert_eq!(bad.replace(3, b"(", 9), Err(Refusal::Syntax { place: 0 }));
     assert_eq!(bad.replace(3, b"()", 9), Err(Refusal::NotOwn));
     let mut tight = Sheet::exact(LIST, &LIST_TABLE);
     assert_eq!(tight.replace(1, &nested(128), 9), Err(Refusal::NoNode));
