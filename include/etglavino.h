@@ -186,13 +186,14 @@ uint32_t etg_replace(uint32_t form,
  *
  * Refusals: 1, 2, 3, 7, 8, 9, 4, 5, 6, where 4 to 6 speak of the tree with the
  * element in it. On acceptance sheet and table are what reading the changed
- * sheet afresh would give; past them nothing changes. */
+ * sheet afresh would give; past them nothing changes. `*place` is a place in
+ * `text`, as etg_read tells it. */
 uint32_t etg_insert(uint32_t form,
                     const uint8_t *text, size_t text_len,
                     uint8_t *canonical, size_t canonical_room,
                     uint32_t *table, size_t table_room,
                     size_t length, size_t nodes, size_t node, size_t k,
-                    size_t *new_length, size_t *new_nodes);
+                    size_t *new_length, size_t *new_nodes, size_t *place);
 
 /* Removes node `node` of a sheet, which is any but node 0, with all that is in
  * it, in place.
@@ -258,7 +259,7 @@ uint32_t etg_insert_records(uint32_t form,
                             uint8_t *canonical, size_t canonical_room,
                             struct etg_record *records, size_t record_room,
                             size_t length, size_t nodes, size_t node, size_t k,
-                            size_t *new_length, size_t *new_nodes);
+                            size_t *new_length, size_t *new_nodes, size_t *place);
 
 uint32_t etg_remove_records(uint8_t *canonical, size_t canonical_room,
                             struct etg_record *records, size_t record_room,

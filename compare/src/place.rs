@@ -1,8 +1,8 @@
 //! Where a text goes wrong: what the library tells with refusal 3, over numbers
-//! and over records, in reading and in replacing, and what the reference program
-//! finds by trying.
+//! and over records, in reading, in replacing and in inserting, and what the
+//! reference program finds by trying.
 
-use etglavino::{Extent, Record, Refusal, MAX_CANONICAL, MAX_NODES, RECORD};
+use etglavino::{Extent, Record, Refusal, Slot, MAX_CANONICAL, MAX_NODES, RECORD};
 use reference::place::place;
 
 /// Differences shown whole; the rest are only counted.
@@ -104,7 +104,7 @@ impl Tally {
 }
 
 /// The entries that tell a place; nothing is wrong with the sheet that is lent.
-fn answers(form: u32, text: &[u8]) -> [(&'static str, Result<Extent, Refusal>); 4] {
+fn answers(form: u32, text: &[u8]) -> [(&'static str, Result<Extent, Refusal>); 6] {
     let mut octets = vec![0; MAX_CANONICAL];
     let mut numbers = vec![0; MAX_NODES * RECORD];
     let mut records = vec![Record::default(); MAX_NODES];
@@ -112,14 +112,23 @@ fn answers(form: u32, text: &[u8]) -> [(&'static str, Result<Extent, Refusal>); 
     let read_records = etglavino::read_records_form(form, text, &mut octets, &mut records);
     let sheet = etglavino::read_form(1, b"(1:a)", &mut octets, &mut numbers).expect("a sheet");
     let replaced = etglavino::replace_form(form, text, &mut octets, &mut numbers, sheet, 1);
+    let sheet = etglavino::read_form(1, b"(1:a)", &mut octets, &mut numbers).expect("a sheet");
+    let slot = Slot { node: 0, k: 1 };
+    let inserted = etglavino::insert_form(form, text, &mut octets, &mut numbers, sheet, slot);
     let sheet =
         etglavino::read_records_form(1, b"(1:a)", &mut octets, &mut records).expect("a sheet");
     let replaced_records =
         etglavino::replace_records_form(form, text, &mut octets, &mut records, sheet, 1);
+    let sheet =
+        etglavino::read_records_form(1, b"(1:a)", &mut octets, &mut records).expect("a sheet");
+    let inserted_records =
+        etglavino::insert_records_form(form, text, &mut octets, &mut records, sheet, slot);
     [
         ("read", read),
         ("read records", read_records),
         ("replace", replaced),
         ("replace records", replaced_records),
+        ("insert", inserted),
+        ("insert records", inserted_records),
     ]
 }
