@@ -92,7 +92,7 @@ module _ (text scratch : List ℕ) (g : Braced text × Lent (length text) (lengt
 
   module _ (scratch′ : List ℕ) (len next : ℕ) (w : Decodes text (inside text) 1 0 scratch scratch′ len next) where
     pub brace-none : next ≡ 0 → (notes : List ℕ) → Taken (decode₂ rules text) 0 scratch′ notes notes (Refused 0)
-    brace-none z notes = taken-none (decode₂ rules text) 0 scratch′ notes notes (ap (decode₂ rules) rules text-is ∙ braces-none (drop 1 text) (w .none z))
+    brace-none z notes = taken-none (decode₂ rules text) 0 scratch′ notes notes (ap (decode₂ rules) text-is ∙ braces-none (drop 1 text) (w .none z))
 
     module _ (n : next ≡ 0 → ⊥) where
       told : Decoded text (inside text) 1 0 scratch scratch′ len next
@@ -101,7 +101,7 @@ module _ (text scratch : List ℕ) (g : Braced text × Lent (length text) (lengt
       pub brace-more : next < length text → (notes : List ℕ) → Taken (decode₂ rules text) 0 scratch′ notes notes (Refused 0)
       brace-more h notes =
           taken-none (decode₂ rules text) 0 scratch′ notes notes
-          (ap (decode₂ rules) rules text-is ∙ braces-more (drop 1 text) (told .octets) (drop next text) (told .reads) (getD text next 0) (drop (next + 1) text) (one-here text next h))
+          (ap (decode₂ rules) text-is ∙ braces-more (drop 1 text) (told .octets) (drop next text) (told .reads) (getD text next 0) (drop (next + 1) text) (one-here text next h))
 
       len-is : len ≡ length (told .octets)
       len-is = omega (arith, told .front .place)
@@ -120,7 +120,7 @@ module _ (text scratch : List ℕ) (g : Braced text × Lent (length text) (lengt
 
       module _ (h : length text ≤ next) (notes notes′ : List ℕ) (r : Extent) (v : Noted (take len scratch′) notes notes′ r) where
         meant : decode₂ rules text ≡ decode₁ (take len scratch′)
-        meant = ap (decode₂ rules) rules text-is ∙ braces-whole (drop 1 text) (told .octets) (drop next text) (told .reads) (drop-of-length-le text h) ∙ ap decode₁ (sym part-is)
+        meant = ap (decode₂ rules) text-is ∙ braces-whole (drop 1 text) (told .octets) (drop next text) (told .reads) (drop-of-length-le text h) ∙ ap decode₁ (sym part-is)
 
         taken-as : (r′ : Extent) → Measures (decode₂ rules text) r′ → ((q : ℕ) → r′ ≡ Refused q → q ≡ 0) → Taken (decode₂ rules text) 0 scratch′ notes notes′ r′
         taken-as r′ m f = through (decode₂ rules text) (take len scratch′) scratch′ notes notes′ r v brace-short meant 0 r′ m f (λ _. rw (← brace-part))
