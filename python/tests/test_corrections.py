@@ -41,7 +41,7 @@ class Corrections(unittest.TestCase):
         self.refused(9, insert_, Form.ADVANCED, b"x", 2, 3)
         self.refused(9, insert_, Form.ADVANCED, b"x", 2, -1)
         self.refused(9, insert_, Form.ADVANCED, b"x", 2, 2**80)
-        self.refused(4, insert_, Form.ADVANCED, 32 * b"(" + 32 * b")", 0, 0)
+        self.refused(4, insert_, Form.ADVANCED, 128 * b"(" + 128 * b")", 0, 0)
         self.refused(8, self.sheet.remove, 6)
         self.refused(9, self.sheet.remove, 0)
         self.refused(7, Sheet(b"0:", self.sheet.nodes).remove, 0)

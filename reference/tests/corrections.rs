@@ -91,7 +91,7 @@ fn refusals_of_an_insertion_come_in_order() {
     refuses_insertion(NO_PLACE, ADVANCED, b"x", 1, 0);
     refuses_insertion(NO_PLACE, ADVANCED, b"x", 0, 4);
     refuses_insertion(NO_PLACE, ADVANCED, b"x", 2, usize::MAX);
-    let deep = [vec![b'('; 32], vec![b')'; 32]].concat();
+    let deep = [vec![b'('; MAX_DEPTH], vec![b')'; MAX_DEPTH]].concat();
     refuses_insertion(NO_PLACE, ADVANCED, &deep, 1, 0);
     refuses_insertion(TOO_DEEP, ADVANCED, &deep, 0, 0);
 }

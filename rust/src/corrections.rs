@@ -111,10 +111,10 @@ pub struct Slot {
 /// use etglavino::{Form, Slot};
 ///
 /// let (mut canonical, mut table) = ([0; 64], [0; 64]);
-/// let week = etglavino::read(Form::Advanced, b"(week (mon 8))", &mut canonical, &mut table)?;
+/// let week = etglavino::read(Form::Advanced, b"(week (mon early))", &mut canonical, &mut table)?;
 /// let slot = Slot { node: 0, k: 2 };
-/// let more = etglavino::insert(Form::Advanced, b"(tue 7)", &mut canonical, &mut table, week, slot)?;
-/// assert_eq!(&canonical[..more.length], b"(4:week(3:mon1:8)(3:tue1:7))");
+/// let more = etglavino::insert(Form::Advanced, b"(tue late)", &mut canonical, &mut table, week, slot)?;
+/// assert_eq!(&canonical[..more.length], b"(4:week(3:mon5:early)(3:tue4:late))");
 ///
 /// let again = etglavino::remove(&mut canonical, &mut table, more, 5)?;
 /// assert_eq!(again, week);

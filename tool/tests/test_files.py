@@ -151,7 +151,10 @@ class Spool(Case):
         # Room for one more, and not for two: neither is added.
         two = ("spool", "add", "--size", "30", "desk", "list", "list")
         self.fails(1, b"desk, adding list: refused 6: ", *two)
-        self.gives(b"", "spool", "add", "desk", "list")
+        self.assertEqual((self.folder / "desk").stat().st_size, 20)
+        self.fails(1, b"none, adding list: refused 6: ", "spool", "add", "--size", "3", "none", "list")
+        self.assertFalse((self.folder / "none").exists())
+        self.gives(b"", "spool", "add", "--size", "30", "desk", "list")
         _, out, _ = self.run_tool("spool", "list", "desk")
         self.assertEqual(out.count(b"\n"), 2)
         self.file("bad", b"\x82\x00()")

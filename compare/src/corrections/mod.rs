@@ -1,7 +1,7 @@
 //! Elements put into lists and nodes removed, by the library over numbers and
 //! over records and by the reference program: at every place of every list of
-//! random sheets, with room just enough and one short, and with every two
-//! reasons to refuse at once.
+//! random sheets, with room just enough and one short, and with two reasons to
+//! refuse at once.
 
 mod call;
 

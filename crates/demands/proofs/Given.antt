@@ -104,7 +104,7 @@ module _ (canonical : List ℕ) (len : ℕ) (table : List ℕ) (count node : ℕ
           ap (λ (x : Option Tree). valueIn (typedRow canonical (rowOf (the x) node))) o
           ∙ ap valueIn (typed-at canonical len t (nodeAt t node) nil node here)
 
-      pub value-given : (v : Value) → Has v → valuing canonical len table count node ≡ record { accepted = true; number = 0; value = some v }
+      pub value-given : (v : Value) → Has v → valuing canonical len table count node ≡ record { accepted = true; number = 0; place = 0; value = some v }
       unfolding valuing valued
       value-given v w =
           a-node canonical len table count node _ _ _ t o h
@@ -144,7 +144,7 @@ module _ (canonical : List ℕ) (len : ℕ) (table : List ℕ) (count node : ℕ
       tree-is = ap the o
 
       pub line-given : (l : Line) (n : ℕ) → ShiftLine (nodeAt t node) l n
-          → lining canonical len table count node ≡ record { accepted = true; number = 0; line = some l; total = some (totalBy n) }
+          → lining canonical len table count node ≡ record { accepted = true; number = 0; place = 0; line = some l; total = some (totalBy n) }
       unfolding lining lined
       line-given l n w =
           let p = count-of-line canonical len t (nodeAt t node) nil node here l n w in

@@ -62,7 +62,7 @@ quarter-of n h =
     let w : Exactly n (hoursOf n) = quarter-exact n (omega arith) in
     record { bits = w; number = exact-value n (hoursOf n) h (ofBits-fits binary64 (quarterBits n)) w }
 
-pub total-given : (l : Line) (n : ℕ) → Quartered l n → totalling l ≡ record { accepted = true; number = 0; total = some (totalBy n) }
+pub total-given : (l : Line) (n : ℕ) → Quartered l n → totalling l ≡ record { accepted = true; number = 0; place = 0; total = some (totalBy n) }
 unfolding totalling totalOf judged verdict isNone
 total-given l n w = rw (quarters-is l n w)
 

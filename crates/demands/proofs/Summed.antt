@@ -73,7 +73,7 @@ module _ (canonical : List ℕ) (len : ℕ) (table : List ℕ) (count node : ℕ
             by-sum s (picked _ _ (eq-eqb _ _ (ap (λ (x : Row). x .kind) r)) ∙ g (rowOf t node .count) (node + rowOf t node .count) (omega arith) (omega arith))
 
         pub week-given : (n m : ℕ) → AllLines f n m
-            → summing canonical len table count node ≡ record { accepted = true; number = 0; lines = n; total = some (totalBy m); bad = 0 }
+            → summing canonical len table count node ≡ record { accepted = true; number = 0; place = 0; lines = n; total = some (totalBy m); bad = 0 }
         unfolding summedBy
         week-given n m w = by-elements (lines n m) (sums-lines canonical len t w (node + 1) inner)
 
@@ -99,7 +99,7 @@ module _ (canonical : List ℕ) (len : ℕ) (table : List ℕ) (count node : ℕ
         week-few : (n m : ℕ) → AllLines f n m → m < 2 ^ 28
         unfolding nodes
         week-few n m w =
-            let k : nodes t ≤ 4096 = own-of canonical len table count t o .sheet .fitting .many in
+            let k : nodes t ≤ 8192 = own-of canonical len table count t o .sheet .fitting .many in
             omega (arith, quarters-bound w, node-within t node within (list f) q)
 
         list-quarter : (s : Total) → summing canonical len table count node .total ≡ some s → QuarterOf s

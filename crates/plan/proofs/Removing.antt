@@ -79,7 +79,6 @@ module _ (canonical : List ℕ) (len : ℕ) (table : List ℕ) (count node : ℕ
             let w = own-lent canonical len table count t own in
             room-good _ _ _ (length canonical) (records table)
             (omega (arith, d, s .fitting .deep))
-            (omega (arith, m, s .fitting .many))
             (omega (arith, m, own .counted, w))
             (omega (arith, l, s .fitting .long))
             (omega (arith, l, s .size, s .lent))

@@ -82,28 +82,36 @@ fn add(given: &Given) -> Result<(), Problem> {
         .collect();
     let (sheets, name) = (sheets?, path.to_string_lossy());
     let failed = |error| Problem::spool(&name, error);
-    let mut spool = match Path::new(path).exists() {
-        true => SpoolFile::open(path).map_err(failed)?,
-        false => SpoolFile::create(path, size.unwrap_or(SIZE)).map_err(failed)?,
-    };
-    spool.grow(size.unwrap_or(0)).map_err(failed)?;
-    rehearsed(spool.area(), new, &sheets).map_err(|(file, refusal)| {
+    let refused = |(file, refusal): (&OsString, Refusal)| {
         let adding = format!("{name}, adding {}", files::name(Some(file)));
         Problem::Refused(adding, refusal)
-    })?;
+    };
+    // The file is made, or grows, only when nothing can be refused any more.
+    let mut spool = if Path::new(path).exists() {
+        let mut spool = SpoolFile::open(path).map_err(failed)?;
+        rehearsed(spool.area(), size.unwrap_or(0), new, &sheets).map_err(refused)?;
+        spool.grow(size.unwrap_or(0)).map_err(failed)?;
+        spool
+    } else {
+        let size = size.unwrap_or(SIZE);
+        rehearsed(&[], size, new, &sheets).map_err(refused)?;
+        SpoolFile::create(path, size).map_err(failed)?
+    };
     sheets
         .iter()
         .try_for_each(|sheet| spool.add(sheet.canonical()).map_err(failed))
 }
 
-/// Adds all sheets to a copy of the area: none is added to the file if one of
-/// them is refused.
+/// Adds all sheets to a copy of the area, grown to at least `size` octets: none is
+/// added to the file if one of them is refused.
 fn rehearsed<'a>(
     area: &[u8],
+    size: usize,
     files: &'a [OsString],
     sheets: &[OwnedSheet],
 ) -> Result<(), (&'a OsString, Refusal)> {
     let mut copy = area.to_vec();
+    copy.resize(size.max(area.len()), 0);
     for (file, sheet) in files.iter().zip(sheets) {
         let octets = sheet.canonical();
         etglavino::spool_add(&mut copy, octets, octets.len()).map_err(|why| (file, why))?;
