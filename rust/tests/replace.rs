@@ -3,7 +3,7 @@
 mod common;
 
 use common::*;
-use etglavino::{Extent, Form, Refusal, MAX_SOURCE, RECORD};
+use etglavino::{Extent, Form, Refusal, Slot, MAX_SOURCE, RECORD};
 
 #[test]
 fn document_01s_correction() {
@@ -88,6 +88,25 @@ fn the_lists_around_a_node_grow_with_it() {
     ];
     let expected = Sheet::exact(b"(1:a((2:dd))1:c)", &new).spare(2, 3);
     assert_eq!(sheet, expected);
+}
+
+#[test]
+fn an_insertion_tells_where_its_text_went_wrong() {
+    let (mut canonical, mut table) = ([0; 32], [0; 32]);
+    let sheet = etglavino::read_form(1, LIST, &mut canonical, &mut table).expect("a sheet");
+    let slot = Slot { node: 0, k: 1 };
+    for (form, text, place) in [
+        (1, &b"3:abcX"[..], 5),
+        (2, b"(3:ab", 5),
+        (2, b"{", 0),
+        (3, b"(", 0),
+    ] {
+        let told = etglavino::insert_form(form, text, &mut canonical, &mut table, sheet, slot);
+        assert_eq!(told, Err(Refusal::Syntax { place }));
+    }
+    let far = Slot { node: 9, k: 0 };
+    let told = etglavino::insert_form(1, b"1:x", &mut canonical, &mut table, sheet, far);
+    assert_eq!(told, Err(Refusal::NoNode));
 }
 
 #[test]

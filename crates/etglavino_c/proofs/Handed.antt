@@ -22,22 +22,6 @@ use Rattle.answers.specs.declared.Place.the-variants as place
 use Rattle.etglavino_c.specs.Pointers.{outcomeAt, outcomeOf, HandsReading, HandsPlaced, outputOf, flag, compared, comparedOf, shown, shownOf, HandsPlace}
 
 module _ (r : Reading) where
-  pub hand-accepted : (len count : ℕ) → r ≡ reading.Accepted len count → HandsReading r 0 len count
-  unfolding outcome
-  hand-accepted len count q = record { is = λ canonical table o e _ _. sym (ap (λ (r : Reading). outcome r canonical table) q) ∙ e }
-
-  pub hand-refused : (f : Refusal) → r ≡ reading.Refused f → HandsReading r (f .number) 0 0
-  unfolding outcome
-  hand-refused f q =
-      record {
-        is = λ canonical table o e n p.
-            let w : unchangedAt (f .number) (f .place) canonical table ≡ o = sym (ap (λ (r : Reading). outcome r canonical table) q) ∙ e in
-            let z : eqb (f .number) 0 ≡ false = ap (λ (o : Outcome). eqb (o .number) 0) w ∙ sym n ∙ sym (ap (λ (o : Outcome). o .accepted) w) in
-            let y : 0 ≡ f .place = sym (ap (λ (o : Outcome). o .place) w ∙ p) in
-            (λ i. record { accepted = z i; number = f .number; place = y i; octets = 0; count = 0; canonical = canonical; table = table }) ∙ w;
-      }
-
-  -- with its place
   pub placed-accepted : (len count : ℕ) → r ≡ reading.Accepted len count → HandsPlaced r 0 len count 0
   unfolding outcome
   placed-accepted len count q = record { is = λ canonical table o e _. sym (ap (λ (r : Reading). outcome r canonical table) q) ∙ e }
@@ -50,6 +34,16 @@ module _ (r : Reading) where
             let w : unchangedAt (f .number) (f .place) canonical table ≡ o = sym (ap (λ (r : Reading). outcome r canonical table) q) ∙ e in
             let z : eqb (f .number) 0 ≡ false = ap (λ (o : Outcome). eqb (o .number) 0) w ∙ sym n ∙ sym (ap (λ (o : Outcome). o .accepted) w) in
             (λ i. record { accepted = z i; number = f .number; place = f .place; octets = 0; count = 0; canonical = canonical; table = table }) ∙ w;
+      }
+
+  -- where none is told, it is 0
+  pub hand-unplaced : (n len count p : ℕ) → HandsPlaced r n len count p → HandsReading r n len count
+  hand-unplaced n len count p h =
+      record {
+        is = λ canonical table o e a z.
+            let w : outcomeAt n p len count canonical table ≡ o = h .is canonical table o e a in
+            let y : 0 ≡ p = sym (ap (λ (o : Outcome). o .place) w ∙ z) in
+            ap (λ (q : ℕ). outcomeAt n q len count canonical table) y ∙ w;
       }
 
   module _ (canonical table : List ℕ) (n len count p : ℕ) (h : HandsPlaced r n len count p) where

@@ -43,21 +43,8 @@ fn hand_placed(answer: Reading, length: &mut usize, nodes: &mut usize, place: &m
 fn hand_reading(answer: Reading, length: &mut usize, nodes: &mut usize) -> u32
     ensures { λ r. ⌜ HandsReading answer r (now (length .exit)) (now (nodes .exit)) ⌝ }
 {
-    match answer {
-        Reading::Accepted {
-            length: len,
-            nodes: count,
-        } => {
-            *length = len;
-            *nodes = count;
-            0
-        }
-        Reading::Refused { refusal } => {
-            *length = 0;
-            *nodes = 0;
-            refusal.number
-        }
-    }
+    let mut place: usize = 0;
+    hand_placed(answer, length, nodes, &mut place)
 }
 
 // A place: 1, where it starts and where it ends; or 0.
