@@ -78,7 +78,7 @@ static int untouched(const void *lent, size_t size)
 struct sheet {
     uint8_t *octets;
     uint32_t *table;
-    size_t length, nodes;
+    size_t length, nodes, place;
 };
 
 #define TABLE_ROOM (ETG_MOST_NODES * ETG_RECORD)
@@ -89,7 +89,7 @@ static uint32_t read_to(struct sheet *sheet, int octets, int table, uint32_t for
     sheet->octets = room(octets, ETG_MOST_CANONICAL, 1, at_end);
     sheet->table = room(table, TABLE_ROOM, sizeof(uint32_t), at_end);
     return etg_read(form, text, size, sheet->octets, ETG_MOST_CANONICAL, sheet->table, TABLE_ROOM,
-                    &sheet->length, &sheet->nodes);
+                    &sheet->length, &sheet->nodes, &sheet->place);
 }
 
 static int alike(const struct sheet *a, const struct sheet *b)
@@ -104,12 +104,13 @@ static void read_small(uint32_t form, const uint8_t *text, size_t size, size_t o
 {
     uint8_t *canonical = room(OTHER, octets, 1, at_end);
     struct etg_record *rows = room(RECORDS, records, sizeof *rows, at_end);
-    size_t length = 1, nodes = 1;
-    uint32_t answer = etg_read_records(form, text, size, canonical, octets, rows, records, &length, &nodes);
+    size_t length = 1, nodes = 1, place = 1;
+    uint32_t answer = etg_read_records(form, text, size, canonical, octets, rows, records, &length, &nodes, &place);
 
     saw(1, answer, nodes);
     HOLDS(answer <= ETG_SIZE && length <= octets && nodes <= records);
     HOLDS(answer == ETG_ACCEPTED || (length == 0 && nodes == 0));
+    HOLDS(place <= size && (place == 0 || (answer == ETG_SYNTAX && form != ETG_ADVANCED)));
     HOLDS(untouched(canonical + length, octets - length));
     HOLDS(untouched(rows + nodes, (records - nodes) * sizeof *rows));
 }
@@ -139,7 +140,7 @@ static void written(const struct sheet *sheet, int at_end)
 static void extracted(const struct sheet *sheet, int at_end)
 {
     struct sheet extract = {room(OTHER, sheet->length, 1, at_end),
-                            room(OTHER_TABLE, sheet->nodes * ETG_RECORD, sizeof(uint32_t), at_end), 0, 0};
+                            room(OTHER_TABLE, sheet->nodes * ETG_RECORD, sizeof(uint32_t), at_end), 0, 0, 0};
     uint8_t *out = room(OUT, sheet->length, 1, at_end);
     uint32_t *rows = room(RECORDS, sheet->nodes * ETG_RECORD, sizeof(uint32_t), at_end);
     size_t length, nodes;
@@ -186,9 +187,9 @@ static void valued(const struct sheet *sheet)
 static void replaced(struct sheet *sheet, uint32_t form, const uint8_t *text, size_t size, size_t node, int at_end)
 {
     struct sheet afresh;
-    size_t length, nodes;
+    size_t length, nodes, place;
     uint32_t answer = etg_replace(form, text, size, sheet->octets, ETG_MOST_CANONICAL, sheet->table, TABLE_ROOM,
-                                  sheet->length, sheet->nodes, node, &length, &nodes);
+                                  sheet->length, sheet->nodes, node, &length, &nodes, &place);
 
     saw(7, answer, nodes);
     if (answer != ETG_ACCEPTED) {

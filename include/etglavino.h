@@ -144,12 +144,16 @@ const char *etg_refusal_text(uint32_t number);
  * Refusals, the first that applies: 1, 2, 3, 4, 5, 6. `table_room` counts
  * numbers; a remainder of a division by 8 is never written.
  * On acceptance `*length` and `*nodes` tell the sheet's length and its node
- * count; octets and records past them stay as they were. */
+ * count; octets and records past them stay as they were.
+ * With refusal 3 in form 1, and in form 2 where the text does not begin with
+ * `{`, `*place` tells how many octets of the text begin some canonical form, of
+ * any size: the octet at that place is the first that is wrong, or the text is
+ * cut short there. In all other cases it is 0. */
 uint32_t etg_read(uint32_t form,
                   const uint8_t *source, size_t source_len,
                   uint8_t *canonical, size_t canonical_room,
                   uint32_t *table, size_t table_room,
-                  size_t *length, size_t *nodes);
+                  size_t *length, size_t *nodes, size_t *place);
 
 /* Writes a sheet in `form` to `out`.
  *
@@ -167,13 +171,14 @@ uint32_t etg_write(uint32_t form,
  * Refusals: 1, 2, 3, 7, 8, 4, 5, 6, where 4 to 6 speak of the tree with the
  * node replaced. On acceptance sheet and table are what reading the corrected
  * sheet afresh would give. Octets and records between the new end and a larger
- * old one become 0; past both nothing changes. */
+ * old one become 0; past both nothing changes. `*place` is a place in `text`, as
+ * etg_read tells it. */
 uint32_t etg_replace(uint32_t form,
                      const uint8_t *text, size_t text_len,
                      uint8_t *canonical, size_t canonical_room,
                      uint32_t *table, size_t table_room,
                      size_t length, size_t nodes, size_t node,
-                     size_t *new_length, size_t *new_nodes);
+                     size_t *new_length, size_t *new_nodes, size_t *place);
 
 /* Puts the tree of `text` into the list that node `node` of a sheet is, as its
  * element `k`, counted from 0, in place. The list's element count as `k` puts it
@@ -181,13 +186,14 @@ uint32_t etg_replace(uint32_t form,
  *
  * Refusals: 1, 2, 3, 7, 8, 9, 4, 5, 6, where 4 to 6 speak of the tree with the
  * element in it. On acceptance sheet and table are what reading the changed
- * sheet afresh would give; past them nothing changes. */
+ * sheet afresh would give; past them nothing changes. `*place` is a place in
+ * `text`, as etg_read tells it. */
 uint32_t etg_insert(uint32_t form,
                     const uint8_t *text, size_t text_len,
                     uint8_t *canonical, size_t canonical_room,
                     uint32_t *table, size_t table_room,
                     size_t length, size_t nodes, size_t node, size_t k,
-                    size_t *new_length, size_t *new_nodes);
+                    size_t *new_length, size_t *new_nodes, size_t *place);
 
 /* Removes node `node` of a sheet, which is any but node 0, with all that is in
  * it, in place.
@@ -232,7 +238,7 @@ uint32_t etg_read_records(uint32_t form,
                           const uint8_t *source, size_t source_len,
                           uint8_t *canonical, size_t canonical_room,
                           struct etg_record *records, size_t record_room,
-                          size_t *length, size_t *nodes);
+                          size_t *length, size_t *nodes, size_t *place);
 
 /* etg_replace with the table lent as records.
  *
@@ -244,7 +250,7 @@ uint32_t etg_replace_records(uint32_t form,
                              uint8_t *canonical, size_t canonical_room,
                              struct etg_record *records, size_t record_room,
                              size_t length, size_t nodes, size_t node,
-                             size_t *new_length, size_t *new_nodes);
+                             size_t *new_length, size_t *new_nodes, size_t *place);
 
 /* etg_insert and etg_remove with the table lent as records; `record_room` counts
  * records. A refusal changes no record. */
@@ -253,7 +259,7 @@ uint32_t etg_insert_records(uint32_t form,
                             uint8_t *canonical, size_t canonical_room,
                             struct etg_record *records, size_t record_room,
                             size_t length, size_t nodes, size_t node, size_t k,
-                            size_t *new_length, size_t *new_nodes);
+                            size_t *new_length, size_t *new_nodes, size_t *place);
 
 uint32_t etg_remove_records(uint8_t *canonical, size_t canonical_room,
                             struct etg_record *records, size_t record_room,

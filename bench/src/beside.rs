@@ -22,6 +22,7 @@ type Read = unsafe extern "C" fn(
     usize,
     *mut usize,
     *mut usize,
+    *mut usize,
 ) -> u32;
 
 extern "C" {
@@ -35,6 +36,7 @@ extern "C" {
         table_room: usize,
         length: *mut usize,
         nodes: *mut usize,
+        place: *mut usize,
     ) -> u32;
 }
 
@@ -80,7 +82,7 @@ fn measure(text: &Text, other: Read) {
 /// The answer's number.
 fn call(read: Read, text: &Text, canonical: &mut [u8], table: &mut [u32]) -> u32 {
     let source = black_box(&text.source);
-    let (mut length, mut nodes) = (0, 0);
+    let (mut length, mut nodes, mut place) = (0, 0, 0);
     // SAFETY: each pointer comes with its length.
     let number = unsafe {
         read(
@@ -93,6 +95,7 @@ fn call(read: Read, text: &Text, canonical: &mut [u8], table: &mut [u32]) -> u32
             table.len(),
             &mut length,
             &mut nodes,
+            &mut place,
         )
     };
     black_box(number)

@@ -63,7 +63,7 @@ static int foreman(size_t length, size_t nodes)
 
 int main(int argc, char **argv)
 {
-    size_t length, nodes, node, start, end, written;
+    size_t length, nodes, place, node, start, end, written;
     uint32_t number;
 
     if (argc != 4) {
@@ -74,7 +74,7 @@ int main(int argc, char **argv)
 
     number = etg_read(ETG_ADVANCED, (const uint8_t *)argv[1], strlen(argv[1]),
                       canonical, sizeof canonical,
-                      table, sizeof table / sizeof *table, &length, &nodes);
+                      table, sizeof table / sizeof *table, &length, &nodes, &place);
     if (number != ETG_ACCEPTED)
         return refused("read", number);
     show("sheet", canonical, length);
@@ -86,7 +86,7 @@ int main(int argc, char **argv)
     number = etg_replace(ETG_ADVANCED, (const uint8_t *)argv[3], strlen(argv[3]),
                          canonical, sizeof canonical,
                          table, sizeof table / sizeof *table,
-                         length, nodes, node, &length, &nodes);
+                         length, nodes, node, &length, &nodes, &place);
     if (number != ETG_ACCEPTED)
         return refused("replace", number);
     show("corrected", canonical, length);

@@ -133,7 +133,7 @@ int main(int argc, char **argv)
 {
     /* Static, so that what lies between fields is 0 in both. */
     static struct answers one, other;
-    size_t length, nodes, node;
+    size_t length, nodes, place, node;
     const uint8_t *text;
 
     if (argc != 2) {
@@ -142,9 +142,9 @@ int main(int argc, char **argv)
     }
     text = (const uint8_t *)argv[1];
     if (etg_read(ETG_ADVANCED, text, strlen(argv[1]), canonical, sizeof canonical,
-                 table, NUMBERS, &length, &nodes) != ETG_ACCEPTED
+                 table, NUMBERS, &length, &nodes, &place) != ETG_ACCEPTED
         || etg_read_records(ETG_ADVANCED, text, strlen(argv[1]), canonical, sizeof canonical,
-                            records, ETG_MOST_NODES, &length, &nodes) != ETG_ACCEPTED) {
+                            records, ETG_MOST_NODES, &length, &nodes, &place) != ETG_ACCEPTED) {
         printf("read: refused\n");
         return 1;
     }

@@ -29,14 +29,14 @@ static uint32_t add(const uint8_t *sheet, size_t length)
 
 int main(int argc, char **argv)
 {
-    size_t length, nodes, count, start, end, number;
+    size_t length, nodes, place, count, start, end, number;
     uint32_t refusal;
     int i;
 
     for (i = 1; i < argc; i++) {
         refusal = etg_read(ETG_ADVANCED, (const uint8_t *)argv[i], strlen(argv[i]),
                            canonical, sizeof canonical,
-                           table, sizeof table / sizeof *table, &length, &nodes);
+                           table, sizeof table / sizeof *table, &length, &nodes, &place);
         if (refusal == ETG_ACCEPTED)
             refusal = add(canonical, length);
         if (refusal != ETG_ACCEPTED)

@@ -40,9 +40,12 @@ class Form(IntEnum):
     """What people write."""
 
 
-class Refusal(Exception):
+class Refusal(ValueError):
     """Something was refused. `number` is the one that every interface of the
-    library gives it; `sentence` says what is wrong."""
+    library gives it; `sentence` says what is wrong. `place` is, with number 3 in
+    the canonical form, and in the basic form where the text does not begin with
+    `{`, how many octets of the text begin some canonical form, of any size; else
+    it is 0."""
 
     SENTENCES: ClassVar[dict[int, str]] = {
         1: "the form is not 1, 2 or 3",
@@ -60,9 +63,10 @@ class Refusal(Exception):
     }
     """Sentences by number."""
 
-    def __init__(self, number: int) -> None:
-        super().__init__(number)
+    def __init__(self, number: int, place: int = 0) -> None:
+        super().__init__(number, place)
         self.number = number
+        self.place = place
         self.sentence = self.SENTENCES[number]
 
     def __str__(self) -> str:
@@ -84,12 +88,12 @@ def table_of(numbers: Sequence[int]) -> Table:
 def read(form: int, source: bytes) -> tuple[bytes, Table]:
     """Canonical octets of a text and their table."""
     canonical, table = _room(3 * len(source))
-    length, nodes = ctypes.c_size_t(), ctypes.c_size_t()
+    length, nodes, place = ctypes.c_size_t(), ctypes.c_size_t(), ctypes.c_size_t()
     number = load().etg_read(
         _form(form), source, len(source), canonical, len(canonical),
-        table, len(table), length, nodes,
+        table, len(table), length, nodes, place,
     )  # fmt: skip
-    check(number)
+    check(number, place.value)
     return _taken(canonical, length, table, nodes)
 
 
@@ -129,18 +133,18 @@ def remove(canonical: bytes, table: Table, node: int) -> tuple[bytes, Table]:
 
 
 def _changed(
-    call: Any, text: list[Any], more: int, canonical: bytes, table: Table, place: list[int]
+    call: Any, text: list[Any], more: int, canonical: bytes, table: Table, where: list[int]
 ) -> tuple[bytes, Table]:
-    """A copy of the sheet changed, in room for so many octets more."""
+    """A copy of the sheet changed, in room for so many octets more. Only what has a text tells a place."""
     octets, numbers = _room(len(canonical) + more, len(canonical), len(table))
     ctypes.memmove(octets, canonical, len(canonical))
     ctypes.memmove(numbers, table, ctypes.sizeof(table))
-    length, nodes = ctypes.c_size_t(), ctypes.c_size_t()
+    length, nodes, told = ctypes.c_size_t(), ctypes.c_size_t(), ctypes.c_size_t()
     number = call(
-        *text, octets, len(octets), numbers, len(numbers),
-        len(canonical), len(table) // RECORD, *map(count_of, place), length, nodes,
+        *text, octets, len(octets), numbers, len(numbers), len(canonical), len(table) // RECORD,
+        *map(count_of, where), length, nodes, *([told] if text else []),
     )  # fmt: skip
-    check(number)
+    check(number, told.value)
     return _taken(octets, length, numbers, nodes)
 
 
@@ -189,10 +193,10 @@ def _taken(canonical: Any, length: Any, table: Any, nodes: Any) -> tuple[bytes, 
     return canonical.raw[: length.value], records
 
 
-def check(number: int) -> None:
-    """Raises what a number refuses."""
+def check(number: int, place: int = 0) -> None:
+    """Raises what a number refuses, with the place that was told."""
     if number != 0:
-        raise Refusal(number)
+        raise Refusal(number, place)
 
 
 def _form(form: int) -> int:

@@ -81,10 +81,10 @@ def _declare(library: ctypes.CDLL) -> None:
     numbers, out = ctypes.POINTER(ctypes.c_uint32), ctypes.POINTER(ctypes.c_size_t)
     sheet, table = [octets, count], [numbers, count]
     functions = {
-        "etg_read": [number, *sheet, *sheet, *table, out, out],
+        "etg_read": [number, *sheet, *sheet, *table, out, out, out],
         "etg_write": [number, *sheet, count, *sheet, out],
-        "etg_replace": [number, *sheet, *sheet, *table, count, count, count, out, out],
-        "etg_insert": [number, *sheet, *sheet, *table, count, count, count, count, out, out],
+        "etg_replace": [number, *sheet, *sheet, *table, count, count, count, out, out, out],
+        "etg_insert": [number, *sheet, *sheet, *table, count, count, count, count, out, out, out],
         "etg_remove": [*sheet, *table, count, count, count, out, out],
         "etg_same": [*sheet, count, *sheet, count, *sheet, numbers],
         "etg_hint": [*sheet, count, *table, count, count, out, out],

@@ -32,6 +32,24 @@ class Corrections(unittest.TestCase):
         again = remove(changed, 2)
         self.assertEqual((again, again.nodes), (self.sheet, self.sheet.nodes))
 
+    def test_where_the_text_went_wrong(self) -> None:
+        for call in (
+            lambda form, text: self.sheet.insert(form, text, 0, 1),
+            lambda form, text: self.sheet.replace(form, text, 1),
+        ):
+            for form, text, place in (
+                (Form.CANONICAL, b"3:abcX", 5),
+                (Form.BASIC, b"(3:ab", 5),
+                (Form.BASIC, b"{", 0),
+                (Form.ADVANCED, b"(", 0),
+            ):
+                with self.assertRaises(Refusal) as caught:
+                    call(form, text)
+                self.assertEqual((caught.exception.number, caught.exception.place), (3, place))
+        with self.assertRaises(Refusal) as caught:
+            self.sheet.insert(Form.CANONICAL, b"1:x", 6, 0)
+        self.assertEqual((caught.exception.number, caught.exception.place), (8, 0))
+
     def test_refusals_in_order(self) -> None:
         insert_ = self.sheet.insert
         self.refused(1, insert_, 9, b"(", 9, 9)

@@ -48,6 +48,30 @@ class Read(unittest.TestCase):
         self.refused(3, Form.CANONICAL, b"{KCk=}")
         self.refused(3, Form.BASIC, b"{K}")
 
+    def test_where_it_went_wrong(self) -> None:
+        for source, place in (
+            (b"3:abcX", 5),
+            (b"03:", 1),
+            (b"(3:ab", 5),
+            (b"99999999999999999999:a", 22),
+            (b"[1:xx", 4),
+            (b"[1:x](", 5),
+            (b"()()", 2),
+            (b"(" * 1000, 1000),
+            (b"", 0),
+        ):
+            for form, told in ((1, place), (2, place), (3, 0)):
+                try:
+                    read(form, source)
+                except ValueError as refusal:
+                    assert isinstance(refusal, Refusal)
+                    self.assertEqual((refusal.number, refusal.place), (3, told), source[:40])
+                else:
+                    self.fail(source[:40])
+        with self.assertRaises(Refusal) as caught:
+            read(Form.BASIC, b"{KCk=")
+        self.assertEqual(caught.exception.place, 0)
+
     def test_each_limit_and_one_past_it(self) -> None:
         for most in (nested(128), empties(8_191), verbatim(16_378)):
             self.assertEqual(read(1, most).canonical, most)

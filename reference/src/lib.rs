@@ -19,6 +19,7 @@ pub mod extract;
 pub mod lexeme;
 pub mod limits;
 pub mod output;
+pub mod place;
 pub mod run;
 pub mod spool;
 pub mod tree;

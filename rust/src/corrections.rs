@@ -18,6 +18,7 @@ type Insert<T> = unsafe extern "C" fn(
     k: usize,
     new_length: *mut usize,
     new_nodes: *mut usize,
+    place: *mut usize,
 ) -> u32;
 
 /// What `etg_remove` is, over a table of `T`.
@@ -48,6 +49,7 @@ extern "C" {
         k: usize,
         new_length: *mut usize,
         new_nodes: *mut usize,
+        place: *mut usize,
     ) -> u32;
 
     fn etg_remove(
@@ -76,6 +78,7 @@ extern "C" {
         k: usize,
         new_length: *mut usize,
         new_nodes: *mut usize,
+        place: *mut usize,
     ) -> u32;
 
     fn etg_remove_records(
@@ -227,7 +230,7 @@ fn inserted<T>(
     sheet: Extent,
     slot: Slot,
 ) -> Result<Extent, Refusal> {
-    let mut extent = Extent::default();
+    let (mut extent, mut place) = (Extent::default(), 0);
     // SAFETY: as in `table::read`.
     let number = unsafe {
         call(
@@ -244,9 +247,10 @@ fn inserted<T>(
             slot.k,
             &mut extent.length,
             &mut extent.nodes,
+            &mut place,
         )
     };
-    Refusal::check(number, extent)
+    Refusal::check_at(number, place, extent)
 }
 
 fn removed<T>(

@@ -14,6 +14,7 @@ pub type Read<T> = unsafe extern "C" fn(
     table_room: usize,
     length: *mut usize,
     nodes: *mut usize,
+    place: *mut usize,
 ) -> u32;
 
 /// What `etg_replace` is, over a table of `T`.
@@ -30,6 +31,7 @@ pub type Replace<T> = unsafe extern "C" fn(
     node: usize,
     new_length: *mut usize,
     new_nodes: *mut usize,
+    place: *mut usize,
 ) -> u32;
 
 /// What `etg_hint` and `etg_data` are, over a table of `T`.
@@ -56,6 +58,7 @@ extern "C" {
         table_room: usize,
         length: *mut usize,
         nodes: *mut usize,
+        place: *mut usize,
     ) -> u32;
 
     pub fn etg_write(
@@ -81,6 +84,7 @@ extern "C" {
         node: usize,
         new_length: *mut usize,
         new_nodes: *mut usize,
+        place: *mut usize,
     ) -> u32;
 
     pub fn etg_same(
@@ -129,6 +133,7 @@ extern "C" {
         record_room: usize,
         length: *mut usize,
         nodes: *mut usize,
+        place: *mut usize,
     ) -> u32;
 
     pub fn etg_replace_records(
@@ -144,6 +149,7 @@ extern "C" {
         node: usize,
         new_length: *mut usize,
         new_nodes: *mut usize,
+        place: *mut usize,
     ) -> u32;
 
     pub fn etg_hint_records(

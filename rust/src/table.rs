@@ -9,7 +9,7 @@ pub fn read<T>(
     canonical: &mut [u8],
     table: &mut [T],
 ) -> Result<Extent, Refusal> {
-    let mut extent = Extent::default();
+    let (mut extent, mut place) = (Extent::default(), 0);
     // SAFETY: each pointer comes with its slice's own length; what is written
     // to is borrowed mutably, so nothing overlaps.
     let number = unsafe {
@@ -23,9 +23,10 @@ pub fn read<T>(
             table.len(),
             &mut extent.length,
             &mut extent.nodes,
+            &mut place,
         )
     };
-    Refusal::check(number, extent)
+    Refusal::check_at(number, place, extent)
 }
 
 pub fn replace<T>(
@@ -37,7 +38,7 @@ pub fn replace<T>(
     sheet: Extent,
     node: usize,
 ) -> Result<Extent, Refusal> {
-    let mut extent = Extent::default();
+    let (mut extent, mut place) = (Extent::default(), 0);
     // SAFETY: as in `read`.
     let number = unsafe {
         call(
@@ -53,9 +54,10 @@ pub fn replace<T>(
             node,
             &mut extent.length,
             &mut extent.nodes,
+            &mut place,
         )
     };
-    Refusal::check(number, extent)
+    Refusal::check_at(number, place, extent)
 }
 
 pub fn part<T>(

@@ -47,10 +47,10 @@ fn forms_by_name_are_forms_by_number() {
         assert_eq!((&table[..24], table[24]), (&LIST_TABLE[..], NUMBER));
     }
     // Only one of the three takes each of these.
-    assert_eq!(canonical(1, b"{KCk=}"), Err(Refusal::Syntax));
-    assert_eq!(canonical(3, b"{KCk=}"), Err(Refusal::Syntax));
-    assert_eq!(canonical(1, b"( )"), Err(Refusal::Syntax));
-    assert_eq!(canonical(2, b"( )"), Err(Refusal::Syntax));
+    assert_eq!(canonical(1, b"{KCk=}"), Err(Refusal::Syntax { place: 0 }));
+    assert_eq!(canonical(3, b"{KCk=}"), Err(Refusal::Syntax { place: 0 }));
+    assert_eq!(canonical(1, b"( )"), Err(Refusal::Syntax { place: 1 }));
+    assert_eq!(canonical(2, b"( )"), Err(Refusal::Syntax { place: 1 }));
     assert_eq!(canonical(3, b"( )"), Ok(b"()".to_vec()));
 }
 
@@ -94,13 +94,23 @@ fn not_in_the_language() {
     ];
     for source in advanced {
         let shown = String::from_utf8_lossy(source);
-        assert_eq!(canonical(3, source), Err(Refusal::Syntax), "{shown}");
+        assert_eq!(
+            canonical(3, source),
+            Err(Refusal::Syntax { place: 0 }),
+            "{shown}"
+        );
     }
-    for source in [&b"3:abc\n"[..], b"4294967299:abc", b"abc", b""] {
-        assert_eq!(canonical(1, source), Err(Refusal::Syntax));
+    for (source, place) in [
+        (&b"3:abc\n"[..], 5),
+        (b"4294967299:abc", 14),
+        (b"abc", 0),
+        (b"", 0),
+    ] {
+        assert_eq!(canonical(1, source), Err(Refusal::Syntax { place }));
+        assert_eq!(canonical(2, source), Err(Refusal::Syntax { place }));
     }
     for source in [&b"{}"[..], b"{K}", b"{KCk=} ", b"{YWJj}", b""] {
-        assert_eq!(canonical(2, source), Err(Refusal::Syntax));
+        assert_eq!(canonical(2, source), Err(Refusal::Syntax { place: 0 }));
     }
 }
 
@@ -142,11 +152,11 @@ fn the_first_refusal_that_applies() {
     }
     assert_eq!(read(1, &long), Err(Refusal::SourceSize));
     // 129 opened and none closed; too many nodes, too many octets, no end.
-    assert_eq!(read(1, &[b'('; 129]), Err(Refusal::Syntax));
+    assert_eq!(read(1, &[b'('; 129]), Err(Refusal::Syntax { place: 129 }));
     let open = &empties(8_192)[..16_385];
-    assert_eq!(read(1, open), Err(Refusal::Syntax));
+    assert_eq!(read(1, open), Err(Refusal::Syntax { place: 16_385 }));
     let open = [b"(", &verbatim(16_379)[..]].concat();
-    assert_eq!(read(1, &open), Err(Refusal::Syntax));
+    assert_eq!(read(1, &open), Err(Refusal::Syntax { place: open.len() }));
     // Too deep with too few records; too many nodes with too little room.
     assert_eq!(read_in(1, &nested(129), 99, 128 * 8), Err(Refusal::Depth));
     assert_eq!(read_in(1, LIST, 13, 23), Err(Refusal::Nodes));

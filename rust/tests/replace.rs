@@ -3,7 +3,7 @@
 mod common;
 
 use common::*;
-use etglavino::{Extent, Form, Refusal, MAX_SOURCE, RECORD};
+use etglavino::{Extent, Form, Refusal, Slot, MAX_SOURCE, RECORD};
 
 #[test]
 fn document_01s_correction() {
@@ -91,6 +91,25 @@ fn the_lists_around_a_node_grow_with_it() {
 }
 
 #[test]
+fn an_insertion_tells_where_its_text_went_wrong() {
+    let (mut canonical, mut table) = ([0; 32], [0; 32]);
+    let sheet = etglavino::read_form(1, LIST, &mut canonical, &mut table).expect("a sheet");
+    let slot = Slot { node: 0, k: 1 };
+    for (form, text, place) in [
+        (1, &b"3:abcX"[..], 5),
+        (2, b"(3:ab", 5),
+        (2, b"{", 0),
+        (3, b"(", 0),
+    ] {
+        let told = etglavino::insert_form(form, text, &mut canonical, &mut table, sheet, slot);
+        assert_eq!(told, Err(Refusal::Syntax { place }));
+    }
+    let far = Slot { node: 9, k: 0 };
+    let told = etglavino::insert_form(1, b"1:x", &mut canonical, &mut table, sheet, far);
+    assert_eq!(told, Err(Refusal::NoNode));
+}
+
+#[test]
 fn each_refusal() {
     let replaced = |form, text: &[u8], node| Sheet::list().replace(form, text, node);
     for form in [0, 4, u32::MAX] {
@@ -98,8 +117,9 @@ fn each_refusal() {
     }
     let long = padded(b"hi", MAX_SOURCE + 1);
     assert_eq!(replaced(3, &long, 1), Err(Refusal::SourceSize));
-    assert_eq!(replaced(1, b"hi", 1), Err(Refusal::Syntax));
-    assert_eq!(replaced(3, b"", 1), Err(Refusal::Syntax));
+    assert_eq!(replaced(1, b"hi", 1), Err(Refusal::Syntax { place: 0 }));
+    assert_eq!(replaced(1, b"3:abcX", 1), Err(Refusal::Syntax { place: 5 }));
+    assert_eq!(replaced(3, b"", 1), Err(Refusal::Syntax { place: 0 }));
     for node in [3, 4, usize::MAX] {
         assert_eq!(replaced(3, b"hi", node), Err(Refusal::NoNode));
     }
@@ -161,7 +181,7 @@ fn the_first_refusal_that_applies() {
     let long = padded(b"(", MAX_SOURCE + 1);
     assert_eq!(bad.replace(9, &long, 9), Err(Refusal::Form));
     assert_eq!(bad.replace(3, &long, 9), Err(Refusal::SourceSize));
-    assert_eq!(bad.replace(3, b"(", 9), Err(Refusal::Syntax));
+    assert_eq!(bad.replace(3, b"(", 9), Err(Refusal::Syntax { place: 0 }));
     assert_eq!(bad.replace(3, b"()", 9), Err(Refusal::NotOwn));
     let mut tight = Sheet::exact(LIST, &LIST_TABLE);
     assert_eq!(tight.replace(1, &nested(128), 9), Err(Refusal::NoNode));

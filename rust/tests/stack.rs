@@ -156,7 +156,7 @@ fn bad_texts() -> Vec<(u32, Vec<u8>, Refusal)> {
     let canonical = |size: usize| {
         let strings = (size - 2) / 2;
         [
-            (vec![b'('; size], Refusal::Syntax),
+            (vec![b'('; size], Refusal::Syntax { place: 0 }),
             (nested(size / 2), Refusal::Depth),
             (empties(strings), Refusal::Nodes),
             (verbatim(size - 6), Refusal::Size),
@@ -168,6 +168,10 @@ fn bad_texts() -> Vec<(u32, Vec<u8>, Refusal)> {
     ];
     for (text, refusal) in canonical(MAX_SOURCE) {
         for form in [1, 2, 3] {
+            let refusal = match refusal {
+                Refusal::Syntax { .. } if form < 3 => Refusal::Syntax { place: text.len() },
+                other => other,
+            };
             texts.push((form, text.clone(), refusal));
         }
     }
@@ -177,7 +181,7 @@ fn bad_texts() -> Vec<(u32, Vec<u8>, Refusal)> {
     for (mark, inner) in [("\"", "a"), ("\"", "\\\\"), ("#", "61"), ("|", "YWFh")] {
         let count = (MAX_SOURCE - 2) / inner.len();
         let open = format!("{mark}{}", inner.repeat(count));
-        texts.push((3, open.clone().into_bytes(), Refusal::Syntax));
+        texts.push((3, open.clone().into_bytes(), Refusal::Syntax { place: 0 }));
         texts.push((3, (open + mark).into_bytes(), Refusal::Size));
     }
     texts.push((3, vec![b'a'; MAX_SOURCE], Refusal::Size));

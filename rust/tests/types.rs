@@ -8,7 +8,7 @@ use etglavino::{Extent, Form, Refusal};
 const REFUSALS: [Refusal; 8] = [
     Refusal::Form,
     Refusal::SourceSize,
-    Refusal::Syntax,
+    Refusal::Syntax { place: 0 },
     Refusal::Depth,
     Refusal::Nodes,
     Refusal::Size,
@@ -33,7 +33,7 @@ fn a_refusal_is_an_error() {
         Ok(etglavino::read(Form::Advanced, b"(", &mut [], &mut [])?)
     }
     let error = fails().expect_err("an open list");
-    assert_eq!(error.downcast_ref(), Some(&Refusal::Syntax));
+    assert_eq!(error.downcast_ref(), Some(&Refusal::Syntax { place: 0 }));
 }
 
 #[test]

@@ -65,7 +65,7 @@ pub fn take(given: &Given, file: Option<&OsStr>) -> Result<Taken, Problem> {
             sheet,
             name: name(file),
         }),
-        Err(refusal) => Err(Problem::Refused(name(file), refusal)),
+        Err(refusal) => Err(Problem::text(name(file), refusal, form, &source)),
     }
 }
 

@@ -8,6 +8,7 @@ mod files;
 mod html;
 mod many;
 mod nodes;
+mod place;
 mod problem;
 
 use std::env;

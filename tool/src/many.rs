@@ -27,8 +27,8 @@ pub fn each(
     let (mut refused, mut unread) = (0, 0);
     for problem in answers.iter().filter_map(|answer| answer.as_ref().err()) {
         problem.tell();
-        match problem {
-            Problem::Refused(..) => refused += 1,
+        match problem.status() {
+            1 => refused += 1,
             _ => unread += 1,
         }
     }

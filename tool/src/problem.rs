@@ -3,7 +3,9 @@
 use std::fmt;
 use std::io::{self, ErrorKind, Write};
 
-use etglavino::{Refusal, SpoolError};
+use etglavino::{Form, Refusal, SpoolError};
+
+use crate::place;
 
 /// Why a command did not do what it was asked for.
 #[derive(Debug)]
@@ -16,6 +18,9 @@ pub enum Problem {
     Output(io::Error),
     /// The library refused something, by its name.
     Refused(String, Refusal),
+    /// The library refused a text, by its name, and told where: the line with a
+    /// caret.
+    Syntax(String, Refusal, String),
     /// All has been told already, and this is the status.
     Told(u8),
 }
@@ -24,7 +29,7 @@ impl Problem {
     /// 1 for a refusal, 2 for wrong use and files.
     pub fn status(&self) -> u8 {
         match self {
-            Problem::Refused(..) => 1,
+            Problem::Refused(..) | Problem::Syntax(..) => 1,
             Problem::Told(status) => *status,
             Problem::Usage(_) | Problem::File(..) | Problem::Output(_) => 2,
         }
@@ -36,6 +41,16 @@ impl Problem {
             Problem::Told(_) => (),
             Problem::Output(error) if error.kind() == ErrorKind::BrokenPipe => (),
             _ => say(&format!("etglavino: {self}")),
+        }
+    }
+
+    /// A text that was refused. Its place is told of canonical text, and of basic
+    /// text that does not begin with a brace.
+    pub fn text(name: String, refusal: Refusal, form: Form, text: &[u8]) -> Problem {
+        let bare = form == Form::Basic && text.first() != Some(&b'{');
+        match refusal.number() == 3 && (form == Form::Canonical || bare) {
+            true => Problem::Syntax(name, refusal, place::shown(text, refusal.place())),
+            false => Problem::Refused(name, refusal),
         }
     }
 
@@ -56,6 +71,10 @@ impl fmt::Display for Problem {
             Problem::File(name, error) => write!(f, "{name}: {error}"),
             Problem::Output(error) => write!(f, "standard output: {error}"),
             Problem::Refused(name, refusal) => write!(f, "{name}: {refusal}"),
+            Problem::Syntax(name, refusal, shown) => {
+                let place = refusal.place();
+                write!(f, "{name}: {refusal}, from octet {place} on\n{shown}")
+            }
             Problem::Told(status) => write!(f, "status {status}"),
         }
     }

@@ -37,6 +37,21 @@ class Convert(Case):
     def test_empty_input(self) -> None:
         self.fails(1, b"standard input: " + SYNTAX, "convert")
 
+    def test_the_place_of_what_is_wrong(self) -> None:
+        sentence = b"etglavino: standard input: " + SYNTAX.rstrip(b"\n")
+        for place, source, lines in (
+            (5, b"3:abcX", b"  3:abcX\n       ^\n"),
+            (1, b"03:", b"  03:\n   ^\n"),
+            (5, b"(3:ab", b"  (3:ab\n       ^\n"),
+            (0, b"\xff", b"  \\xff\n  ^\n"),
+        ):
+            answer = self.run_tool("convert", "--from", "canonical", source=source)
+            said = sentence + b", from octet %d on\n" % place + lines
+            self.assertEqual(answer, (1, b"", said))
+            self.assertEqual(self.run_tool("convert", "--from", "basic", source=source), answer)
+        # Of other texts no place is told.
+        self.fails(1, sentence + b"\n", "convert", source=b"3:abcX")
+
     def test_sizes(self) -> None:
         longest = b"a".ljust(32_768)
         self.gives(b"1:a", "convert", source=longest)
@@ -83,7 +98,7 @@ class Check(Case):
         self.gives(b"", "check", "--from", "any", "basic")
         self.gives(b"", "check", "--from", "basic", "basic")
         for form in ("advanced", "canonical"):
-            self.fails(1, SYNTAX, "check", "--from", form, "basic")
+            self.fails(1, SYNTAX.rstrip(b"\n"), "check", "--from", form, "basic")
         self.fails(2, b"none of canonical, basic and advanced", "check", "--from", "xml", "basic")
 
 

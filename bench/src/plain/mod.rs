@@ -50,7 +50,7 @@ impl Reader {
             (3, _) => self.advanced(source),
             _ => self.canonical(source),
         };
-        found.ok_or(Refusal::Syntax)?;
+        found.ok_or(Refusal::Syntax { place: 0 })?;
         self.hand_out(canonical, table)
     }
 

@@ -23,7 +23,7 @@ use Rattle.model.proofs.Lexemes.{before-cases}
 use Rattle.model.proofs.Nesting.{unnest, nest-sound}
 use Rattle.model.proofs.LexemeLoop.{lexemes-end, lexemes-next, lexemes-none}
 use Rattle.model.proofs.Strict.{octetsOfLexeme, octetsOfLexemes}
-use Rattle.walk.specs.Count.{Count, count, begin, shutBy, shut, step}
+use Rattle.model.specs.Count.{Count, count, begin, shutBy, shut, step}
 use Rattle.walk.specs.Extent.{Measures}
 use Rattle.walk.specs.declared.Extent.the-variants.{Whole, Refused}
 use Rattle.walk.proofs.Fronts.{framesOf}
@@ -36,6 +36,7 @@ use Rattle.advanced.specs.Nodes.{Spare, Node, Nodes}
 use Rattle.sheets.specs.Notes.{noted, Stacks, Entered, Leaving, Left}
 use Rattle.sheets.specs.Strung.{stringRowOf, Keepable, KeptString}
 use Rattle.sheets.proofs.Strings.{string-events}
+use Rattle.sheets.proofs.Noting.{whole-refused}
 use Rattle.sheets.proofs.Stacking.{Stacked, stacked-none, stacked-on, stacked-open, stacked-leaving, Kept, kept-start, kept-end, kept-open, kept-close, kept-string}
 use Rattle.advanced.specs.Converted.{Sheetable, Converts, Wrapped, Enough, thrice, largest, Lent}
 
@@ -147,11 +148,11 @@ convert-none src out notes starts nodeNos k p q =
     }
 
 -- no tree: nothing is promised of octets and notes
-refusal : (src out notes notes′ : List ℕ) → walking (lexemes rules src) begin ≡ none → Converts (decode₃ rules src) out notes notes′ Refused
+refusal : (src out notes notes′ : List ℕ) → walking (lexemes rules src) begin ≡ none → Converts (decode₃ rules src) out notes notes′ (Refused 0)
 unfolding Measures decode₃
 refusal src out notes notes′ e =
     let z : decode₃ rules src ≡ none = undecoded (lexemes rules src) e in
-    record { measures = z; octets = λ t x h. none-some (sym z ∙ x); kept = λ g. none-some (sym z ∙ g .is) }
+    record { measures = z; fails = λ p f. let y : 0 ≡ p = cc in sym y; octets = λ t x h. none-some (sym z ∙ x); kept = λ g. none-some (sym z ∙ g .is) }
 
 module _ (src out₀ notes₀ out starts nodeNos notes : List ℕ) (at len r o d n : ℕ) (w : Converting src out₀ notes₀ out starts nodeNos notes at len r o d n) where
   pub convert-inside : at ≤ length src
@@ -180,7 +181,7 @@ module _ (src out₀ notes₀ out starts nodeNos notes : List ℕ) (at len r o d
       is-shut : shut (count o d n) ≡ true
       is-shut = sym x ∙ f
 
-      pub convert-more : i < length src → Converts (decode₃ rules src) out notes₀ notes Refused
+      pub convert-more : i < length src → Converts (decode₃ rules src) out notes₀ notes (Refused 0)
       convert-more h = refusal src out notes₀ notes (w .same ∙ past-shut src at i (p .reads) h (count o d n) is-shut)
 
       pub convert-whole : length src ≤ i → Converts (decode₃ rules src) out notes₀ notes (Whole len n d)
@@ -194,6 +195,7 @@ module _ (src out₀ notes₀ out starts nodeNos notes : List ℕ) (at len r o d
           let c : octetsOfLexemes (w .passed) ≡ canon t = ap octetsOfLexemes (sym (append-nil (w .passed))) ∙ lexemes-canon src (w .passed ++ []) t a g in
           record {
             measures = record { tree = t; is = g; long = omega (arith, w .size, ap length c); counted = u; deepest = v };
+            fails = λ p e. whole-refused e;
             octets = λ u x m. let q : t ≡ u = cc (g, x) in rw (← q, ← c, w .size) (w .front (omega (arith, w .size, ap length c, ap (λ (v : Tree). length (canon v)) q)) .same);
             kept = λ k.
                 let q : Coming src notes₀ starts nodeNos notes at len o d n (k .tree) = w .coming k in
@@ -206,7 +208,7 @@ module _ (src out₀ notes₀ out starts nodeNos notes : List ℕ) (at len r o d
       not-shut : shut (count o d n) ≡ false
       not-shut = sym x ∙ f
 
-      pub convert-short : length src ≤ i → Converts (decode₃ rules src) out notes₀ notes Refused
+      pub convert-short : length src ≤ i → Converts (decode₃ rules src) out notes₀ notes (Refused 0)
       convert-short h =
           let z : lexemes rules (drop at src) ≡ some [] = lexemes-end (drop at src) (p .reads ∙ drop-of-length-le src h) in
           refusal src out notes₀ notes (w .same ∙ ap (λ (v : Option (List Lexeme)). walking v (count o d n)) z ∙ walking-end (count o d n) ∙ unpicked _ _ not-shut)
@@ -290,7 +292,7 @@ module _ (src out₀ notes₀ out starts nodeNos notes : List ℕ) (at len r o d
           unfolding lexeme
           closes = ap (lexeme rules) (one-here src i h) ∙ unpicked _ _ (ne-eqb _ _ a) ∙ picked _ _ (eq-eqb _ _ e)
 
-          pub close-none : o ≡ 0 → Converts (decode₃ rules src) out notes₀ notes Refused
+          pub close-none : o ≡ 0 → Converts (decode₃ rules src) out notes₀ notes (Refused 0)
           unfolding step
           close-none z =
               refusal src out notes₀ notes (w .same ∙ ap (λ (v : Option (List Lexeme)). walking v (count o d n)) (place-next src at i (p .reads) h closing (drop (i + 1) src) closes)
@@ -311,7 +313,7 @@ module _ (src out₀ notes₀ out starts nodeNos notes : List ℕ) (at len r o d
         node-spare = record { inside = omega arith; short = w .lent .short; space = rw (w .long) (enough (length src) (length out₀) i r (w .lent .enough) (omega arith) (w .low) (omega (arith, w .treble, p .from))) }
 
         module _ (out₁ : List ℕ) (mid end next : ℕ) (s : Nodes src i r out out₁ mid end next) where
-          pub node-none : next ≡ 0 → (b : List ℕ) → Converts (decode₃ rules src) b notes₀ notes Refused
+          pub node-none : next ≡ 0 → (b : List ℕ) → Converts (decode₃ rules src) b notes₀ notes (Refused 0)
           unfolding chain
           node-none z b = refusal src b notes₀ notes (w .same ∙ ap (λ (v : Option (List Lexeme)). walking v (count o d n)) (place-none src at i (p .reads) h (s .none z)))
 

@@ -18,7 +18,7 @@ use Rattle.model.proofs.Stripped.{simple-verbatim, simple-token, unmeasured, me
 use Rattle.model.proofs.Stripped as Stripped
 use Rattle.blocks.proofs.Lengths.{few-digits}
 use Rattle.model.proofs.Strict.{octetsOfLexeme}
-use Rattle.walk.specs.Count.{step}
+use Rattle.model.specs.Count.{step}
 use Rattle.scan.specs.Runs.{Skipped}
 use Rattle.scan.proofs.Places.{one-here}
 use Rattle.blocks.proofs.Laws.{front-one, front-both}

@@ -305,7 +305,7 @@ pub fn convert(
         let i = scan::skip_at(classes, src, at);
         if walk::closed(opened, seen) {
             if i < src.len() {
-                return Extent::Refused;
+                return Extent::Refused { place: 0 };
             }
             return Extent::Whole {
                 len: size,
@@ -314,7 +314,7 @@ pub fn convert(
             };
         }
         if i >= src.len() {
-            return Extent::Refused;
+            return Extent::Refused { place: 0 };
         }
         let b = src[i];
         if b == 40 {
@@ -330,7 +330,7 @@ pub fn convert(
         }
         if b == 41 {
             if opened == 0 {
-                return Extent::Refused;
+                return Extent::Refused { place: 0 };
             }
             opened -= 1;
             leave(notes, &starts, &numbers, opened, seen, o);
@@ -344,7 +344,7 @@ pub fn convert(
         let mut end: usize = 0;
         let next = node(classes, letters, src, i, out, o, &mut mid, &mut end);
         if next == 0 {
-            return Extent::Refused;
+            return Extent::Refused { place: 0 };
         }
         keep_string(notes, seen, o, mid, end);
         seen += 1;

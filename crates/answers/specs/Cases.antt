@@ -5,7 +5,7 @@ use mathlib.Core.Bool.{true}
 use mathlib.Core.Option.{Option, none, some}
 use mathlib.Core.List.{List}
 use Rattle.model.specs.Limits.{Accepted}
-use Rattle.model.specs.Answers.{Outcome, unchangedAt, unchanged, Output, unwrittenAt, unwritten, Comparison, uncomparedAt, uncompared, part}
+use Rattle.model.specs.Answers.{Outcome, unchangedAt, Output, unwrittenAt, unwritten, Comparison, uncomparedAt, uncompared, part}
 use Rattle.answers.specs.declared.Reading.{Reading}
 use Rattle.answers.specs.declared.Reading.the-variants as reading
 use Rattle.answers.specs.declared.Writing.{Writing}
@@ -35,9 +35,13 @@ unfoldable pub placed : Place → Option Rattle.model.specs.Answers.Part
 placed (place.Part s e) = some (part s e)
 placed place.NoPart = none
 
--- refused with a number, and no place told
-pub record Refuses (n : ℕ) (r : Reading) : Type 0 where
-  pub is : (canonical table : List ℕ) → outcome r canonical table ≡ unchanged n canonical table
+-- refused with a number and a place
+pub record RefusesAt (n p : ℕ) (r : Reading) : Type 0 where
+  pub is : (canonical table : List ℕ) → outcome r canonical table ≡ unchangedAt n p canonical table
+
+-- with no place
+abbrev pub Refuses : ℕ → Reading → Type 0
+Refuses n r = RefusesAt n 0 r
 
 pub record RefusesWriting (n : ℕ) (r : Writing) : Type 0 where
   pub is : (out : List ℕ) → output r out ≡ unwritten n out

@@ -1,5 +1,5 @@
 // What the entries answer. specs/ gives 01's number and values for each case.
-ghost use Rattle.answers.specs.Cases.{Refuses, RefusesWriting, RefusesComparing};
+ghost use Rattle.answers.specs.Cases.{RefusesAt, Refuses, RefusesWriting, RefusesComparing};
 
 // Why something was refused: the number of the row in document 01's table, and the place in the text; 0 where none is told.
 pub struct Refusal {
@@ -37,6 +37,15 @@ pub fn refused(number: u32) -> Reading
 {
     Reading::Refused {
         refusal: Refusal { number, place: 0 },
+    }
+}
+
+// A text that is not in its form's language: the number, and the place that is told of it.
+pub fn refused_at(number: u32, place: usize) -> Reading
+    ensures { λ r. ⌜ RefusesAt number place r ⌝ }
+{
+    Reading::Refused {
+        refusal: Refusal { number, place },
     }
 }
 

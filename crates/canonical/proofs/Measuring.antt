@@ -18,13 +18,13 @@ use Rattle.model.proofs.Exact.{canon-sound}
 use Rattle.model.proofs.LexemeLoop.{strict-end, strict-next, strict-none}
 use Rattle.model.proofs.Sizes.{verbatim-length}
 use Rattle.scan.proofs.Places.{one-here}
-use Rattle.walk.specs.Count.{count, begin, shutBy, step}
+use Rattle.model.specs.Count.{count, begin, shutBy, step}
 use Rattle.walk.specs.Extent.{Measures}
 use Rattle.walk.proofs.Chained.{walking, walking-shut, walking-step, walking-stop, walking-end, undecoded, decodes}
 use Rattle.canonical.specs.Lexed.{Plainly, Hintedly, ItemAt}
 use Rattle.canonical.specs.declared.Item.{Item}
 use Rattle.canonical.specs.declared.Item.the-variants.{Open, Close, Plain, Hinted, Other}
-use Rattle.walk.specs.declared.Extent.the-variants.{Whole, Refused}
+use Rattle.walk.specs.declared.Extent.the-variants.{Whole}
 
 -- walking on from here gives what walking from the start gives
 pub record Walking (src : List ℕ) (at o d n : ℕ) : Type 0 where
@@ -52,7 +52,7 @@ module _ (src : List ℕ) (at o d n : ℕ) (w : Walking src at o d n) (q : Bool)
           (ap strictLexemes (one-here src at h) ∙ strict-none (getD src at 0) (drop (at + 1) src) (ap strictLexeme (sym (one-here src at h)) ∙ f))
 
   module _ (f : q ≡ true) where
-    pub walk-more : at < length src → Measures (decode₁ src) Refused
+    pub walk-more : at < length src → decode₁ src ≡ none
     unfolding Measures decode₁
     walk-more h = undecoded (strictLexemes src) (w .same ∙ past-shut h (sym x ∙ f))
 
@@ -65,7 +65,7 @@ module _ (src : List ℕ) (at o d n : ℕ) (w : Walking src at o d n) (q : Bool)
         (λ t g c e. record { tree = t; is = g; long = omega (arith, w .inside, ap length (canon-sound src t g)); counted = c; deepest = e })
 
   module _ (f : q ≡ false) where
-    pub walk-short : length src ≤ at → Measures (decode₁ src) Refused
+    pub walk-short : length src ≤ at → decode₁ src ≡ none
     unfolding Measures decode₁
     walk-short h =
         undecoded (strictLexemes src) (w .same ∙ ap (λ (z : Option (List Lexeme)). walking z (count o d n)) (at-end src at h) ∙ walking-end (count o d n) ∙ unpicked _ _ (sym x ∙ f))
@@ -82,7 +82,7 @@ module _ (src : List ℕ) (at o d n : ℕ) (w : Walking src at o d n) (q : Bool)
           }
 
       module _ (r : Item) (v : ItemAt src at r) where
-        pub walk-other : r ≡ Other → Measures (decode₁ src) Refused
+        pub walk-other : r ≡ Other → decode₁ src ≡ none
         unfolding ItemAt Measures decode₁ chain
         walk-other z =
             let g : strictLexeme (drop at src) ≡ refused = subst (ItemAt src at) z v in
@@ -100,7 +100,7 @@ module _ (src : List ℕ) (at o d n : ℕ) (w : Walking src at o d n) (q : Bool)
           unfolding ItemAt
           closes = subst (ItemAt src at) z v
 
-          pub close-none : o ≡ 0 → Measures (decode₁ src) Refused
+          pub close-none : o ≡ 0 → decode₁ src ≡ none
           unfolding Measures decode₁ step
           close-none g =
               undecoded (strictLexemes src) (w .same ∙ ap (λ (y : Option (List Lexeme)). walking y (count o d n)) (strict-next (drop at src) (drop (at + 1) src) closing closes)

@@ -11,7 +11,7 @@ use lib.ListN.{take}
 use lib.Dec.{eqb}
 use Rattle.base.specs.Choice.{either, not, isNone}
 use Rattle.base.proofs.Cases.{not-false, untrue}
-use Rattle.model.specs.Answers.{Check, verdict, the, roomChecks, textChecks, Outcome, filled, unchanged}
+use Rattle.model.specs.Answers.{Check, verdict, the, roomChecks, textChecks, Outcome, filled, unchanged, placeOf, telling}
 use Rattle.model.specs.Corrections.{inserted, noPlace, insertingChecks, inserting}
 use Rattle.model.specs.Edit.{one, insert}
 use Rattle.model.specs.Node.{nodeAt, hasPlace}
@@ -85,8 +85,8 @@ module _ (form : ℕ) (text canonical table : List ℕ) (len count node k : ℕ)
 
     -- the conditions hold: accepted, and the corrected tree is put in the old one's place
     pub insert-accepted : answer ≡ filled (insert (c .old) node k (c .new)) len count canonical table
-    unfolding inserting
-    insert-accepted = judged-accepted _ _ _ insert-holds ∙ ap (λ (u : Tree). filled u len count canonical table) corrected
+    unfolding inserting filled telling
+    insert-accepted = ap (telling (placeOf form text)) (judged-accepted _ _ _ insert-holds ∙ ap (λ (u : Tree). filled u len count canonical table) corrected)
 
   -- ---- what an acceptance gives
 
@@ -111,17 +111,17 @@ module _ (form : ℕ) (text canonical table : List ℕ) (len count node k : ℕ)
 
   -- accepted: the conditions held
   pub insert-conditions : answer .number ≡ 0 → Insertable form text canonical table len count node k
-  unfolding inserting
+  unfolding inserting telling
   insert-conditions e = held (fills-held checks _ len count canonical table e)
 
-  -- ---- row by row: refused with a number, and nothing changed, exactly when that row is the first that applies
+  -- ---- row by row: refused with a number, and nothing changed, exactly when that row is the first that applies; with 3 a place is told
 
-  pub insert-refused-by : (n : ℕ) → 0 < n → First checks n → answer ≡ unchanged n canonical table
+  pub insert-refused-by : (n : ℕ) → 0 < n → First checks n → answer ≡ telling (placeOf form text) (unchanged n canonical table)
   unfolding inserting
-  insert-refused-by n h f = fills-by checks _ len count canonical table n h f
+  insert-refused-by n h f = ap (telling (placeOf form text)) (fills-by checks _ len count canonical table n h f)
 
   pub insert-refused-for : (n : ℕ) → 0 < n → answer .number ≡ n → First checks n
-  unfolding inserting
+  unfolding inserting telling
   insert-refused-for n h e = fills-for checks _ len count canonical table n h e
 
   -- ---- 02, "an insertion's entry is the element inserted, which in the old sheet starts and ends at its place"

@@ -6,17 +6,18 @@ use mathlib.Core.Bool.{false}
 use mathlib.Core.Option.{Option, some}
 use mathlib.Core.List.{List, [], _∷_, _++_}
 use lib.ListN.{length, length-append}
-use lib.Dec.{ltb}
+use lib.Dec.{ltb, eqb}
 use borrow.Author.Tests.{le-ltb, lt-ltb}
 use Rattle.base.specs.Choice.{either, isNone}
 use Rattle.base.proofs.Cases.{picked}
-use Rattle.model.specs.Answers.{verdict, noForm, the, roomChecks, textChecks, filled, unchanged, readingChecks, reading}
+use Rattle.model.specs.Answers.{verdict, noForm, the, roomChecks, textChecks, filled, unchanged, readingChecks, reading, placeOf, telling}
 use Rattle.model.specs.Decode.{decode}
 use Rattle.model.specs.Limits.{maxSource, maxDepth, maxCanonical, Form, SourceSize, Syntax, Depth, Nodes, Size}
 use Rattle.model.specs.Table.{records}
 use Rattle.model.specs.Tree.{Tree, plain, list, Forest, nil, cons, digits, digitsUpTo, verbatim, canon, canons, nodes, nodess, depth, depths}
 use Rattle.model.proofs.Exact.{canon-complete}
 use Rattle.model.proofs.Judging.{judged-refused, verdict-here, verdict-past}
+use Rattle.model.proofs.Telling.{telling-same}
 use Rattle.demands.proofs.Read.{reads}
 
 -- ---- the trees
@@ -89,32 +90,34 @@ module _ (t : Tree) (canonical table : List ℕ) (short : length (canon t) ≤ m
   no-form = refl
 
   -- the first of rows 4 to 6 that applies
-  refused-by : (n : ℕ) → 0 < n → verdict (roomChecks t canonical table) ≡ n → reading 1 (canon t) canonical table ≡ unchanged n canonical table
+  refused-by : (n : ℕ) → 0 < n → eqb n Syntax ≡ false → verdict (roomChecks t canonical table) ≡ n → reading 1 (canon t) canonical table ≡ unchanged n canonical table
   unfolding reading readingChecks textChecks isNone the
-  refused-by n h v =
-      judged-refused _ _ _ n
+  refused-by n h o v =
+      ap (telling (placeOf 1 (canon t)))
+      (judged-refused _ _ _ n
       (verdict-past Form _ _ no-form
       ∙ verdict-past SourceSize _ _ (le-ltb maxSource (length (canon t)) short)
       ∙ verdict-past Syntax _ _ (ap isNone decoded)
       ∙ ap (λ (o : Option Tree). verdict (roomChecks (the o) canonical table)) decoded
       ∙ v)
-      h
+      h)
+      ∙ telling-same (placeOf 1 (canon t)) (unchanged n canonical table) o
 
   too-deep : maxDepth < depth t → reading 1 (canon t) canonical table ≡ unchanged Depth canonical table
   unfolding roomChecks
-  too-deep h = refused-by Depth (omega arith) (verdict-here Depth _ _ (lt-ltb maxDepth (depth t) h))
+  too-deep h = refused-by Depth (omega arith) refl (verdict-here Depth _ _ (lt-ltb maxDepth (depth t) h))
 
   module _ (shallow : depth t ≤ maxDepth) where
     too-many : records table < nodes t → reading 1 (canon t) canonical table ≡ unchanged Nodes canonical table
     unfolding roomChecks
     too-many h =
-        refused-by Nodes (omega arith)
+        refused-by Nodes (omega arith) refl
         (verdict-past Depth _ _ (le-ltb maxDepth (depth t) shallow) ∙ verdict-here Nodes _ _ (lt-ltb (records table) (nodes t) h))
 
     too-long : nodes t ≤ records table → maxCanonical < length (canon t) → reading 1 (canon t) canonical table ≡ unchanged Size canonical table
     unfolding roomChecks
     too-long r h =
-        refused-by Size (omega arith)
+        refused-by Size (omega arith) refl
         (verdict-past Depth _ _ (le-ltb maxDepth (depth t) shallow)
         ∙ verdict-past Nodes _ _ (le-ltb (records table) (nodes t) r)
         ∙ verdict-here Size _ _ (picked _ _ (lt-ltb maxCanonical (length (canon t)) h)))

@@ -6,6 +6,7 @@ pub mod Written
 pub mod RoundTrip
 pub mod Shown
 pub mod Refused
+pub mod Placed
 pub mod Afresh
 pub mod Records
 pub mod Lent

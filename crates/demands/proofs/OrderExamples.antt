@@ -5,7 +5,7 @@ use mathlib.Core.Path.{_≡_, refl}
 use mathlib.Core.List.{List, [], _∷_, _++_, map}
 use lib.ListN.{take}
 use Rattle.base.specs.Choice.{equal, chain, isNone}
-use Rattle.model.specs.Answers.{verdict, judged, noForm, the, roomChecks, textChecks, settled, fits, fitting, sheetTree, owns, ownTree, Outcome, filled, replaced, replacingChecks, replacing}
+use Rattle.model.specs.Answers.{verdict, judged, noForm, the, roomChecks, textChecks, settled, fits, fitting, sheetTree, owns, ownTree, Outcome, filled, replaced, replacingChecks, replacing, telling}
 use Rattle.model.specs.Decode.{onto, enclose, place, placeIn, nestings, onlyTree, onlyIn, nest, decode₁, decode}
 use Rattle.model.specs.Edit.{join, within, replace}
 use Rattle.model.specs.Lexemes.{closeStrict, strictLexeme, before, lexemesBy, strictLexemes}
@@ -39,16 +39,16 @@ left = 40 ∷ 52 ∷ 58 ∷ 97 ∷ 97 ∷ 97 ∷ 97 ∷ 49 ∷ 58 ∷ 98 ∷ 41 
 
 answers : map (λ (o : Outcome). o .number ∷ o .octets ∷ o .count ∷ []) (longer-first 14 ∷ shorter-first 14 ∷ [])
     ≡ (0 ∷ 11 ∷ 3 ∷ []) ∷ (0 ∷ 11 ∷ 3 ∷ []) ∷ []
-unfolding correcting equal chain isNone digitsUpTo digits verbatim canon nodes depth flat tableOf rows bind number decimal first afterLength verbatimOf closeStrict strictLexeme before lexemesBy strictLexemes onto enclose place placeIn nestings onlyTree onlyIn nest decode₁ decode join within replace verdict judged noForm the roomChecks textChecks settled fits fitting sheetTree owns ownTree filled replaced replacingChecks replacing
+unfolding correcting equal chain isNone digitsUpTo digits verbatim canon nodes depth flat tableOf rows bind number decimal first afterLength verbatimOf closeStrict strictLexeme before lexemesBy strictLexemes onto enclose place placeIn nestings onlyTree onlyIn nest decode₁ decode join within replace verdict judged noForm the roomChecks textChecks settled fits fitting sheetTree owns ownTree filled replaced replacingChecks replacing telling
 answers = refl
 
 -- the rest may differ
 rests : map (λ (o : Outcome). o .canonical) (longer-first 14 ∷ shorter-first 14 ∷ [])
     ≡ (left ++ (0 ∷ 0 ∷ 0 ∷ [])) ∷ (left ++ (9 ∷ 9 ∷ 9 ∷ [])) ∷ []
-unfolding correcting equal chain isNone digitsUpTo digits verbatim canon nodes depth flat tableOf rows bind number decimal first afterLength verbatimOf closeStrict strictLexeme before lexemesBy strictLexemes onto enclose place placeIn nestings onlyTree onlyIn nest decode₁ decode join within replace verdict judged noForm the roomChecks textChecks settled fits fitting sheetTree owns ownTree filled replaced replacingChecks replacing
+unfolding correcting equal chain isNone digitsUpTo digits verbatim canon nodes depth flat tableOf rows bind number decimal first afterLength verbatimOf closeStrict strictLexeme before lexemesBy strictLexemes onto enclose place placeIn nestings onlyTree onlyIn nest decode₁ decode join within replace verdict judged noForm the roomChecks textChecks settled fits fitting sheetTree owns ownTree filled replaced replacingChecks replacing telling
 rests = refl
 
 -- "provided both are accepted in both orders": the longer one has no room before the shorter one has made it
 tight : (correcting longer (take 11 lent) table 11 3 1) .number ∷ shorter-first 11 .number ∷ [] ≡ 6 ∷ 0 ∷ []
-unfolding correcting equal chain isNone digitsUpTo digits verbatim canon nodes depth flat tableOf rows bind number decimal first afterLength verbatimOf closeStrict strictLexeme before lexemesBy strictLexemes onto enclose place placeIn nestings onlyTree onlyIn nest decode₁ decode join within replace verdict judged noForm the roomChecks textChecks settled fits fitting sheetTree owns ownTree filled replaced replacingChecks replacing
+unfolding correcting equal chain isNone digitsUpTo digits verbatim canon nodes depth flat tableOf rows bind number decimal first afterLength verbatimOf closeStrict strictLexeme before lexemesBy strictLexemes onto enclose place placeIn nestings onlyTree onlyIn nest decode₁ decode join within replace verdict judged noForm the roomChecks textChecks settled fits fitting sheetTree owns ownTree filled replaced replacingChecks replacing telling
 tight = refl

@@ -10,7 +10,7 @@ use lib.ListN.{take}
 use borrow.Author.Tests.{leb-false}
 use Rattle.base.specs.Choice.{isNone}
 use Rattle.base.proofs.Cases.{some-same}
-use Rattle.model.specs.Answers.{Check, when, verdict, the, ownTree, Outcome, filled, replaced, replacingChecks, replacing}
+use Rattle.model.specs.Answers.{Check, when, verdict, the, ownTree, Outcome, filled, replaced, replacingChecks, replacing, placeOf, telling}
 use Rattle.model.specs.Corrections.{inserted, insertingChecks, inserting, removed, removingChecks, removing}
 use Rattle.model.specs.Decode.{decode}
 use Rattle.model.specs.Edit.{across, replace, insert, remove}
@@ -55,7 +55,7 @@ found canonical table len count node more v g =
 module _ (canonical table : List ℕ) (len count node : ℕ) where
   replace-did : (form : ℕ) (text : List ℕ) → replacing form text canonical table len count node .number ≡ 0
       → Did (replacement form text) canonical table len count node
-  unfolding correcting deedOf done replacing replacingChecks replaced the
+  unfolding correcting deedOf done replacing replacingChecks replaced the filled telling
   replace-did form text e =
       let v : verdict (replacingChecks form text canonical table len count node) ≡ 0 =
       no-row (λ (o : Outcome). o .number) _ _ _ (λ n. refl) e in
@@ -64,13 +64,13 @@ module _ (canonical table : List ℕ) (len count node : ℕ) where
         old = t;
         own = i;
         present = p;
-        leaves = judged-accepted _ _ _ v
-            ∙ ap (λ (x : Option Tree). filled (replace (the x) node (the (decode form text))) len count canonical table) i;
+        leaves = ap (telling (placeOf form text))
+            (judged-accepted _ _ _ v ∙ ap (λ (x : Option Tree). filled (replace (the x) node (the (decode form text))) len count canonical table) i);
       })
 
   insert-did : (form : ℕ) (text : List ℕ) (k : ℕ) → inserting form text canonical table len count node k .number ≡ 0
       → Did (insertion form text k) canonical table len count node
-  unfolding correcting deedOf done inserting insertingChecks inserted the
+  unfolding correcting deedOf done inserting insertingChecks inserted the filled telling
   insert-did form text k e =
       let v : verdict (insertingChecks form text canonical table len count node k) ≡ 0 =
       no-row (λ (o : Outcome). o .number) _ _ _ (λ n. refl) e in
@@ -79,8 +79,8 @@ module _ (canonical table : List ℕ) (len count node : ℕ) where
         old = t;
         own = i;
         present = p;
-        leaves = judged-accepted _ _ _ v
-            ∙ ap (λ (x : Option Tree). filled (insert (the x) node k (the (decode form text))) len count canonical table) i;
+        leaves = ap (telling (placeOf form text))
+            (judged-accepted _ _ _ v ∙ ap (λ (x : Option Tree). filled (insert (the x) node k (the (decode form text))) len count canonical table) i);
       })
 
   remove-did : removing canonical table len count node .number ≡ 0 → Did removal canonical table len count node

@@ -9,7 +9,7 @@ use mathlib.Core.Option.{Option, some}
 use mathlib.Core.List.{List}
 use lib.ListN.{length, take, drop}
 use lib.Seq.{take-append-seam, take-at, drop-at}
-use Rattle.model.specs.Answers.{Check, verdict, noForm, the, roomChecks, settled, Outcome, filled, unchanged, readingChecks, reading}
+use Rattle.model.specs.Answers.{Check, verdict, noForm, the, roomChecks, settled, Outcome, filled, unchanged, readingChecks, reading, placeOf, telling}
 use Rattle.model.specs.Decode.{decode}
 use Rattle.model.specs.Grammar.{Language, form-1, form-2, form-3, rules}
 use Rattle.model.specs.Limits.{maxSource}
@@ -47,12 +47,13 @@ module _ (form : ℕ) (source canonical table : List ℕ) where
   answer = reading form source canonical table
 
   pub reads : (t : Tree) → noForm form ≡ false → length source ≤ maxSource → decode form source ≡ some t → Room t canonical table → answer ≡ filled t 0 0 canonical table
-  unfolding reading readingChecks the
+  unfolding reading readingChecks the filled telling
   reads t f s d r =
-      judged-accepted _ _ _
+      ap (telling (placeOf form source))
+      (judged-accepted _ _ _
       (text-none form source _
       (record { tree = t; known = f; short = s; is = d; rest = ap (λ (o : Option Tree). verdict (roomChecks (the o) canonical table)) d ∙ room-none t canonical table r }))
-      ∙ ap (λ (o : Option Tree). filled (the o) 0 0 canonical table) d
+      ∙ ap (λ (o : Option Tree). filled (the o) 0 0 canonical table) d)
 
   -- allowed: accepted, and the tree is put into the lent space
   pub allowed-accepted : (a : Allowed form source canonical table) → answer ≡ filled (a .tree) 0 0 canonical table
@@ -60,7 +61,7 @@ module _ (form : ℕ) (source canonical table : List ℕ) where
 
   -- accepted: it was allowed
   pub accepted-allowed : answer .number ≡ 0 → Allowed form source canonical table
-  unfolding reading readingChecks the
+  unfolding reading readingChecks the telling
   accepted-allowed e =
       let x : Taken form source _ = text-of form source _ (no-row (λ (o : Outcome). o .number) checks _ (λ (k : ℕ). unchanged k canonical table) (λ k. refl) e) in
       record {
@@ -70,13 +71,13 @@ module _ (form : ℕ) (source canonical table : List ℕ) where
         room = room-of (x .tree) canonical table (sym (ap (λ (o : Option Tree). verdict (roomChecks (the o) canonical table)) (x .is)) ∙ x .rest);
       }
 
-  -- row by row: refused with a number, and nothing changed, exactly when that row is the first that applies
-  pub read-refused-by : (n : ℕ) → 0 < n → First checks n → answer ≡ unchanged n canonical table
+  -- row by row: refused with a number, and nothing changed, exactly when that row is the first that applies; with 3 a place is told
+  pub read-refused-by : (n : ℕ) → 0 < n → First checks n → answer ≡ telling (placeOf form source) (unchanged n canonical table)
   unfolding reading
-  read-refused-by n h f = judged-by (λ (o : Outcome). o .number) checks _ (λ (k : ℕ). unchanged k canonical table) (λ k. refl) n h f
+  read-refused-by n h f = ap (telling (placeOf form source)) (judged-by (λ (o : Outcome). o .number) checks _ (λ (k : ℕ). unchanged k canonical table) (λ k. refl) n h f)
 
   pub read-refused-for : (n : ℕ) → 0 < n → answer .number ≡ n → First checks n
-  unfolding reading filled
+  unfolding reading filled telling
   read-refused-for n h e = judged-for (λ (o : Outcome). o .number) checks _ (λ (k : ℕ). unchanged k canonical table) (λ k. refl) refl n h e
 
   -- ---- what is left

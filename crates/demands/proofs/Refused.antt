@@ -5,7 +5,7 @@ use native.Mathlib.Omega.{arith}
 use mathlib.Core.Path.{_≡_, sym, ap, ap₂, _∙_, subst}
 use mathlib.Core.Option.{Option}
 use mathlib.Core.List.{List}
-use Rattle.model.specs.Answers.{Check, verdict, the, roomChecks, Outcome, filled, unchanged, replaced, replacingChecks, replacing}
+use Rattle.model.specs.Answers.{Check, verdict, the, roomChecks, Outcome, filled, unchanged, replaced, replacingChecks, replacing, placeOf, telling}
 use Rattle.model.specs.Edit.{one, replace}
 use Rattle.model.specs.Table.{rowOf}
 use Rattle.model.specs.Tree.{Tree, nodes}
@@ -53,8 +53,8 @@ module _ (form : ℕ) (text canonical table : List ℕ) (len count node : ℕ) w
 
     -- the conditions hold: accepted, and the corrected tree is put in the old one's place
     pub accepted : answer ≡ filled (replace (c .old) node (c .new)) len count canonical table
-    unfolding replacing
-    accepted = judged-accepted _ _ _ all-hold ∙ ap (λ (u : Tree). filled u len count canonical table) corrected
+    unfolding replacing filled telling
+    accepted = ap (telling (placeOf form text)) (judged-accepted _ _ _ all-hold ∙ ap (λ (u : Tree). filled u len count canonical table) corrected)
 
   -- ---- what an acceptance gives
 
@@ -77,17 +77,17 @@ module _ (form : ℕ) (text canonical table : List ℕ) (len count node : ℕ) w
 
   -- accepted: the conditions held
   pub conditions : answer .number ≡ 0 → Conditions form text canonical table len count node
-  unfolding replacing
+  unfolding replacing telling
   conditions e = held (fills-held checks _ len count canonical table e)
 
-  -- ---- row by row: refused with a number, and nothing changed, exactly when that row is the first that applies
+  -- ---- row by row: refused with a number, and nothing changed, exactly when that row is the first that applies; with 3 a place is told
 
-  pub refused-by : (n : ℕ) → 0 < n → First checks n → answer ≡ unchanged n canonical table
+  pub refused-by : (n : ℕ) → 0 < n → First checks n → answer ≡ telling (placeOf form text) (unchanged n canonical table)
   unfolding replacing
-  refused-by n h f = fills-by checks _ len count canonical table n h f
+  refused-by n h f = ap (telling (placeOf form text)) (fills-by checks _ len count canonical table n h f)
 
   pub refused-for : (n : ℕ) → 0 < n → answer .number ≡ n → First checks n
-  unfolding replacing
+  unfolding replacing telling
   refused-for n h e = fills-for checks _ len count canonical table n h e
 
   -- ---- the entry is the node, and the lists around it are those that hold it

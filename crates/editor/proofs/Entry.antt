@@ -1,17 +1,18 @@
 -- The entries: rows 1 and 2, and then what the text's tree gives; or, where nothing comes, what a removal gives.
 use Prim.Native.Nat.{ℕ, _≤_, _<_}
-use mathlib.Core.Path.{_≡_, sym, _∙_}
+use mathlib.Core.Path.{_≡_, sym, ap, _∙_}
 use mathlib.Core.Bool.{Bool, true, false}
 use mathlib.Core.Option.{some}
 use mathlib.Core.List.{List}
 use lib.ListN.{length}
 use Rattle.base.proofs.Cases.{untrue}
-use Rattle.model.specs.Answers.{verdict, judged, unchanged, replaced, replacingChecks, replacing, Outcome}
+use Rattle.model.specs.Answers.{verdict, judged, unchanged, placeOf, telling, replaced, replacingChecks, replacing, Outcome}
 use Rattle.model.specs.Corrections.{inserted, noPlace, insertingChecks, inserting, removing}
 use Rattle.model.specs.Decode.{decode}
 use Rattle.model.specs.Tree.{list, nil}
 use Rattle.texts.specs.Texts.{textVerdict}
-use Rattle.texts.proofs.Rows.{text-refused, text-taken}
+use Rattle.model.proofs.Telling.{telling-same}
+use Rattle.texts.proofs.Rows.{row-other, text-refused, text-taken}
 use Rattle.answers.specs.Cases.{Refuses}
 use Rattle.plan.specs.Asked.{changed, nodeOf, placeless, texted, changeChecks, changeTree, changing}
 use Rattle.plan.proofs.Removing.{removing-is}
@@ -19,37 +20,33 @@ use Rattle.plan.specs.declared.Asked.{Asked}
 use Rattle.plan.specs.declared.Asked.the-variants.{Replace, Insert, Remove}
 use Rattle.answers.specs.declared.Reading.{Reading}
 use Rattle.answers.specs.declared.Reading.the-variants as reading
-use Rattle.editor.specs.Given.{Gives, GivesTree, GivesText, GivesReplaced, GivesInserted, GivesRemoved}
-use Rattle.editor.proofs.Placing.{gives-refused}
-
--- another answer that is the same for every table
-pub gives-same : (Lent : List ℕ → Type 0) (answer answer′ : List ℕ → Outcome) (c : List ℕ) (n : ℕ) (notes : List ℕ) (old : ℕ) (r : Reading)
-    → ((table : List ℕ) → answer table ≡ answer′ table) → Gives Lent answer c n notes old r → Gives Lent answer′ c n notes old r
-unfolding Gives
-gives-same Lent answer answer′ c n notes old (reading.Accepted l k) e p =
-    record { tree = p .tree; held = p .held; recorded = p .recorded; few = p .few; is = λ table z. p .is table z ∙ e table }
-gives-same Lent answer answer′ c n notes old (reading.Refused f) e p = λ table z. p table z ∙ e table
+use Rattle.editor.specs.Given.{GivesTree, GivesMeant, GivesText, GivesReplaced, GivesInserted, GivesRemoved}
+use Rattle.editor.proofs.Placing.{gives-refused, gives-same}
 
 -- ---- with a text
 module _ (form : ℕ) (text canonical : List ℕ) (len count : ℕ) (n : ℕ) (v : n ≡ textVerdict form (length text)) (table : List ℕ) where
+  -- before the text is looked at
+  early : (t : Outcome) → t ≡ unchanged n canonical table → telling (placeOf form text) t ≡ unchanged n canonical table
+  early t e = ap (telling (placeOf form text)) e ∙ telling-same (placeOf form text) (unchanged n canonical table) (row-other form (length text) n v)
+
   refused : (a : Asked) → texted a ≡ true → 0 < n → changing a form text canonical table len count ≡ unchanged n canonical table
   unfolding changing texted replacing replacingChecks inserting insertingChecks
-  refused (Replace node) f h = text-refused form text _ _ (λ (k : ℕ). unchanged k canonical table) n v h
-  refused (Insert node k) f h = text-refused form text _ _ (λ (k : ℕ). unchanged k canonical table) n v h
+  refused (Replace node) f h = early _ (text-refused form text _ _ (λ (k : ℕ). unchanged k canonical table) n v h)
+  refused (Insert node k) f h = early _ (text-refused form text _ _ (λ (k : ℕ). unchanged k canonical table) n v h)
   refused (Remove node) f h = untrue f
 
-  taken : (a : Asked) → texted a ≡ true → n ≤ 0 → changeTree a (decode form text) canonical len table count ≡ changing a form text canonical table len count
+  taken : (a : Asked) → texted a ≡ true → n ≤ 0 → telling (placeOf form text) (changeTree a (decode form text) canonical len table count) ≡ changing a form text canonical table len count
   unfolding changing texted replacing replacingChecks replaced inserting insertingChecks inserted noPlace changeTree changeChecks changed nodeOf placeless verdict judged
-  taken (Replace node) f h = sym (text-taken form text _ _ (λ (k : ℕ). unchanged k canonical table) n v h)
-  taken (Insert node k) f h = sym (text-taken form text _ _ (λ (k : ℕ). unchanged k canonical table) n v h)
+  taken (Replace node) f h = sym (ap (telling (placeOf form text)) (text-taken form text _ _ (λ (k : ℕ). unchanged k canonical table) n v h))
+  taken (Insert node k) f h = sym (ap (telling (placeOf form text)) (text-taken form text _ _ (λ (k : ℕ). unchanged k canonical table) n v h))
   taken (Remove node) f h = untrue f
 
 module _ (form : ℕ) (text canonical : List ℕ) (len count room : ℕ) (own : Bool) (a : Asked) (f : texted a ≡ true) (n : ℕ) (v : n ≡ textVerdict form (length text)) where
   pub change-refused : 0 < n → (notes : List ℕ) (r : Reading) → Refuses n r → GivesText a form text canonical len count room own canonical notes r
   change-refused h notes r w =
-      gives-refused _ _ canonical room notes count n r w (λ table l. w .is canonical table ∙ sym (refused form text canonical len count n v table a f h))
+      gives-refused _ _ canonical room notes count n 0 r w (λ table l. w .is canonical table ∙ sym (refused form text canonical len count n v table a f h))
 
-  pub change-taken : n ≤ 0 → (canonical′ notes′ : List ℕ) (r : Reading) → GivesTree a (decode form text) canonical len count room own canonical′ notes′ r
+  pub change-taken : n ≤ 0 → (canonical′ notes′ : List ℕ) (r : Reading) → GivesMeant a form text canonical len count room own canonical′ notes′ r
       → GivesText a form text canonical len count room own canonical′ notes′ r
   change-taken h canonical′ notes′ r p = gives-same _ _ _ canonical′ room notes′ count r (λ table. taken form text canonical len count n v table a f h) p
 

@@ -9,7 +9,7 @@ use lib.ListN.{length, take, drop, getD, replicate, length-take}
 use lib.Seq.{sets, length-sets}
 use Rattle.base.specs.Choice.{isNone}
 use Rattle.base.proofs.Cases.{differ, untrue, some-same}
-use Rattle.model.specs.Answers.{the, Outcome, unchanged, filled}
+use Rattle.model.specs.Answers.{the, Outcome, unchangedAt, unchanged, placeOf, telling, filled}
 use Rattle.model.specs.Decode.{decode₁, decode}
 use Rattle.model.specs.Edit.{one, replace, insert}
 use Rattle.model.specs.Limits.{Accepted, maxCanonical}
@@ -18,12 +18,13 @@ use Rattle.model.specs.Tree.{Tree, list, Forest, nil, canon, canons, nodes, nod
 use Rattle.model.proofs.Exact.{canon-complete}
 use Rattle.model.proofs.Laws.{canonical-unique, nodes-within-half}
 use Rattle.model.proofs.Judging.{judged-refused, verdict-here}
+use Rattle.model.proofs.Telling.{other-row, other-past, rooms-other, telling-judged}
 use Rattle.model.proofs.OutputSizes.{nodes-half}
 use Rattle.walk.specs.Extent.{Wholly, Measures}
 use Rattle.scan.specs.Writes.{Wrote}
 use Rattle.texts.specs.Texts.{Takeable, Taken}
 use Rattle.texts.proofs.Sizes.{tripled}
-use Rattle.answers.specs.Cases.{outcome, Refuses}
+use Rattle.answers.specs.Cases.{outcome, RefusesAt, Refuses}
 use Rattle.edits.specs.Moves.{Moves}
 use Rattle.edits.proofs.Moved.{new-length}
 use Rattle.edits.proofs.Whole.{canons-one, nodess-one, depths-one}
@@ -32,10 +33,10 @@ use Rattle.lookup.proofs.Sheets as good
 use Rattle.sheets.specs.Told.{Holds}
 use Rattle.sheets.proofs.Keeping.{noted-length}
 use Rattle.lookup.specs.Noted.{Sheet}
-use Rattle.plan.specs.Asked.{changed, given, texted, changeChecks, changeTree}
+use Rattle.plan.specs.Asked.{changed, given, texted, newTree, changeChecks, changeTree}
 use Rattle.plan.specs.Spots.{Replaces}
 use Rattle.plan.specs.Planned.{Known, AtSpot, Taking, Fitting, Misfitting, Plans}
-use Rattle.editor.specs.Given.{Noteable, Gives, GivesTree}
+use Rattle.editor.specs.Given.{Noteable, Gives, GivesTree, GivesMeant}
 use Rattle.editor.specs.Placed.{Standing, Placeable, Placed}
 use Rattle.plan.proofs.Resizing.{depth-few, moves, ordered}
 use Rattle.splice.specs.Rewritten.{Movable, Rewritable, Reworkable, Alone, Workable, Rewritten}
@@ -67,11 +68,27 @@ unfolding changeTree changeChecks isNone
 tree-none a o canonical len table count e = judged-refused _ _ _ 3 (verdict-here 3 (isNone o) _ (ap isNone e)) (omega arith)
 
 -- what refuses is no acceptance
-pub gives-refused : (Lent : List ℕ → Type 0) (answer : List ℕ → Outcome) (c : List ℕ) (n : ℕ) (notes : List ℕ) (old k : ℕ) (r : Reading) → Refuses k r
+pub gives-refused : (Lent : List ℕ → Type 0) (answer : List ℕ → Outcome) (c : List ℕ) (n : ℕ) (notes : List ℕ) (old k p : ℕ) (r : Reading) → RefusesAt k p r
     → ((table : List ℕ) → Lent table → outcome r c table ≡ answer table) → Gives Lent answer c n notes old r
 unfolding Gives outcome
-gives-refused Lent answer c n notes old k (reading.Accepted len count) f g = differ refl (ap (λ (x : Outcome). x .accepted) (f .is [] []))
-gives-refused Lent answer c n notes old k (reading.Refused x) f g = g
+gives-refused Lent answer c n notes old k p (reading.Accepted len count) f g = differ refl (ap (λ (x : Outcome). x .accepted) (f .is [] []))
+gives-refused Lent answer c n notes old k p (reading.Refused x) f g = g
+
+-- another answer that is the same for every table
+pub gives-same : (Lent : List ℕ → Type 0) (answer answer′ : List ℕ → Outcome) (c : List ℕ) (n : ℕ) (notes : List ℕ) (old : ℕ) (r : Reading)
+    → ((table : List ℕ) → answer table ≡ answer′ table) → Gives Lent answer c n notes old r → Gives Lent answer′ c n notes old r
+unfolding Gives
+gives-same Lent answer answer′ c n notes old (reading.Accepted l k) e p =
+    record { tree = p .tree; held = p .held; recorded = p .recorded; few = p .few; is = λ table z. p .is table z ∙ e table }
+gives-same Lent answer answer′ c n notes old (reading.Refused f) e p = λ table z. p table z ∙ e table
+
+-- no place is told of a tree
+told-some : (p : ℕ) (a : Asked) (canonical : List ℕ) (len : ℕ) (table : List ℕ) (count : ℕ) (t : Tree)
+    → telling p (changeTree a (some t) canonical len table count) ≡ changeTree a (some t) canonical len table count
+unfolding changeTree changeChecks isNone filled
+told-some p a canonical len table count t =
+    telling-judged p (changeChecks a (some t) canonical len table count) (filled (newTree a (some t) canonical len table count) len count canonical table) canonical table
+    (other-past refl (other-row refl (other-row refl (other-row refl (rooms-other (newTree a (some t) canonical len table count) canonical table))))) refl
 
 -- ---- what a change puts in, known by its sizes, of which the canonical form stands at the front of scratch
 module _ (canonical : List ℕ) (len count room : ℕ) (own : Bool) (a : Asked) (notes : List ℕ) (scratch : List ℕ) (sizes : Sizes) (note : ℕ) (g : Placeable a scratch sizes note) (p : Plan) (w : Plans canonical len count room own a sizes p) where
@@ -85,7 +102,7 @@ module _ (canonical : List ℕ) (len count room : ℕ) (own : Bool) (a : Asked) 
   unfolding Plans
   place-misfit number z r f =
       let m : Misfitting canonical len count room own a sizes number = subst (Plans canonical len count room own a sizes) z w in
-      record { is = λ v s. gives-refused _ _ canonical room notes count number r f (λ table l. f .is canonical table ∙ sym (m .answer table l v (s .sized))) }
+      record { is = λ v s. gives-refused _ _ canonical room notes count number 0 r f (λ table l. f .is canonical table ∙ sym (m .answer table l v (s .sized))) }
 
   module _ (first start end len′ count′ : ℕ) (z : p ≡ Fits first start end len′ count′) where
     fitting : Fitting canonical len count room own a sizes first start end len′ count′
@@ -274,12 +291,14 @@ module _ (a : Asked) (f : texted a ≡ false) (scratch : List ℕ) where
 
 -- ---- a text taken, which means a tree or none
 module _ (form : ℕ) (text : List ℕ) (space : ℕ) (k : Takeable form (length text) space) (canonical : List ℕ) (len count room : ℕ) (own : Bool) (a : Asked)
-    (scratch first first′ : List ℕ) (x : Extent) (m : Taken (decode form text) scratch first first′ x) where
-  pub change-none : x ≡ extent.Refused → (notes : List ℕ) (r : Reading) → Refuses 3 r → GivesTree a (decode form text) canonical len count room own canonical notes r
-  unfolding Measures
-  change-none e notes r f =
-      gives-refused _ _ canonical room notes count 3 r f
-      (λ table l. f .is canonical table ∙ sym (tree-none a (decode form text) canonical len table count (subst (Measures (decode form text)) e (m .measures))))
+    (scratch first first′ : List ℕ) (x : Extent) (m : Taken (decode form text) (placeOf form text) scratch first first′ x) where
+  pub change-none : (q : ℕ) → x ≡ extent.Refused q → (notes : List ℕ) (r : Reading) → RefusesAt 3 q r → GivesMeant a form text canonical len count room own canonical notes r
+  unfolding Measures telling
+  change-none q e notes r f =
+      gives-refused _ _ canonical room notes count 3 q r f
+      (λ table l.
+      f .is canonical table ∙ ap (λ (p : ℕ). unchangedAt 3 p canonical table) (m .fails q e)
+      ∙ sym (ap (telling (placeOf form text)) (tree-none a (decode form text) canonical len table count (subst (Measures (decode form text)) e (m .measures)))))
 
   module _ (n c d : ℕ) (e : x ≡ extent.Whole n c d) (f : texted a ≡ true) where
     whole : Wholly (decode form text) n c d
@@ -330,6 +349,10 @@ module _ (form : ℕ) (text : List ℕ) (space : ℕ) (k : Takeable form (length
         record { enough = omega (arith, h .enough, whole .counted, nodes-within-half (whole .tree), tripled form text (whole .tree) (whole .is)) }
 
     pub change-placed : (canonical′ notes′ : List ℕ) (r : Reading) → Placed a scratch told canonical canonical′ len count room own notes′ r
-        → GivesTree a (decode form text) canonical len count room own canonical′ notes′ r
-    change-placed canonical′ notes′ r q =
-        subst (λ (o : Option Tree). GivesTree a o canonical len count room own canonical′ notes′ r) (sym (whole .is)) (q .is w standing)
+        → GivesMeant a form text canonical len count room own canonical′ notes′ r
+    change-placed canonical′ notes′ r q = gives-same _ _ _ canonical′ room notes′ count r (λ table. same table) (q .is w standing)
+      where
+        same : (table : List ℕ) → changeTree a (some w) canonical len table count ≡ telling (placeOf form text) (changeTree a (decode form text) canonical len table count)
+        same table =
+            sym (ap (λ (o : Option Tree). telling (placeOf form text) (changeTree a o canonical len table count)) (whole .is)
+            ∙ told-some (placeOf form text) a canonical len table count w)

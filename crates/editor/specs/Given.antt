@@ -7,8 +7,9 @@ use mathlib.Core.List.{List}
 use Rattle.model.specs.Limits.{mostNodes}
 use Rattle.model.specs.Table.{width, tableOf}
 use Rattle.model.specs.Tree.{Tree}
-use Rattle.model.specs.Answers.{Outcome, settled, replacing}
+use Rattle.model.specs.Answers.{Outcome, settled, placeOf, telling, replacing}
 use Rattle.model.specs.Corrections.{inserting, removing}
+use Rattle.model.specs.Decode.{decode}
 use Rattle.answers.specs.Cases.{outcome}
 use Rattle.answers.specs.declared.Reading.{Reading}
 use Rattle.answers.specs.declared.Reading.the-variants as reading
@@ -38,6 +39,11 @@ Gives Lent answer c n notes old (reading.Refused f) = (table : List ℕ) → Len
 -- that of a change, of the tree that a text means
 abbrev pub GivesTree : Asked → Option Tree → List ℕ → ℕ → ℕ → ℕ → Bool → List ℕ → List ℕ → Reading → Type 0
 GivesTree a o c len count n own c′ notes′ r = Gives (Lends c len count n own) (λ (table : List ℕ). changeTree a o c len table count) c′ n notes′ count r
+
+-- of what a text means, with the place that is told where it means nothing
+abbrev pub GivesMeant : Asked → ℕ → List ℕ → List ℕ → ℕ → ℕ → ℕ → Bool → List ℕ → List ℕ → Reading → Type 0
+GivesMeant a form text c len count n own c′ notes′ r =
+    Gives (Lends c len count n own) (λ (table : List ℕ). telling (placeOf form text) (changeTree a (decode form text) c len table count)) c′ n notes′ count r
 
 -- and of a text
 abbrev pub GivesText : Asked → ℕ → List ℕ → List ℕ → ℕ → ℕ → ℕ → Bool → List ℕ → List ℕ → Reading → Type 0

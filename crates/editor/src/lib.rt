@@ -10,16 +10,16 @@ ghost use mathlib.Core.Bool.{true, false};
 ghost use mathlib.Core.Option.{some};
 ghost use Prim.Native.Nat.{_*_, _≤_};
 ghost use lib.ListN.{length};
-ghost use Rattle.model.specs.Decode.{decode};
 ghost use Rattle.model.specs.Tree.{list, nil};
 ghost use Rattle.octets.specs.Classes.{Classed, Lettered};
 ghost use Rattle.texts.specs.Texts.{Takeable};
 ghost use Rattle.plan.specs.Asked.{texted};
 ghost use Rattle.plan.specs.Planned.{Known};
-ghost use Rattle.editor.specs.Given.{Noteable, GivesTree, GivesText};
+ghost use Rattle.editor.specs.Given.{Noteable, GivesTree, GivesMeant, GivesText};
 ghost use Rattle.editor.specs.Placed.{Placeable, Placed};
 use answers::Reading;
 use answers::refused;
+use answers::refused_at;
 pub use numbers::insert;
 pub use numbers::remove;
 pub use numbers::replace;
@@ -99,7 +99,7 @@ fn change_in(
     requires { ⌜ Known (now canonical) old held records (now notes) own ⌝ }
     requires { ⌜ Noteable held (2 * length (now text)) (length (now notes)) ⌝ }
     requires { ⌜ texted asked ≡ true ⌝ }
-    ensures { λ r. ⌜ GivesTree asked (decode form (now (text .entry))) (now (canonical .entry)) old held records own (now (canonical .exit)) (now (notes .exit)) r ⌝ }
+    ensures { λ r. ⌜ GivesMeant asked form (now (text .entry)) (now (canonical .entry)) old held records own (now (canonical .exit)) (now (notes .exit)) r ⌝ }
 {
     let mut one: [usize; 1] = [0; 1];
     match texts::take(classes, letters, form, text, scratch, &mut one) {
@@ -118,7 +118,7 @@ fn change_in(
                 one[0],
             )
         }
-        Extent::Refused => refused(3),
+        Extent::Refused { place } => refused_at(3, place),
     }
 }
 

@@ -3,13 +3,12 @@ ghost use mathlib.Core.Path.{_≡_};
 ghost use mathlib.Core.Bool.{true};
 ghost use Prim.Native.Nat.{_*_};
 ghost use lib.ListN.{length};
-ghost use Rattle.model.specs.Decode.{decode};
 ghost use Rattle.model.specs.Limits.{maxSource};
 ghost use Rattle.octets.specs.Classes.{Classed, Lettered};
 ghost use Rattle.texts.specs.Texts.{Formed};
 ghost use Rattle.plan.specs.Asked.{texted};
 ghost use Rattle.plan.specs.Planned.{Known};
-ghost use Rattle.editor.specs.Given.{Noteable, GivesTree};
+ghost use Rattle.editor.specs.Given.{Noteable, GivesMeant};
 use crate::change_in;
 use answers::Reading;
 use plan::Asked;
@@ -33,7 +32,7 @@ pub fn change_short(
     requires { ⌜ Known (now canonical) old held records (now notes) own ⌝ }
     requires { ⌜ Noteable held (2 * length (now text)) (length (now notes)) ⌝ }
     requires { ⌜ texted asked ≡ true ⌝ }
-    ensures { λ r. ⌜ GivesTree asked (decode form (now (text .entry))) (now (canonical .entry)) old held records own (now (canonical .exit)) (now (notes .exit)) r ⌝ }
+    ensures { λ r. ⌜ GivesMeant asked form (now (text .entry)) (now (canonical .entry)) old held records own (now (canonical .exit)) (now (notes .exit)) r ⌝ }
 {
     let mut scratch: [u8; limits::SHORT_SCRATCH] = [0; limits::SHORT_SCRATCH];
     change_in(
@@ -71,7 +70,7 @@ pub fn change_middle(
     requires { ⌜ Known (now canonical) old held records (now notes) own ⌝ }
     requires { ⌜ Noteable held (2 * length (now text)) (length (now notes)) ⌝ }
     requires { ⌜ texted asked ≡ true ⌝ }
-    ensures { λ r. ⌜ GivesTree asked (decode form (now (text .entry))) (now (canonical .entry)) old held records own (now (canonical .exit)) (now (notes .exit)) r ⌝ }
+    ensures { λ r. ⌜ GivesMeant asked form (now (text .entry)) (now (canonical .entry)) old held records own (now (canonical .exit)) (now (notes .exit)) r ⌝ }
 {
     let mut scratch: [u8; limits::MIDDLE_SCRATCH] = [0; limits::MIDDLE_SCRATCH];
     change_in(
@@ -109,7 +108,7 @@ pub fn change_long(
     requires { ⌜ Known (now canonical) old held records (now notes) own ⌝ }
     requires { ⌜ Noteable held (2 * length (now text)) (length (now notes)) ⌝ }
     requires { ⌜ texted asked ≡ true ⌝ }
-    ensures { λ r. ⌜ GivesTree asked (decode form (now (text .entry))) (now (canonical .entry)) old held records own (now (canonical .exit)) (now (notes .exit)) r ⌝ }
+    ensures { λ r. ⌜ GivesMeant asked form (now (text .entry)) (now (canonical .entry)) old held records own (now (canonical .exit)) (now (notes .exit)) r ⌝ }
 {
     let mut scratch: [u8; limits::LONG_SCRATCH] = [0; limits::LONG_SCRATCH];
     change_in(

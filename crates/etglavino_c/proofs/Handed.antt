@@ -8,7 +8,7 @@ use lib.Dec.{eqb}
 use Rattle.model.specs.Answers.{Outcome, unchangedAt, Output, unwrittenAt, Comparison, Part}
 use Rattle.model.specs.Answers as model
 use Rattle.model.specs.Corrections.{inserting, removing}
-use Rattle.model.proofs.Numbered.{reading-numbered, reading-unplaced, replacing-numbered, replacing-unplaced, inserting-numbered, inserting-unplaced, removing-numbered, removing-unplaced, writing-numbered, writing-unplaced}
+use Rattle.model.proofs.Numbered.{reading-numbered, replacing-numbered, inserting-numbered, removing-numbered, removing-unplaced, writing-numbered, writing-unplaced}
 use Rattle.answers.specs.Cases.{outcome, output, told, placed}
 use Rattle.answers.specs.declared.Refusal.{Refusal}
 use Rattle.answers.specs.declared.Reading.{Reading}
@@ -19,34 +19,44 @@ use Rattle.answers.specs.declared.Comparing.{Comparing}
 use Rattle.answers.specs.declared.Comparing.the-variants as comparing
 use Rattle.answers.specs.declared.Place.{Place}
 use Rattle.answers.specs.declared.Place.the-variants as place
-use Rattle.etglavino_c.specs.Pointers.{outcomeOf, HandsReading, outputOf, flag, compared, comparedOf, shown, shownOf, HandsPlace}
+use Rattle.etglavino_c.specs.Pointers.{outcomeAt, outcomeOf, HandsReading, HandsPlaced, outputOf, flag, compared, comparedOf, shown, shownOf, HandsPlace}
 
 module _ (r : Reading) where
-  pub hand-accepted : (len count : ℕ) → r ≡ reading.Accepted len count → HandsReading r 0 len count
+  pub placed-accepted : (len count : ℕ) → r ≡ reading.Accepted len count → HandsPlaced r 0 len count 0
   unfolding outcome
-  hand-accepted len count q = record { is = λ canonical table o e _ _. sym (ap (λ (r : Reading). outcome r canonical table) q) ∙ e }
+  placed-accepted len count q = record { is = λ canonical table o e _. sym (ap (λ (r : Reading). outcome r canonical table) q) ∙ e }
 
-  pub hand-refused : (f : Refusal) → r ≡ reading.Refused f → HandsReading r (f .number) 0 0
+  pub placed-refused : (f : Refusal) → r ≡ reading.Refused f → HandsPlaced r (f .number) 0 0 (f .place)
   unfolding outcome
-  hand-refused f q =
+  placed-refused f q =
       record {
-        is = λ canonical table o e n p.
+        is = λ canonical table o e n.
             let w : unchangedAt (f .number) (f .place) canonical table ≡ o = sym (ap (λ (r : Reading). outcome r canonical table) q) ∙ e in
             let z : eqb (f .number) 0 ≡ false = ap (λ (o : Outcome). eqb (o .number) 0) w ∙ sym n ∙ sym (ap (λ (o : Outcome). o .accepted) w) in
-            let y : 0 ≡ f .place = sym (ap (λ (o : Outcome). o .place) w ∙ p) in
-            (λ i. record { accepted = z i; number = f .number; place = y i; octets = 0; count = 0; canonical = canonical; table = table }) ∙ w;
+            (λ i. record { accepted = z i; number = f .number; place = f .place; octets = 0; count = 0; canonical = canonical; table = table }) ∙ w;
       }
 
+  -- where none is told, it is 0
+  pub hand-unplaced : (n len count p : ℕ) → HandsPlaced r n len count p → HandsReading r n len count
+  hand-unplaced n len count p h =
+      record {
+        is = λ canonical table o e a z.
+            let w : outcomeAt n p len count canonical table ≡ o = h .is canonical table o e a in
+            let y : 0 ≡ p = sym (ap (λ (o : Outcome). o .place) w ∙ z) in
+            ap (λ (q : ℕ). outcomeAt n q len count canonical table) y ∙ w;
+      }
+
+  module _ (canonical table : List ℕ) (n len count p : ℕ) (h : HandsPlaced r n len count p) where
+    pub read-placed : (form : ℕ) (s c t : List ℕ) → outcome r canonical table ≡ model.reading form s c t → outcomeAt n p len count canonical table ≡ model.reading form s c t
+    read-placed form s c t e = h .is canonical table (model.reading form s c t) e (reading-numbered form s c t)
+
+    pub replace-placed : (form : ℕ) (s c t : List ℕ) (l k node : ℕ) → outcome r canonical table ≡ model.replacing form s c t l k node → outcomeAt n p len count canonical table ≡ model.replacing form s c t l k node
+    replace-placed form s c t l k node e = h .is canonical table (model.replacing form s c t l k node) e (replacing-numbered form s c t l k node)
+
+    pub insert-placed : (form : ℕ) (s c t : List ℕ) (l m node k : ℕ) → outcome r canonical table ≡ inserting form s c t l m node k → outcomeAt n p len count canonical table ≡ inserting form s c t l m node k
+    insert-placed form s c t l m node k e = h .is canonical table (inserting form s c t l m node k) e (inserting-numbered form s c t l m node k)
+
   module _ (canonical table : List ℕ) (n len count : ℕ) (h : HandsReading r n len count) where
-    pub read-handed : (form : ℕ) (s c t : List ℕ) → outcome r canonical table ≡ model.reading form s c t → outcomeOf n len count canonical table ≡ model.reading form s c t
-    read-handed form s c t e = h .is canonical table (model.reading form s c t) e (reading-numbered form s c t) (reading-unplaced form s c t)
-
-    pub replace-handed : (form : ℕ) (s c t : List ℕ) (l k node : ℕ) → outcome r canonical table ≡ model.replacing form s c t l k node → outcomeOf n len count canonical table ≡ model.replacing form s c t l k node
-    replace-handed form s c t l k node e = h .is canonical table (model.replacing form s c t l k node) e (replacing-numbered form s c t l k node) (replacing-unplaced form s c t l k node)
-
-    pub insert-handed : (form : ℕ) (s c t : List ℕ) (l m node k : ℕ) → outcome r canonical table ≡ inserting form s c t l m node k → outcomeOf n len count canonical table ≡ inserting form s c t l m node k
-    insert-handed form s c t l m node k e = h .is canonical table (inserting form s c t l m node k) e (inserting-numbered form s c t l m node k) (inserting-unplaced form s c t l m node k)
-
     pub remove-handed : (c t : List ℕ) (l m node : ℕ) → outcome r canonical table ≡ removing c t l m node → outcomeOf n len count canonical table ≡ removing c t l m node
     remove-handed c t l m node e = h .is canonical table (removing c t l m node) e (removing-numbered c t l m node) (removing-unplaced c t l m node)
 

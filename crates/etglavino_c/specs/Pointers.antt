@@ -11,11 +11,19 @@ use Rattle.answers.specs.Cases.{outcome, placed}
 use Rattle.answers.specs.declared.Reading.{Reading}
 use Rattle.answers.specs.declared.Place.{Place}
 
--- the number, which tells an acceptance, the length and the node count, with both lent buffers; no place
-abbrev pub outcomeOf : ℕ → ℕ → ℕ → List ℕ → List ℕ → Outcome
-outcomeOf n len count canonical table = record { accepted = eqb n Accepted; number = n; place = 0; octets = len; count = count; canonical = canonical; table = table }
+-- the number, which tells an acceptance, the place, the length and the node count, with both lent buffers
+abbrev pub outcomeAt : ℕ → ℕ → ℕ → ℕ → List ℕ → List ℕ → Outcome
+outcomeAt n p len count canonical table = record { accepted = eqb n Accepted; number = n; place = p; octets = len; count = count; canonical = canonical; table = table }
 
--- an answer of reading or replacing handed out, as far as its number tells an acceptance, and its place is 0
+-- with no place
+abbrev pub outcomeOf : ℕ → ℕ → ℕ → List ℕ → List ℕ → Outcome
+outcomeOf n len count canonical table = outcomeAt n 0 len count canonical table
+
+-- an answer of reading or replacing handed out, as far as its number tells an acceptance
+pub record HandsPlaced (answer : Reading) (n len count p : ℕ) : Type 0 where
+  pub is : (canonical table : List ℕ) (o : Outcome) → outcome answer canonical table ≡ o → o .accepted ≡ eqb (o .number) 0 → outcomeAt n p len count canonical table ≡ o
+
+-- of one that tells no place
 pub record HandsReading (answer : Reading) (n len count : ℕ) : Type 0 where
   pub is : (canonical table : List ℕ) (o : Outcome) → outcome answer canonical table ≡ o → o .accepted ≡ eqb (o .number) 0 → o .place ≡ 0 → outcomeOf n len count canonical table ≡ o
 

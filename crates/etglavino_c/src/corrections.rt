@@ -1,8 +1,9 @@
 // Elements put into lists, and nodes removed: over numbers and over records.
 ghost use mathlib.Core.Path.{_≡_};
 ghost use Rattle.model.specs.Corrections.{inserting, removing};
-ghost use Rattle.etglavino_c.specs.Pointers.{outcomeOf};
+ghost use Rattle.etglavino_c.specs.Pointers.{outcomeAt, outcomeOf};
 ghost use Rattle.records.specs.Numbers.{numbers};
+use crate::hand_placed;
 use crate::hand_reading;
 use records::Record;
 
@@ -18,11 +19,12 @@ pub extern "C" fn etg_insert(
     k: usize,
     new_length: &mut usize,
     new_nodes: &mut usize,
+    place: &mut usize,
 ) -> u32
-    ensures { λ r. ⌜ outcomeOf r (now («new_length» .exit)) (now («new_nodes» .exit)) (now (canonical .exit)) (now (table .exit)) ≡ inserting form (now (text .entry)) (now (canonical .entry)) (now (table .entry)) length nodes node k ⌝ }
+    ensures { λ r. ⌜ outcomeAt r (now (place .exit)) (now («new_length» .exit)) (now («new_nodes» .exit)) (now (canonical .exit)) (now (table .exit)) ≡ inserting form (now (text .entry)) (now (canonical .entry)) (now (table .entry)) length nodes node k ⌝ }
 {
     let answer = etglavino::insert(form, text, canonical, table, length, nodes, node, k);
-    hand_reading(answer, new_length, new_nodes)
+    hand_placed(answer, new_length, new_nodes, place)
 }
 
 #[no_mangle]
@@ -53,11 +55,12 @@ pub extern "C" fn etg_insert_records(
     k: usize,
     new_length: &mut usize,
     new_nodes: &mut usize,
+    place: &mut usize,
 ) -> u32
-    ensures { λ r. ⌜ outcomeOf r (now («new_length» .exit)) (now («new_nodes» .exit)) (now (canonical .exit)) (numbers (now (records .exit))) ≡ inserting form (now (text .entry)) (now (canonical .entry)) (numbers (now (records .entry))) length nodes node k ⌝ }
+    ensures { λ r. ⌜ outcomeAt r (now (place .exit)) (now («new_length» .exit)) (now («new_nodes» .exit)) (now (canonical .exit)) (numbers (now (records .exit))) ≡ inserting form (now (text .entry)) (now (canonical .entry)) (numbers (now (records .entry))) length nodes node k ⌝ }
 {
     let answer = records::insert(form, text, canonical, records, length, nodes, node, k);
-    hand_reading(answer, new_length, new_nodes)
+    hand_placed(answer, new_length, new_nodes, place)
 }
 
 #[no_mangle]

@@ -8,7 +8,7 @@ mod values; // values.rt: values with a type, and hours
 
 ghost use mathlib.Core.Path.{_≡_};
 ghost use Rattle.model.specs.Answers.{reading, replacing, writing, comparing, hintPart, dataPart};
-ghost use Rattle.etglavino_c.specs.Pointers.{outcomeOf, HandsReading, outputOf, compared, comparedOf, shown, shownOf, HandsPlace};
+ghost use Rattle.etglavino_c.specs.Pointers.{outcomeAt, HandsReading, HandsPlaced, outputOf, compared, comparedOf, shown, shownOf, HandsPlace};
 ghost use Rattle.records.specs.Numbers.{numbers};
 use answers::Comparing;
 use answers::Place;
@@ -16,9 +16,9 @@ use answers::Reading;
 use answers::Writing;
 use records::Record;
 
-// An answer of reading or replacing.
-fn hand_reading(answer: Reading, length: &mut usize, nodes: &mut usize) -> u32
-    ensures { λ r. ⌜ HandsReading answer r (now (length .exit)) (now (nodes .exit)) ⌝ }
+// An answer of reading or replacing, with its place.
+fn hand_placed(answer: Reading, length: &mut usize, nodes: &mut usize, place: &mut usize) -> u32
+    ensures { λ r. ⌜ HandsPlaced answer r (now (length .exit)) (now (nodes .exit)) (now (place .exit)) ⌝ }
 {
     match answer {
         Reading::Accepted {
@@ -27,14 +27,24 @@ fn hand_reading(answer: Reading, length: &mut usize, nodes: &mut usize) -> u32
         } => {
             *length = len;
             *nodes = count;
+            *place = 0;
             0
         }
         Reading::Refused { refusal } => {
             *length = 0;
             *nodes = 0;
+            *place = refusal.place;
             refusal.number
         }
     }
+}
+
+// An answer that tells no place.
+fn hand_reading(answer: Reading, length: &mut usize, nodes: &mut usize) -> u32
+    ensures { λ r. ⌜ HandsReading answer r (now (length .exit)) (now (nodes .exit)) ⌝ }
+{
+    let mut place: usize = 0;
+    hand_placed(answer, length, nodes, &mut place)
 }
 
 // A place: 1, where it starts and where it ends; or 0.
@@ -66,11 +76,12 @@ pub extern "C" fn etg_read(
     table: &mut [u32],
     length: &mut usize,
     nodes: &mut usize,
+    place: &mut usize,
 ) -> u32
-    ensures { λ r. ⌜ outcomeOf r (now (length .exit)) (now (nodes .exit)) (now (canonical .exit)) (now (table .exit)) ≡ reading form (now (source .entry)) (now (canonical .entry)) (now (table .entry)) ⌝ }
+    ensures { λ r. ⌜ outcomeAt r (now (place .exit)) (now (length .exit)) (now (nodes .exit)) (now (canonical .exit)) (now (table .exit)) ≡ reading form (now (source .entry)) (now (canonical .entry)) (now (table .entry)) ⌝ }
 {
     let answer = etglavino::read(form, source, canonical, table);
-    hand_reading(answer, length, nodes)
+    hand_placed(answer, length, nodes, place)
 }
 
 #[no_mangle]
@@ -106,11 +117,12 @@ pub extern "C" fn etg_replace(
     node: usize,
     new_length: &mut usize,
     new_nodes: &mut usize,
+    place: &mut usize,
 ) -> u32
-    ensures { λ r. ⌜ outcomeOf r (now («new_length» .exit)) (now («new_nodes» .exit)) (now (canonical .exit)) (now (table .exit)) ≡ replacing form (now (text .entry)) (now (canonical .entry)) (now (table .entry)) length nodes node ⌝ }
+    ensures { λ r. ⌜ outcomeAt r (now (place .exit)) (now («new_length» .exit)) (now («new_nodes» .exit)) (now (canonical .exit)) (now (table .exit)) ≡ replacing form (now (text .entry)) (now (canonical .entry)) (now (table .entry)) length nodes node ⌝ }
 {
     let answer = etglavino::replace(form, text, canonical, table, length, nodes, node);
-    hand_reading(answer, new_length, new_nodes)
+    hand_placed(answer, new_length, new_nodes, place)
 }
 
 #[no_mangle]
@@ -181,11 +193,12 @@ pub extern "C" fn etg_read_records(
     records: &mut [Record],
     length: &mut usize,
     nodes: &mut usize,
+    place: &mut usize,
 ) -> u32
-    ensures { λ r. ⌜ outcomeOf r (now (length .exit)) (now (nodes .exit)) (now (canonical .exit)) (numbers (now (records .exit))) ≡ reading form (now (source .entry)) (now (canonical .entry)) (numbers (now (records .entry))) ⌝ }
+    ensures { λ r. ⌜ outcomeAt r (now (place .exit)) (now (length .exit)) (now (nodes .exit)) (now (canonical .exit)) (numbers (now (records .exit))) ≡ reading form (now (source .entry)) (now (canonical .entry)) (numbers (now (records .entry))) ⌝ }
 {
     let answer = records::read(form, source, canonical, records);
-    hand_reading(answer, length, nodes)
+    hand_placed(answer, length, nodes, place)
 }
 
 #[no_mangle]
@@ -199,11 +212,12 @@ pub extern "C" fn etg_replace_records(
     node: usize,
     new_length: &mut usize,
     new_nodes: &mut usize,
+    place: &mut usize,
 ) -> u32
-    ensures { λ r. ⌜ outcomeOf r (now («new_length» .exit)) (now («new_nodes» .exit)) (now (canonical .exit)) (numbers (now (records .exit))) ≡ replacing form (now (text .entry)) (now (canonical .entry)) (numbers (now (records .entry))) length nodes node ⌝ }
+    ensures { λ r. ⌜ outcomeAt r (now (place .exit)) (now («new_length» .exit)) (now («new_nodes» .exit)) (now (canonical .exit)) (numbers (now (records .exit))) ≡ replacing form (now (text .entry)) (now (canonical .entry)) (numbers (now (records .entry))) length nodes node ⌝ }
 {
     let answer = records::replace(form, text, canonical, records, length, nodes, node);
-    hand_reading(answer, new_length, new_nodes)
+    hand_placed(answer, new_length, new_nodes, place)
 }
 
 #[no_mangle]

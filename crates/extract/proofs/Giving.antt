@@ -85,8 +85,8 @@ counted (hinted h d) = omega arith
 counted (list f) = omega arith
 
 module _ (c : List ℕ) (n : ℕ) (before notes : List ℕ) (r : Extent) (v : Noted (take n c) before notes r) (lent : n ≤ length c) where
-  pub note-none : r ≡ extent.Refused → Judges (sheetTree c n) c n notes 0 (ltb 0 0)
-  note-none e = unsheeted c n notes (sheet-none c n lent r (v .measures) e)
+  pub note-none : (p : ℕ) → r ≡ extent.Refused p → Judges (sheetTree c n) c n notes 0 (ltb 0 0)
+  note-none p e = unsheeted c n notes (sheet-none c n lent r (v .measures) p e)
 
   module _ (len count deep : ℕ) (e : r ≡ extent.Whole len count deep) where
     pub note-deep : maxDepth < deep → Judges (sheetTree c n) c n notes 0 (ltb 0 0)
@@ -222,7 +222,7 @@ module _ (sheet : List ℕ) (len : ℕ) (before : List ℕ) (n : ℕ) (own : Boo
         is = λ o j.
             let e : o ≡ none = none-of o (sym y ∙ j .tells) in
             subst (λ (x : Option Tree). Puts (extractOf x canonical) canonical k notes r) (sym e)
-            (puts-refused (extractOf none canonical) canonical notes k 7 (omega arith) r f (λ table z. f .is canonical table ∙ refused-7 table));
+            (puts-refused (extractOf none canonical) canonical notes k 7 (omega arith) 0 r f (λ table z. f .is canonical table ∙ refused-7 table));
       }
 
 -- ---- the entries

@@ -38,7 +38,7 @@ fn note(sheet: &[u8], octets: usize, notes: &mut [usize; limits::NODES]) -> usiz
             }
             nodes
         }
-        Extent::Refused => 0,
+        Extent::Refused { place: _ } => 0,
     }
 }
 

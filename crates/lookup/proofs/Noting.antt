@@ -55,8 +55,8 @@ module _ (c : List ℕ) (n m k : ℕ) (before after : List ℕ) (r : Extent) (v 
   unfolding Sheeted ownTree chain
   none-owned e = λ table z. rw e
 
-  pub unnoted-none : r ≡ Refused → Sheeted c n m k after false
-  unnoted-none e = none-owned (none-of (sheetTree c n) (sheet-none c n lent r (v .measures) e))
+  pub unnoted-none : (p : ℕ) → r ≡ Refused p → Sheeted c n m k after false
+  unnoted-none p e = none-owned (none-of (sheetTree c n) (sheet-none c n lent r (v .measures) p e))
 
   module _ (len count deep : ℕ) (e : r ≡ Whole len count deep) where
     wholly : Wholly (decode₁ (take n c)) len count deep

@@ -98,9 +98,9 @@ module _ (c : List ℕ) (n : ℕ) where
     within = unpicked _ _ (le-ltb _ _ k)
 
     module _ (r : Extent) (w : Measures (decode₁ (take n c)) r) where
-      pub sheet-none : r ≡ Refused → false ≡ not (isNone (sheetTree c n))
+      pub sheet-none : (p : ℕ) → r ≡ Refused p → false ≡ not (isNone (sheetTree c n))
       unfolding Measures chain
-      sheet-none e = let g : decode₁ (take n c) ≡ none = subst (Measures (decode₁ (take n c))) e w in
+      sheet-none p e = let g : decode₁ (take n c) ≡ none = subst (Measures (decode₁ (take n c))) e w in
           no-tree (sheetTree c n) (λ t f. none-some (sym g ∙ sheet-of c n t f .decoded))
 
       module _ (len m d : ℕ) (e : r ≡ Whole len m d) where

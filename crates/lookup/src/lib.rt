@@ -38,7 +38,7 @@ pub fn sheet(canonical: &[u8], length: usize) -> bool
             nodes: _,
             depth,
         } => depth <= limits::DEPTH,
-        Extent::Refused => false,
+        Extent::Refused { place: _ } => false,
     }
 }
 

@@ -35,7 +35,7 @@ fn note_in(canonical: &[u8], len: usize, notes: &mut [usize], records: usize, no
             }
             true
         }
-        Extent::Refused => false,
+        Extent::Refused { place: _ } => false,
     }
 }
 

@@ -5,7 +5,7 @@ use mathlib.Core.Bool.{true}
 use mathlib.Core.List.{List, [], _∷_, _++_, map}
 use lib.ListN.{length, take, drop, replicate}
 use Rattle.base.specs.Choice.{member, every, equal, chain, isNone}
-use Rattle.model.specs.Answers.{verdict, judged, noForm, the, roomChecks, textChecks, settled, fits, fitting, sheetTree, owns, ownTree, Outcome, unchanged, filled}
+use Rattle.model.specs.Answers.{verdict, judged, noForm, the, roomChecks, textChecks, settled, fits, fitting, sheetTree, owns, ownTree, Outcome, unchanged, braced, placeOf, telling, filled}
 use Rattle.model.specs.Corrections.{inserted, noPlace, insertingChecks, inserting, removed, removingChecks, removing}
 use Rattle.model.specs.Decode.{onto, enclose, place, placeIn, nestings, onlyTree, onlyIn, nest, decode₁, decode}
 use Rattle.model.specs.Edit.{join, within, put, putIn, insert, remove}
@@ -71,5 +71,5 @@ cases =
     ∷ []
 
 corrections : map (λ c. c .0) cases ≡ map (λ c. c .1) cases
-unfolding cases member every equal chain isNone digitsUpTo digits verbatim canon nodes depth flat tableOf rows bind skip number decimal first run past sized afterNumber afterLength verbatimOf closeHint lexeme closeStrict strictLexeme before lexemesBy lexemes strictLexemes onto enclose place placeIn nestings onlyTree onlyIn nest decode₁ decode join within put putIn insert remove nodeAt nodeIn elements hasPlace verdict judged noForm the roomChecks textChecks settled fits fitting sheetTree owns ownTree filled inserted noPlace insertingChecks inserting removed removingChecks removing
+unfolding cases member every equal chain isNone digitsUpTo digits verbatim canon nodes depth flat tableOf rows bind skip number decimal first run past sized afterNumber afterLength verbatimOf closeHint lexeme closeStrict strictLexeme before lexemesBy lexemes strictLexemes onto enclose place placeIn nestings onlyTree onlyIn nest decode₁ decode join within put putIn insert remove nodeAt nodeIn elements hasPlace verdict judged noForm the roomChecks textChecks settled fits fitting sheetTree owns ownTree braced placeOf telling filled inserted noPlace insertingChecks inserting removed removingChecks removing
 corrections = refl

@@ -27,4 +27,5 @@ mod Starred
 mod Corrected
 mod Examples
 pub mod Judging
+pub mod Telling
 pub mod Numbered

@@ -1,11 +1,11 @@
--- 01's number tells whether an answer is an acceptance: it is 0 there, and in a refusal it never is. The place is 0 in all.
+-- 01's number tells whether an answer is an acceptance: it is 0 there, and in a refusal it never is.
 use Prim.Native.Nat.{ℕ}
 use mathlib.Core.Path.{_≡_, refl, sym}
 use mathlib.Core.Bool.{true}
 use mathlib.Core.List.{List}
 use lib.Dec.{eqb, eqb·suc-zero}
 use lib.ListN.{length}
-use Rattle.model.specs.Answers.{Check, judged, the, settled, sheetTree, Outcome, unchanged, filled, readingChecks, reading, replaced, replacingChecks, replacing, Output, unwritten, written, writingChecks, writing, Comparison, uncompared, comparingChecks, comparing}
+use Rattle.model.specs.Answers.{Check, judged, the, settled, sheetTree, Outcome, unchanged, telling, filled, readingChecks, reading, replaced, replacingChecks, replacing, Output, unwritten, written, writingChecks, writing, Comparison, uncompared, comparingChecks, comparing}
 use Rattle.model.specs.Compare.{same}
 use Rattle.model.specs.Corrections.{inserted, insertingChecks, inserting, removed, removingChecks, removing}
 use Rattle.model.specs.Decode.{decode}
@@ -22,37 +22,19 @@ filled-tells cs t len count canonical table =
     judged-holds cs (filled t len count canonical table) (λ n. unchanged n canonical table) Tells (refl, refl) (λ n. (sym (eqb·suc-zero n), refl))
 
 module _ (form : ℕ) (text canonical table : List ℕ) where
-  reading-tells : Tells (reading form text canonical table)
-  unfolding reading
-  reading-tells = filled-tells (readingChecks form text canonical table) (the (decode form text)) 0 0 canonical table
-
   pub reading-numbered : reading form text canonical table .accepted ≡ eqb (reading form text canonical table .number) 0
-  reading-numbered = reading-tells .0
-
-  pub reading-unplaced : reading form text canonical table .place ≡ 0
-  reading-unplaced = reading-tells .1
+  unfolding reading telling
+  reading-numbered = filled-tells (readingChecks form text canonical table) (the (decode form text)) 0 0 canonical table .0
 
   module _ (len count node : ℕ) where
-    replacing-tells : Tells (replacing form text canonical table len count node)
-    unfolding replacing
-    replacing-tells = filled-tells (replacingChecks form text canonical table len count node) (replaced form text canonical table len count node) len count canonical table
-
     pub replacing-numbered : replacing form text canonical table len count node .accepted ≡ eqb (replacing form text canonical table len count node .number) 0
-    replacing-numbered = replacing-tells .0
-
-    pub replacing-unplaced : replacing form text canonical table len count node .place ≡ 0
-    replacing-unplaced = replacing-tells .1
+    unfolding replacing telling
+    replacing-numbered = filled-tells (replacingChecks form text canonical table len count node) (replaced form text canonical table len count node) len count canonical table .0
 
     module _ (k : ℕ) where
-      inserting-tells : Tells (inserting form text canonical table len count node k)
-      unfolding inserting
-      inserting-tells = filled-tells (insertingChecks form text canonical table len count node k) (inserted form text canonical table len count node k) len count canonical table
-
       pub inserting-numbered : inserting form text canonical table len count node k .accepted ≡ eqb (inserting form text canonical table len count node k .number) 0
-      inserting-numbered = inserting-tells .0
-
-      pub inserting-unplaced : inserting form text canonical table len count node k .place ≡ 0
-      inserting-unplaced = inserting-tells .1
+      unfolding inserting telling
+      inserting-numbered = filled-tells (insertingChecks form text canonical table len count node k) (inserted form text canonical table len count node k) len count canonical table .0
 
 module _ (canonical table : List ℕ) (len count node : ℕ) where
   removing-tells : Tells (removing canonical table len count node)

@@ -58,7 +58,7 @@ after-length n (b ∷ s) {d} {k} e =
     rw (z, w .0, w .1) (sym (verb-shape d k)))
     (λ t h. never h)
 
-verb-sound : (s : List ℕ) {d k : List ℕ} → verbatimOf s ≡ got d k → s ≡ verbatim d ++ k
+pub verb-sound : (s : List ℕ) {d k : List ℕ} → verbatimOf s ≡ got d k → s ≡ verbatim d ++ k
 unfolding verbatimOf
 verb-sound [] e = never e
 verb-sound (b ∷ s) e =

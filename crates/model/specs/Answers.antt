@@ -9,6 +9,7 @@ use lib.Dec.{leb, ltb, eqb}
 use Rattle.base.specs.Choice.{pick, both, either, not, among, equal, chain, isNone}
 use Rattle.model.specs.Tree.{Tree, list, nil, canon, nodes, depth}
 use Rattle.model.specs.Table.{Row, width, tableOf, rowOf, records}
+use Rattle.model.specs.Automaton.{place}
 use Rattle.model.specs.Decode.{decode, decode₁}
 use Rattle.model.specs.Write.{encode}
 use Rattle.model.specs.Compare.{same}
@@ -106,6 +107,29 @@ unchangedAt n p canonical table = record { accepted = false; number = n; place =
 abbrev pub unchanged : ℕ → List ℕ → List ℕ → Outcome
 unchanged n canonical table = unchangedAt n 0 canonical table
 
+-- Ask 7, "in form 2 where the text doesn't begin with `{`"
+unfoldable pub braced : List ℕ → Bool
+braced [] = false
+braced (b ∷ s) = eqb b 123
+
+-- the place that is told of a text that is not in its form's language. Ask 7, "With refusal 3 in form 1, and in form 2 where the text
+-- doesn't begin with `{`, also give the largest p ..": `place` is that (crate automaton, `place-largest`). "In the other cases p is 0"
+unfoldable pub placeOf : ℕ → List ℕ → ℕ
+placeOf form text = pick (either (eqb form 1) (both (eqb form 2) (not (braced text)))) (place text) 0
+
+-- the same answer, and with refusal 3 a place. Ask 7, "01's \"counts are 0 in a refusal\" gets this exception"
+unfoldable pub telling : ℕ → Outcome → Outcome
+telling p o =
+    record {
+      accepted = o .accepted;
+      number = o .number;
+      place = pick (eqb (o .number) Syntax) p (o .place);
+      octets = o .octets;
+      count = o .count;
+      canonical = o .canonical;
+      table = o .table;
+    }
+
 -- the tree put where a sheet of oldOctets octets and oldCount nodes stood
 unfoldable pub filled : Tree → ℕ → ℕ → List ℕ → List ℕ → Outcome
 filled t oldOctets oldCount canonical table =
@@ -126,9 +150,10 @@ readingChecks form source canonical table = textChecks form source (roomChecks (
 -- 01, "An accepted reading gives length and node count; octets and records past them stay"
 unfoldable pub reading : ℕ → List ℕ → List ℕ → List ℕ → Outcome
 reading form source canonical table =
-    judged (readingChecks form source canonical table)
+    telling (placeOf form source)
+    (judged (readingChecks form source canonical table)
     (filled (the (decode form source)) 0 0 canonical table)
-    (λ n. unchanged n canonical table)
+    (λ n. unchanged n canonical table))
 
 -- the corrected tree
 unfoldable pub replaced : ℕ → List ℕ → List ℕ → List ℕ → ℕ → ℕ → ℕ → Tree
@@ -145,9 +170,10 @@ replacingChecks form text canonical table len count node =
 -- 01, "An accepted correction gives the new length and node count"
 unfoldable pub replacing : ℕ → List ℕ → List ℕ → List ℕ → ℕ → ℕ → ℕ → Outcome
 replacing form text canonical table len count node =
-    judged (replacingChecks form text canonical table len count node)
+    telling (placeOf form text)
+    (judged (replacingChecks form text canonical table len count node)
     (filled (replaced form text canonical table len count node) len count canonical table)
-    (λ n. unchanged n canonical table)
+    (λ n. unchanged n canonical table))
 
 -- ---- writing: whether it is accepted, 01's number, a place (0: writing tells none), the length, and the lent output afterwards
 pub record Output : Type 0 where

@@ -10,7 +10,7 @@ use Rattle.model.specs.Node.{nodeAt, hasPlace}
 use Rattle.model.specs.Edit.{insert, remove}
 use Rattle.model.specs.Decode.{decode}
 use Rattle.model.specs.Limits.{NotOwn, NoNode, NoPlace}
-use Rattle.model.specs.Answers.{Check, when, judged, the, roomChecks, textChecks, ownTree, Outcome, unchanged, filled}
+use Rattle.model.specs.Answers.{Check, when, judged, the, roomChecks, textChecks, ownTree, Outcome, unchanged, placeOf, telling, filled}
 
 -- the sheet's tree, with the text's as the k-th element of the list
 unfoldable pub inserted : ℕ → List ℕ → List ℕ → List ℕ → ℕ → ℕ → ℕ → ℕ → Tree
@@ -29,11 +29,13 @@ insertingChecks form text canonical table len count node k =
     ∷ when NoPlace (noPlace canonical table len count node k)
     ∷ roomChecks (inserted form text canonical table len count node k) canonical table)
 
+-- a place is told of the text, as in a correction (`placeOf`)
 unfoldable pub inserting : ℕ → List ℕ → List ℕ → List ℕ → ℕ → ℕ → ℕ → ℕ → Outcome
 inserting form text canonical table len count node k =
-    judged (insertingChecks form text canonical table len count node k)
+    telling (placeOf form text)
+    (judged (insertingChecks form text canonical table len count node k)
     (filled (inserted form text canonical table len count node k) len count canonical table)
-    (λ n. unchanged n canonical table)
+    (λ n. unchanged n canonical table))
 
 -- the sheet's tree without the node
 unfoldable pub removed : List ℕ → List ℕ → ℕ → ℕ → ℕ → Tree

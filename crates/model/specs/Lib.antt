@@ -11,5 +11,8 @@ pub mod Compare
 pub mod Edit
 pub mod Node
 pub mod Limits
+pub mod Count
+pub mod Begins
+pub mod Automaton
 pub mod Answers
 pub mod Corrections

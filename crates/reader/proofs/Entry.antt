@@ -6,12 +6,13 @@ use mathlib.Core.Bool.{Bool, true}
 use mathlib.Core.List.{List}
 use lib.ListN.{length}
 use lib.Seq.{sets}
-use Rattle.model.specs.Answers.{unchanged, noForm, textChecks, readingChecks, reading}
+use Rattle.model.specs.Answers.{unchanged, placeOf, telling, noForm, textChecks, readingChecks, reading}
 use Rattle.model.specs.Decode.{decode}
 use Rattle.model.specs.Limits.{maxSource, mostNodes}
 use Rattle.sheets.specs.Places.{shift}
 use Rattle.texts.specs.Texts.{textVerdict, Formed, Bare}
-use Rattle.texts.proofs.Rows.{text-refused, text-taken}
+use Rattle.model.proofs.Telling.{telling-same}
+use Rattle.texts.proofs.Rows.{row-other, text-refused, text-taken}
 use Rattle.texts.proofs.Sizes.{small-takes, long-takes}
 use Rattle.answers.specs.Cases.{outcome, Refuses}
 use Rattle.answers.specs.declared.Reading.{Reading}
@@ -43,25 +44,28 @@ module _ (form : ℕ) (source : List ℕ) (b : Bool) (g : Bare form source b) (e
   unfolding reading readingChecks textChecks noForm
   read-bare canonical table canonical′ table′ a f =
       let z : noForm form ≡ noForm 1 = ap noForm (g .bared e .basic) in
-      f ∙ sym (rw (g .bared e .is, z))
+      f ∙ sym (rw (g .bared e .is, z, g .bared e .told))
 
 -- ---- rows 1 and 2
 module _ (form : ℕ) (source canonical table : List ℕ) (n : ℕ) (v : n ≡ textVerdict form (length source)) where
   pub read-refused : 0 < n → (a : Reading) → Refuses n a → outcome a canonical table ≡ reading form source canonical table
   unfolding reading readingChecks
-  read-refused h a f = f .is canonical table ∙ sym (text-refused form source _ _ (λ (k : ℕ). unchanged k canonical table) n v h)
+  read-refused h a f =
+      f .is canonical table
+      ∙ sym (ap (telling (placeOf form source)) (text-refused form source _ _ (λ (k : ℕ). unchanged k canonical table) n v h)
+      ∙ telling-same (placeOf form source) (unchanged n canonical table) (row-other form (length source) n v))
 
-  pub read-taken : n ≤ 0 → (canonical′ table′ : List ℕ) (a : Reading) → outcome a canonical′ table′ ≡ readTree (decode form source) canonical table → outcome a canonical′ table′ ≡ reading form source canonical table
+  pub read-taken : n ≤ 0 → (canonical′ table′ : List ℕ) (a : Reading) → outcome a canonical′ table′ ≡ readTree (decode form source) (placeOf form source) canonical table → outcome a canonical′ table′ ≡ reading form source canonical table
   unfolding reading readingChecks readTree
-  read-taken h canonical′ table′ a f = f ∙ sym (text-taken form source _ _ (λ (k : ℕ). unchanged k canonical table) n v h)
+  read-taken h canonical′ table′ a f = f ∙ sym (ap (telling (placeOf form source)) (text-taken form source _ _ (λ (k : ℕ). unchanged k canonical table) n v h))
 
 -- ---- the same, of an answer whose table is told by notes
 module _ (form : ℕ) (source canonical notes : List ℕ) (k n : ℕ) (v : n ≡ textVerdict form (length source)) where
   pub notes-refused : 0 < n → (a : Reading) → Refuses n a → Puts (reading form source canonical) canonical k notes a
-  notes-refused h a f = puts-refused (reading form source canonical) canonical notes k n h a f (λ table z. read-refused form source canonical table n v h a f)
+  notes-refused h a f = puts-refused (reading form source canonical) canonical notes k n h 0 a f (λ table z. read-refused form source canonical table n v h a f)
 
   module _ (canonical′ : List ℕ) (h : n ≤ 0) where
-    pub notes-taken : (a : Reading) → Puts (readTree (decode form source) canonical) canonical′ k notes a → Puts (reading form source canonical) canonical′ k notes a
+    pub notes-taken : (a : Reading) → Puts (readTree (decode form source) (placeOf form source) canonical) canonical′ k notes a → Puts (reading form source canonical) canonical′ k notes a
     unfolding Puts
     notes-taken (answer.Accepted len count) p =
         record {

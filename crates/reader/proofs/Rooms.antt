@@ -7,17 +7,18 @@ use mathlib.Core.Option.{Option, none, some}
 use mathlib.Core.List.{List, _∷_}
 use lib.ListN.{length}
 use lib.Seq.{sets}
-use lib.Dec.{ltb}
+use lib.Dec.{ltb, eqb}
 use borrow.Author.Tests.{lt-ltb, le-ltb, ltb-false}
 use Rattle.base.specs.Choice.{pick, either, isNone}
 use Rattle.base.proofs.Cases.{pick-cases, picked, unpicked}
 use Rattle.base.proofs.Stores.{sets-all}
-use Rattle.model.specs.Answers.{when, verdict, judged, the, roomChecks, settled, unchanged, filled}
+use Rattle.model.specs.Answers.{when, verdict, judged, the, roomChecks, settled, unchangedAt, unchanged, telling, filled}
 use Rattle.model.specs.Limits.{maxDepth, maxCanonical, Accepted, Syntax, Depth, Nodes, Size}
 use Rattle.model.specs.Table.{records}
 use Rattle.model.specs.Tree.{Tree, canon, nodes, depth}
 use Rattle.model.proofs.Judging.{judged-accepted, judged-refused}
-use Rattle.walk.specs.Count.{count}
+use Rattle.model.proofs.Telling.{telling-same, rooms-other}
+use Rattle.model.specs.Count.{count}
 use Rattle.reader.specs.Stored.{roomVerdict, readTree}
 
 module _ (deep count len octets records : ℕ) where
@@ -72,9 +73,9 @@ rooms t canonical table =
     ap (pick (ltb maxDepth (depth t)) Depth)
     (ap (pick (ltb (records table) (nodes t)) Nodes) (split (ltb maxCanonical (length (canon t))) (ltb (length canonical) (length (canon t))) Size Accepted))
 
-module _ (o : Option Tree) (canonical table : List ℕ) where
-  pub tree-none : o ≡ none → readTree o canonical table ≡ unchanged 3 canonical table
-  unfolding readTree judged verdict isNone
+module _ (o : Option Tree) (p : ℕ) (canonical table : List ℕ) where
+  pub tree-none : o ≡ none → readTree o p canonical table ≡ unchangedAt 3 p canonical table
+  unfolding readTree judged verdict isNone telling
   tree-none e = rw e
 
   module _ (t : Tree) (e : o ≡ some t) where
@@ -82,13 +83,15 @@ module _ (o : Option Tree) (canonical table : List ℕ) where
     unfolding verdict isNone the
     verdict-is = rw e (rooms t canonical table)
 
-    pub tree-refused : (n : ℕ) → n ≡ roomVerdict (depth t) (nodes t) (length (canon t)) (length canonical) (records table) → 0 < n → readTree o canonical table ≡ unchanged n canonical table
+    pub tree-refused : (n : ℕ) → n ≡ roomVerdict (depth t) (nodes t) (length (canon t)) (length canonical) (records table) → 0 < n → readTree o p canonical table ≡ unchanged n canonical table
     unfolding readTree
-    tree-refused n h k = judged-refused _ _ _ n (verdict-is ∙ sym h) k
+    tree-refused n h k =
+        ap (telling p) (judged-refused _ _ _ n (verdict-is ∙ sym h) k)
+        ∙ telling-same p (unchanged n canonical table) (ap (λ (v : ℕ). eqb v Syntax) (h ∙ sym (rooms t canonical table)) ∙ rooms-other t canonical table .is)
 
-    pub tree-accepted : roomVerdict (depth t) (nodes t) (length (canon t)) (length canonical) (records table) ≡ 0 → readTree o canonical table ≡ filled t 0 0 canonical table
-    unfolding readTree the
-    tree-accepted h = judged-accepted _ _ _ (verdict-is ∙ h) ∙ ap (λ (x : Option Tree). filled (the x) 0 0 canonical table) e
+    pub tree-accepted : roomVerdict (depth t) (nodes t) (length (canon t)) (length canonical) (records table) ≡ 0 → readTree o p canonical table ≡ filled t 0 0 canonical table
+    unfolding readTree the telling filled
+    tree-accepted h = ap (telling p) (judged-accepted _ _ _ (verdict-is ∙ h) ∙ ap (λ (x : Option Tree). filled (the x) 0 0 canonical table) e)
 
 -- ---- lent space from the front
 

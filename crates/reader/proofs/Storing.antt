@@ -7,7 +7,7 @@ use mathlib.Core.Option.{Option, none, some}
 use mathlib.Core.List.{List, []}
 use lib.ListN.{length, take, drop, length-take}
 use lib.Seq.{sets}
-use Rattle.model.specs.Answers.{the, Outcome, filled}
+use Rattle.model.specs.Answers.{the, Outcome, unchangedAt, placeOf, filled}
 use Rattle.model.specs.Decode.{decode}
 use Rattle.model.specs.Limits.{Accepted, maxSource}
 use Rattle.model.specs.Table.{width, records, tableOf}
@@ -21,7 +21,7 @@ use Rattle.scan.specs.Writes.{Wrote}
 use Rattle.sheets.specs.Told.{Holds, Fillable, Filled}
 use Rattle.texts.specs.Texts.{Takeable, Taken}
 use Rattle.texts.proofs.Sizes.{tripled}
-use Rattle.answers.specs.Cases.{outcome, Refuses}
+use Rattle.answers.specs.Cases.{outcome, RefusesAt, Refuses}
 use Rattle.answers.specs.declared.Refusal.{Refusal}
 use Rattle.answers.specs.declared.Reading.{Reading}
 use Rattle.answers.specs.declared.Reading.the-variants as reading
@@ -38,23 +38,25 @@ same-outcome p q r s = λ i. record { accepted = true; number = Accepted; place 
 -- ---- all but the table
 
 module _ (answer : List ℕ → Outcome) (canonical notes : List ℕ) (n k : ℕ) (h : 0 < k) where
-  pub puts-refused : (r : Reading) → Refuses k r → ((table : List ℕ) → records table ≡ n → outcome r canonical table ≡ answer table) → Puts answer canonical n notes r
+  pub puts-refused : (p : ℕ) (r : Reading) → RefusesAt k p r → ((table : List ℕ) → records table ≡ n → outcome r canonical table ≡ answer table) → Puts answer canonical n notes r
   unfolding Puts outcome
-  puts-refused (reading.Accepted len count) f g = let z : 0 ≡ k = ap (λ (x : Outcome). x .number) (f .is [] []) in absurd (omega arith)
-  puts-refused (reading.Refused x) f g = g
+  puts-refused p (reading.Accepted len count) f g = let z : 0 ≡ k = ap (λ (x : Outcome). x .number) (f .is [] []) in absurd (omega arith)
+  puts-refused p (reading.Refused x) f g = g
 
-module _ (form : ℕ) (source canonical scratch : List ℕ) (n : ℕ) (notes notes′ : List ℕ) (x : Extent) (m : Taken (decode form source) scratch notes notes′ x) where
+module _ (form : ℕ) (source canonical scratch : List ℕ) (n : ℕ) (notes notes′ : List ℕ) (x : Extent) (m : Taken (decode form source) (placeOf form source) scratch notes notes′ x) where
   abbrev meant : Option Tree
   meant = decode form source
 
   abbrev answer : List ℕ → Outcome
-  answer = readTree (decode form source) canonical
+  answer = readTree (decode form source) (placeOf form source) canonical
 
-  pub put-none : x ≡ extent.Refused → (r : Reading) → Refuses 3 r → Puts (readTree (decode form source) canonical) canonical n notes′ r
+  pub put-none : (q : ℕ) → x ≡ extent.Refused q → (r : Reading) → RefusesAt 3 q r → Puts (readTree (decode form source) (placeOf form source) canonical) canonical n notes′ r
   unfolding Measures
-  put-none e r f =
-      puts-refused answer canonical notes′ n 3 (omega arith) r f
-      (λ table z. f .is canonical table ∙ sym (tree-none meant canonical table (subst (Measures meant) e (m .measures))))
+  put-none q e r f =
+      puts-refused answer canonical notes′ n 3 (omega arith) q r f
+      (λ table z.
+      f .is canonical table ∙ ap (λ (p : ℕ). unchangedAt 3 p canonical table) (m .fails q e)
+      ∙ sym (tree-none meant (placeOf form source) canonical table (subst (Measures meant) e (m .measures))))
 
   module _ (len count deep : ℕ) (e : x ≡ extent.Whole len count deep) where
     whole : Wholly meant len count deep
@@ -68,10 +70,10 @@ module _ (form : ℕ) (source canonical scratch : List ℕ) (n : ℕ) (notes not
     sized k = same-verdict (length canonical) k (sym (whole .deepest)) (sym (whole .counted)) (sym (whole .long))
 
     module _ (k : ℕ) (h : k ≡ roomVerdict deep count len (length canonical) n) where
-      pub put-refused : 0 < k → (r : Reading) → Refuses k r → Puts (readTree (decode form source) canonical) canonical n notes′ r
+      pub put-refused : 0 < k → (r : Reading) → Refuses k r → Puts (readTree (decode form source) (placeOf form source) canonical) canonical n notes′ r
       put-refused l r f =
-          puts-refused answer canonical notes′ n k l r f
-          (λ table z. f .is canonical table ∙ sym (tree-refused meant canonical table tree (whole .is) k (h ∙ sym (rw z (sized n))) l))
+          puts-refused answer canonical notes′ n k l 0 r f
+          (λ table z. f .is canonical table ∙ sym (tree-refused meant (placeOf form source) canonical table tree (whole .is) k (h ∙ sym (rw z (sized n))) l))
 
       module _ (l : k ≤ 0) where
         good : roomVerdict deep count len (length canonical) n ≡ 0
@@ -101,7 +103,7 @@ module _ (form : ℕ) (source canonical scratch : List ℕ) (n : ℕ) (notes not
           held : Holds notes′ count tree
           held = subst (λ (i : ℕ). Holds notes′ i tree) (sym (whole .counted)) (m .noted tree (whole .is) (omega (arith, whole .long, lodged .small)) (omega (arith, whole .deepest, lodged .shallow)) room)
 
-          pub put-accepted : (canonical′ : List ℕ) (p : ℕ) → Wrote (take len (drop 0 scratch)) 0 canonical canonical′ p → Puts (readTree (decode form source) canonical) canonical′ n notes′ (reading.Accepted len count)
+          pub put-accepted : (canonical′ : List ℕ) (p : ℕ) → Wrote (take len (drop 0 scratch)) 0 canonical canonical′ p → Puts (readTree (decode form source) (placeOf form source) canonical) canonical′ n notes′ (reading.Accepted len count)
           unfolding Puts outcome filled
           put-accepted canonical′ p w =
               record {
@@ -113,23 +115,23 @@ module _ (form : ℕ) (source canonical scratch : List ℕ) (n : ℕ) (notes not
                     same-outcome (whole .long) (whole .counted)
                     (w .same ∙ ap (sets canonical 0) front-is ∙ sym (settled-front canonical (canon tree) (omega (arith, whole .long, lodged .lent))))
                     (sym (settled-front table (tableOf tree) (omega (arith, table-length tree, whole .counted, lodged .recorded, z))))
-                    ∙ sym (tree-accepted meant canonical table tree (whole .is) (rw z (sized n) ∙ good));
+                    ∙ sym (tree-accepted meant (placeOf form source) canonical table tree (whole .is) (rw z (sized n) ∙ good));
               }
 
 -- ---- and the table
 
-module _ (o : Option Tree) (canonical canonical′ notes table : List ℕ) (n : ℕ) (z : n ≡ length table / width) (r : Reading) (m : Puts (readTree o canonical) canonical′ n notes r) where
+module _ (o : Option Tree) (p : ℕ) (canonical canonical′ notes table : List ℕ) (n : ℕ) (z : n ≡ length table / width) (r : Reading) (m : Puts (readTree o p canonical) canonical′ n notes r) where
   module _ (len count : ℕ) (e : r ≡ reading.Accepted len count) where
-    accepting : Accepting (readTree o canonical) canonical′ n notes len count
+    accepting : Accepting (readTree o p canonical) canonical′ n notes len count
     unfolding Puts
-    accepting = subst (Puts (readTree o canonical) canonical′ n notes) e m
+    accepting = subst (Puts (readTree o p canonical) canonical′ n notes) e m
 
     pub fill-room : Fillable notes count (length table)
     fill-room = record { tree = accepting .tree; held = accepting .held; fits = omega (arith, accepting .recorded) }
 
-    pub fill-accepted : (table′ : List ℕ) → Filled notes count table table′ → outcome (reading.Accepted len count) canonical′ table′ ≡ readTree o canonical table
+    pub fill-accepted : (table′ : List ℕ) → Filled notes count table table′ → outcome (reading.Accepted len count) canonical′ table′ ≡ readTree o p canonical table
     fill-accepted table′ f = ap (outcome (reading.Accepted len count) canonical′) (f .fills (accepting .tree) (accepting .held)) ∙ accepting .is table (sym z)
 
-  pub fill-refused : (f : Refusal) → r ≡ reading.Refused f → outcome (reading.Refused f) canonical′ table ≡ readTree o canonical table
+  pub fill-refused : (f : Refusal) → r ≡ reading.Refused f → outcome (reading.Refused f) canonical′ table ≡ readTree o p canonical table
   unfolding Puts
-  fill-refused f e = let g : (table : List ℕ) → records table ≡ n → outcome (reading.Refused f) canonical′ table ≡ readTree o canonical table = subst (Puts (readTree o canonical) canonical′ n notes) e m in g table (sym z)
+  fill-refused f e = let g : (table : List ℕ) → records table ≡ n → outcome (reading.Refused f) canonical′ table ≡ readTree o p canonical table = subst (Puts (readTree o p canonical) canonical′ n notes) e m in g table (sym z)

@@ -10,7 +10,7 @@ use Rattle.base.specs.Choice.{pick, isNone}
 use Rattle.model.specs.Tree.{Tree}
 use Rattle.model.specs.Table.{records, tableOf}
 use Rattle.model.specs.Limits.{maxDepth, mostNodes, maxCanonical, Accepted, Syntax, Depth, Nodes, Size}
-use Rattle.model.specs.Answers.{Outcome, when, judged, the, roomChecks, filled, unchanged}
+use Rattle.model.specs.Answers.{Outcome, when, judged, the, roomChecks, filled, unchanged, telling}
 use Rattle.answers.specs.declared.Reading.{Reading}
 use Rattle.answers.specs.declared.Reading.the-variants as reading
 use Rattle.answers.specs.Cases.{outcome}
@@ -25,12 +25,13 @@ roomVerdict deep count len octets records =
     (pick (ltb maxCanonical len) Size
     (pick (ltb octets len) Size Accepted)))
 
--- rows 3 to 6, and what is written, of the tree that a text means, if it means one
-unfoldable pub readTree : Option Tree → List ℕ → List ℕ → Outcome
-readTree o canonical table =
-    judged (when Syntax (isNone o) ∷ roomChecks (the o) canonical table)
+-- rows 3 to 6, and what is written, of the tree that a text means, if it means one, else the place p that is told
+unfoldable pub readTree : Option Tree → ℕ → List ℕ → List ℕ → Outcome
+readTree o p canonical table =
+    telling p
+    (judged (when Syntax (isNone o) ∷ roomChecks (the o) canonical table)
     (filled (the o) 0 0 canonical table)
-    (λ n. unchanged n canonical table)
+    (λ n. unchanged n canonical table))
 
 -- notes for every tree that fits and that a text of n octets can mean
 pub data Noteable (n room : ℕ) : Type 0 where

@@ -5,12 +5,13 @@ mod tiers; // tiers.rt: local space for a text
 ghost use mathlib.Core.Path.{_≡_};
 ghost use lib.ListN.{length};
 ghost use Rattle.model.specs.Decode.{decode};
-ghost use Rattle.model.specs.Answers.{reading};
+ghost use Rattle.model.specs.Answers.{placeOf, reading};
 ghost use Rattle.answers.specs.Cases.{outcome};
 ghost use Rattle.octets.specs.Classes.{Classed, Lettered};
 ghost use Rattle.reader.specs.Stored.{roomVerdict, readTree, Spaced, Puts};
 use answers::Reading;
 use answers::refused;
+use answers::refused_at;
 use walk::Extent;
 
 // The first of rows 4 to 6 that applies to a tree of these sizes, in room for so many octets and records; 0 where none does.
@@ -46,7 +47,7 @@ pub fn put(
     requires { ⌜ Classed (now classes) ⌝ }
     requires { ⌜ Lettered (now letters) ⌝ }
     requires { ⌜ Spaced form (length (now source)) (length (now scratch)) (length (now notes)) ⌝ }
-    ensures { λ r. ⌜ Puts (readTree (decode form (now (source .entry))) (now (canonical .entry))) (now (canonical .exit)) records (now (notes .exit)) r ⌝ }
+    ensures { λ r. ⌜ Puts (readTree (decode form (now (source .entry))) (placeOf form (now (source .entry))) (now (canonical .entry))) (now (canonical .exit)) records (now (notes .exit)) r ⌝ }
 {
     match texts::take(classes, letters, form, source, scratch, notes) {
         Extent::Whole { len, nodes, depth } => {
@@ -57,7 +58,7 @@ pub fn put(
             scan::copy(scratch, 0, len, canonical, 0);
             Reading::Accepted { length: len, nodes }
         }
-        Extent::Refused => refused(3),
+        Extent::Refused { place } => refused_at(3, place),
     }
 }
 
@@ -75,7 +76,7 @@ fn read_in(
     requires { ⌜ Classed (now classes) ⌝ }
     requires { ⌜ Lettered (now letters) ⌝ }
     requires { ⌜ Spaced form (length (now source)) (length (now scratch)) (length (now notes)) ⌝ }
-    ensures { λ r. ⌜ outcome r (now (canonical .exit)) (now (table .exit)) ≡ readTree (decode form (now (source .entry))) (now (canonical .entry)) (now (table .entry)) ⌝ }
+    ensures { λ r. ⌜ outcome r (now (canonical .exit)) (now (table .exit)) ≡ readTree (decode form (now (source .entry))) (placeOf form (now (source .entry))) (now (canonical .entry)) (now (table .entry)) ⌝ }
 {
     let records = table.len() / limits::WIDTH;
     match put(

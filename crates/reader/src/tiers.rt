@@ -1,6 +1,7 @@
 // Local space for a text, in three sizes: a short text does not pay for clearing the largest.
 ghost use mathlib.Core.Path.{_≡_};
 ghost use lib.ListN.{length};
+ghost use Rattle.model.specs.Answers.{placeOf};
 ghost use Rattle.model.specs.Decode.{decode};
 ghost use Rattle.model.specs.Limits.{maxSource};
 ghost use Rattle.answers.specs.Cases.{outcome};
@@ -22,7 +23,7 @@ pub fn read_short(
     requires { ⌜ Classed (now classes) ⌝ }
     requires { ⌜ Lettered (now letters) ⌝ }
     requires { ⌜ Formed form (length (now source)) 128 ⌝ }
-    ensures { λ r. ⌜ outcome r (now (canonical .exit)) (now (table .exit)) ≡ readTree (decode form (now (source .entry))) (now (canonical .entry)) (now (table .entry)) ⌝ }
+    ensures { λ r. ⌜ outcome r (now (canonical .exit)) (now (table .exit)) ≡ readTree (decode form (now (source .entry))) (placeOf form (now (source .entry))) (now (canonical .entry)) (now (table .entry)) ⌝ }
 {
     let mut scratch: [u8; limits::SHORT_SCRATCH] = [0; limits::SHORT_SCRATCH];
     let mut notes: [usize; limits::SHORT_NOTES] = [0; limits::SHORT_NOTES];
@@ -49,7 +50,7 @@ pub fn read_middle(
     requires { ⌜ Classed (now classes) ⌝ }
     requires { ⌜ Lettered (now letters) ⌝ }
     requires { ⌜ Formed form (length (now source)) 1024 ⌝ }
-    ensures { λ r. ⌜ outcome r (now (canonical .exit)) (now (table .exit)) ≡ readTree (decode form (now (source .entry))) (now (canonical .entry)) (now (table .entry)) ⌝ }
+    ensures { λ r. ⌜ outcome r (now (canonical .exit)) (now (table .exit)) ≡ readTree (decode form (now (source .entry))) (placeOf form (now (source .entry))) (now (canonical .entry)) (now (table .entry)) ⌝ }
 {
     let mut scratch: [u8; limits::MIDDLE_SCRATCH] = [0; limits::MIDDLE_SCRATCH];
     let mut notes: [usize; limits::MIDDLE_NOTES] = [0; limits::MIDDLE_NOTES];
@@ -76,7 +77,7 @@ pub fn read_long(
     requires { ⌜ Classed (now classes) ⌝ }
     requires { ⌜ Lettered (now letters) ⌝ }
     requires { ⌜ Formed form (length (now source)) maxSource ⌝ }
-    ensures { λ r. ⌜ outcome r (now (canonical .exit)) (now (table .exit)) ≡ readTree (decode form (now (source .entry))) (now (canonical .entry)) (now (table .entry)) ⌝ }
+    ensures { λ r. ⌜ outcome r (now (canonical .exit)) (now (table .exit)) ≡ readTree (decode form (now (source .entry))) (placeOf form (now (source .entry))) (now (canonical .entry)) (now (table .entry)) ⌝ }
 {
     let mut scratch: [u8; limits::LONG_SCRATCH] = [0; limits::LONG_SCRATCH];
     let mut notes: [usize; limits::NODES] = [0; limits::NODES];
@@ -104,7 +105,7 @@ pub fn put_short(
     requires { ⌜ Classed (now classes) ⌝ }
     requires { ⌜ Lettered (now letters) ⌝ }
     requires { ⌜ Formed form (length (now source)) 128 ⌝ }
-    ensures { λ r. ⌜ Puts (readTree (decode form (now (source .entry))) (now (canonical .entry))) (now (canonical .exit)) records (now (notes .exit)) r ⌝ }
+    ensures { λ r. ⌜ Puts (readTree (decode form (now (source .entry))) (placeOf form (now (source .entry))) (now (canonical .entry))) (now (canonical .exit)) records (now (notes .exit)) r ⌝ }
 {
     let mut scratch: [u8; limits::SHORT_SCRATCH] = [0; limits::SHORT_SCRATCH];
     put(
@@ -131,7 +132,7 @@ pub fn put_middle(
     requires { ⌜ Classed (now classes) ⌝ }
     requires { ⌜ Lettered (now letters) ⌝ }
     requires { ⌜ Formed form (length (now source)) 1024 ⌝ }
-    ensures { λ r. ⌜ Puts (readTree (decode form (now (source .entry))) (now (canonical .entry))) (now (canonical .exit)) records (now (notes .exit)) r ⌝ }
+    ensures { λ r. ⌜ Puts (readTree (decode form (now (source .entry))) (placeOf form (now (source .entry))) (now (canonical .entry))) (now (canonical .exit)) records (now (notes .exit)) r ⌝ }
 {
     let mut scratch: [u8; limits::MIDDLE_SCRATCH] = [0; limits::MIDDLE_SCRATCH];
     put(
@@ -158,7 +159,7 @@ pub fn put_long(
     requires { ⌜ Classed (now classes) ⌝ }
     requires { ⌜ Lettered (now letters) ⌝ }
     requires { ⌜ Formed form (length (now source)) maxSource ⌝ }
-    ensures { λ r. ⌜ Puts (readTree (decode form (now (source .entry))) (now (canonical .entry))) (now (canonical .exit)) records (now (notes .exit)) r ⌝ }
+    ensures { λ r. ⌜ Puts (readTree (decode form (now (source .entry))) (placeOf form (now (source .entry))) (now (canonical .entry))) (now (canonical .exit)) records (now (notes .exit)) r ⌝ }
 {
     let mut scratch: [u8; limits::LONG_SCRATCH] = [0; limits::LONG_SCRATCH];
     put(

@@ -12,7 +12,7 @@ use Rattle.model.specs.Limits.{maxDepth, maxSource}
 use Rattle.model.specs.Table.{Row}
 use Rattle.model.specs.Tree.{Tree, nodes, depth}
 use Rattle.model.proofs.Nesting.{unnest}
-use Rattle.walk.specs.Count.{Count, count, step, walk, counts}
+use Rattle.model.specs.Count.{Count, count, step, walk, counts}
 use Rattle.walk.specs.Events.{event, Frame, events}
 use Rattle.walk.proofs.Chained.{walk-grows}
 use Rattle.walk.proofs.Fronts.{framesOf, frames-push, frames-pop, walk-front, close-step-is}

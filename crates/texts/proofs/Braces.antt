@@ -1,7 +1,7 @@
 -- Base-64 in braces: what is decoded, and that it has room.
 use Prim.Native.Nat.{ℕ, _+_, _*_, _≤_, _<_}
 use native.Mathlib.Omega.{arith}
-use mathlib.Core.Path.{_≡_, refl, sym, ap, _∙_}
+use mathlib.Core.Path.{_≡_, refl, sym, ap, _∙_, subst}
 use mathlib.Core.Option.{Option, none, some}
 use mathlib.Core.List.{List, [], _∷_}
 use lib.ListN.{length, take, drop, getD, length-drop, drop-of-length-le}
@@ -17,7 +17,10 @@ use Rattle.model.proofs.Streams.{between}
 use Rattle.scan.proofs.Places.{one-here}
 use Rattle.marks.specs.Decoded.{Spacious, Decoded, Decodes}
 use Rattle.walk.specs.declared.Extent.{Extent}
-use Rattle.walk.specs.declared.Extent.the-variants.{Refused}
+use Rattle.walk.specs.declared.Extent.the-variants.{Whole, Refused}
+use Rattle.walk.specs.Extent.{Measures}
+use Rattle.model.specs.Tree.{Tree}
+use Rattle.sheets.proofs.Noting.{whole-refused}
 use Rattle.sheets.specs.Notes.{Noted}
 use Rattle.advanced.specs.Converted.{Lent}
 use Rattle.texts.specs.Texts.{Braced, Taken}
@@ -88,16 +91,16 @@ module _ (text scratch : List ℕ) (g : Braced text × Lent (length text) (lengt
   brace-room = record { inside = g .0 .more; space = omega (arith, lent-room (length text) (length scratch) (g .1)) }
 
   module _ (scratch′ : List ℕ) (len next : ℕ) (w : Decodes text (inside text) 1 0 scratch scratch′ len next) where
-    pub brace-none : next ≡ 0 → (notes : List ℕ) → Taken (decode₂ rules text) scratch′ notes notes Refused
-    brace-none z notes = taken-none (decode₂ rules text) scratch′ notes notes (ap (decode₂ rules) text-is ∙ braces-none (drop 1 text) (w .none z))
+    pub brace-none : next ≡ 0 → (notes : List ℕ) → Taken (decode₂ rules text) 0 scratch′ notes notes (Refused 0)
+    brace-none z notes = taken-none (decode₂ rules text) 0 scratch′ notes notes (ap (decode₂ rules) text-is ∙ braces-none (drop 1 text) (w .none z))
 
     module _ (n : next ≡ 0 → ⊥) where
       told : Decoded text (inside text) 1 0 scratch scratch′ len next
       told = w .some n
 
-      pub brace-more : next < length text → (notes : List ℕ) → Taken (decode₂ rules text) scratch′ notes notes Refused
+      pub brace-more : next < length text → (notes : List ℕ) → Taken (decode₂ rules text) 0 scratch′ notes notes (Refused 0)
       brace-more h notes =
-          taken-none (decode₂ rules text) scratch′ notes notes
+          taken-none (decode₂ rules text) 0 scratch′ notes notes
           (ap (decode₂ rules) text-is ∙ braces-more (drop 1 text) (told .octets) (drop next text) (told .reads) (getD text next 0) (drop (next + 1) text) (one-here text next h))
 
       len-is : len ≡ length (told .octets)
@@ -115,8 +118,19 @@ module _ (text scratch : List ℕ) (g : Braced text × Lent (length text) (lengt
       pub brace-short : length (take len scratch′) ≤ maxSource
       brace-short = omega (arith, brace-part, len-is, braces-short (drop 1 text) (told .octets) (drop next text) (told .reads), length-drop 1 text, g .1 .short)
 
-      pub brace-noted : length text ≤ next → (notes notes′ : List ℕ) (r : Extent) → Noted (take len scratch′) notes notes′ r → Taken (decode₂ rules text) scratch′ notes notes′ r
-      brace-noted h notes notes′ r v =
-          through (decode₂ rules text) (take len scratch′) scratch′ notes notes′ r v brace-short
-          (ap (decode₂ rules) text-is ∙ braces-whole (drop 1 text) (told .octets) (drop next text) (told .reads) (drop-of-length-le text h) ∙ ap decode₁ (sym part-is))
-          (λ _. rw (← brace-part))
+      module _ (h : length text ≤ next) (notes notes′ : List ℕ) (r : Extent) (v : Noted (take len scratch′) notes notes′ r) where
+        meant : decode₂ rules text ≡ decode₁ (take len scratch′)
+        meant = ap (decode₂ rules) text-is ∙ braces-whole (drop 1 text) (told .octets) (drop next text) (told .reads) (drop-of-length-le text h) ∙ ap decode₁ (sym part-is)
+
+        taken-as : (r′ : Extent) → Measures (decode₂ rules text) r′ → ((q : ℕ) → r′ ≡ Refused q → q ≡ 0) → Taken (decode₂ rules text) 0 scratch′ notes notes′ r′
+        taken-as r′ m f = through (decode₂ rules text) (take len scratch′) scratch′ notes notes′ r v brace-short meant 0 r′ m f (λ _. rw (← brace-part))
+
+        measured : (r′ : Extent) → r ≡ r′ → Measures (decode₂ rules text) r′
+        measured r′ e = subst (Measures (decode₂ rules text)) e (subst (λ (y : Option Tree). Measures y r) (sym meant) (v .measures))
+
+        pub brace-whole : (l n d : ℕ) → r ≡ Whole l n d → Taken (decode₂ rules text) 0 scratch′ notes notes′ (Whole l n d)
+        brace-whole l n d e = taken-as (Whole l n d) (measured (Whole l n d) e) (λ q f. whole-refused f)
+
+        pub brace-refused : (q : ℕ) → r ≡ Refused q → Taken (decode₂ rules text) 0 scratch′ notes notes′ (Refused 0)
+        unfolding Measures
+        brace-refused q e = taken-as (Refused 0) (measured (Refused q) e) (λ p f. let z : 0 ≡ p = cc in sym z)

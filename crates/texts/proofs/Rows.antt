@@ -1,11 +1,11 @@
 -- Rows 1 and 2, whatever is judged after them.
 use Prim.Native.Nat.{ℕ, zero, suc, _≤_, _<_}
 use native.Mathlib.Omega.{arith}
-use mathlib.Core.Path.{_≡_, sym, ap, _∙_}
+use mathlib.Core.Path.{_≡_, refl, sym, ap, _∙_}
 use mathlib.Core.Bool.{false}
 use mathlib.Core.List.{List, _∷_}
 use lib.ListN.{length}
-use lib.Dec.{ltb}
+use lib.Dec.{ltb, eqb}
 use borrow.Author.Tests.{lt-ltb, le-ltb, ltb-false}
 use Rattle.base.specs.Choice.{isNone}
 use Rattle.base.proofs.Cases.{by-bool, picked, unpicked, not-false, among-in, among-low, among-high, among-true}
@@ -39,6 +39,11 @@ module _ (form len : ℕ) where
   row-none lo hi h = sym (unpicked _ _ (known lo hi) ∙ unpicked _ _ (le-ltb maxSource len h))
 
 -- ---- what it tells
+
+pub row-other : (form len n : ℕ) → n ≡ textVerdict form len → eqb n Syntax ≡ false
+unfolding textVerdict
+row-other form len n e =
+    rw e (by-bool (noForm form) (λ t. rw t refl) (λ t. rw t (by-bool (ltb maxSource len) (λ u. rw u refl) (λ u. rw u refl))))
 
 -- neither row applies
 pub record Taken (form len : ℕ) : Type 0 where

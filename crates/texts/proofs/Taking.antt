@@ -8,6 +8,7 @@ use lib.ListN.{length, take, drop}
 use lib.Seq.{take-length, take-at}
 use Rattle.base.proofs.Cases.{none-some}
 use Rattle.base.proofs.Stores.{sets-all}
+use Rattle.model.specs.Automaton.{place}
 use Rattle.model.specs.Decode.{decode₁}
 use Rattle.model.specs.Limits.{maxSource, maxCanonical}
 use Rattle.model.specs.Tree.{Tree, canon, nodes}
@@ -34,10 +35,11 @@ lent-room n room g = by (g .enough)
 
 -- ---- octets gone through, of which the text means the same
 module _ (o : Option Tree) (part scratch notes notes′ : List ℕ) (r : Extent) (v : Noted part notes notes′ r) (short : length part ≤ maxSource) (e : o ≡ decode₁ part) where
-  pub through : (length part ≤ maxCanonical → take (length part) scratch ≡ part) → Taken o scratch notes notes′ r
-  through f =
+  pub through : (p : ℕ) (r′ : Extent) → Measures o r′ → ((q : ℕ) → r′ ≡ Refused q → q ≡ p) → (length part ≤ maxCanonical → take (length part) scratch ≡ part) → Taken o p scratch notes notes′ r′
+  through p r′ m g f =
       record {
-        measures = subst (λ (y : Option Tree). Measures y r) (sym e) (v .measures);
+        measures = m;
+        fails = g;
         octets = λ t z h.
             let p : part ≡ canon t = canon-sound part t (sym e ∙ z) in
             subst (λ (x : List ℕ). take (length x) scratch ≡ x) p (f (omega (arith, ap length p)));
@@ -45,31 +47,32 @@ module _ (o : Option Tree) (part scratch notes notes′ : List ℕ) (r : Extent)
       }
 
 -- nothing is meant
-pub taken-none : (o : Option Tree) (scratch notes notes′ : List ℕ) → o ≡ none → Taken o scratch notes notes′ Refused
+pub taken-none : (o : Option Tree) (p : ℕ) (scratch notes notes′ : List ℕ) → o ≡ none → Taken o p scratch notes notes′ (Refused p)
 unfolding Measures
-taken-none o scratch notes notes′ e =
-    record { measures = e; octets = λ t z h. none-some (sym e ∙ z); noted = λ t z h d k. none-some (sym e ∙ z) }
+taken-none o p scratch notes notes′ e =
+    record { measures = e; fails = λ q f. let z : p ≡ q = cc in sym z; octets = λ t z h. none-some (sym e ∙ z); noted = λ t z h d k. none-some (sym e ∙ z) }
 
 -- ---- canonical text
 module _ (text : List ℕ) (room : ℕ) (g : Lent (length text) room) (notes notes′ : List ℕ) (r : Extent) (v : Noted text notes notes′ r) where
-  pub canonical-long : maxCanonical < length text → (scratch : List ℕ) → Taken (decode₁ text) scratch notes notes′ r
-  canonical-long h scratch = through (decode₁ text) text scratch notes notes′ r v (g .short) refl (λ k. absurd (omega arith))
+  pub canonical-long : maxCanonical < length text → (scratch : List ℕ) → Taken (decode₁ text) (place text) scratch notes notes′ r
+  canonical-long h scratch = through (decode₁ text) text scratch notes notes′ r v (g .short) refl (place text) r (v .measures) (v .fails) (λ k. absurd (omega arith))
 
 module _ (text scratch : List ℕ) (g : Lent (length text) (length scratch)) where
   pub canonical-room : (0 + length text ≤ length text) × (0 + length text ≤ length scratch)
   canonical-room = (omega arith, omega (arith, lent-room (length text) (length scratch) g))
 
-  pub canonical-copied : (scratch′ : List ℕ) (p : ℕ) → Wrote (take (length text) (drop 0 text)) 0 scratch scratch′ p → (notes notes′ : List ℕ) (r : Extent) → Noted text notes notes′ r → Taken (decode₁ text) scratch′ notes notes′ r
+  pub canonical-copied : (scratch′ : List ℕ) (p : ℕ) → Wrote (take (length text) (drop 0 text)) 0 scratch scratch′ p → (notes notes′ : List ℕ) (r : Extent) → Noted text notes notes′ r → Taken (decode₁ text) (place text) scratch′ notes notes′ r
   canonical-copied scratch′ p w notes notes′ r v =
       let q : Wrote text 0 scratch scratch′ p = subst (λ (x : List ℕ). Wrote x 0 scratch scratch′ p) (take-length text) w in
       let f : Front text 0 scratch scratch′ p = front-wrote text 0 p scratch scratch′ q (canonical-room .1) in
-      through (decode₁ text) text scratch′ notes notes′ r v (g .short) refl (λ _. let z : length text ≡ p = omega (arith, f .place) in rw z (f .same))
+      through (decode₁ text) text scratch′ notes notes′ r v (g .short) refl (place text) r (v .measures) (v .fails) (λ _. let z : length text ≡ p = omega (arith, f .place) in rw z (f .same))
 
 -- ---- advanced text
-pub converted : (o : Option Tree) (scratch notes notes′ : List ℕ) (r : Extent) → Converts o scratch notes notes′ r → Taken o scratch notes notes′ r
+pub converted : (o : Option Tree) (scratch notes notes′ : List ℕ) (r : Extent) → Converts o scratch notes notes′ r → Taken o 0 scratch notes notes′ r
 converted o scratch notes notes′ r c =
     record {
       measures = c .measures;
+      fails = c .fails;
       octets = c .octets;
       noted = λ t z h d k.
           record {

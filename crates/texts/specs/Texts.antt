@@ -12,9 +12,11 @@ use Rattle.model.specs.Tree.{Tree, canon, nodes, depth}
 use Rattle.model.specs.Grammar.{rules}
 use Rattle.model.specs.Decode.{decode₁, decode₂, decode}
 use Rattle.model.specs.Limits.{maxSource, maxCanonical, maxDepth, Accepted, Form, SourceSize}
-use Rattle.model.specs.Answers.{noForm}
+use Rattle.model.specs.Automaton.{place}
+use Rattle.model.specs.Answers.{noForm, placeOf}
 use Rattle.walk.specs.Extent.{Measures}
 use Rattle.walk.specs.declared.Extent.{Extent}
+use Rattle.walk.specs.declared.Extent.the-variants.{Refused}
 use Rattle.sheets.specs.Told.{Holds}
 use Rattle.advanced.specs.Converted.{Lent}
 
@@ -45,24 +47,27 @@ pub record Braced (text : List ℕ) : Type 0 where
 pub record Enclosed (form : ℕ) (text : List ℕ) : Type 0 where
   pub braced : Braced text
   pub is : decode form text ≡ decode₂ rules text
+  pub told : placeOf form text ≡ 0
 
 unfoldable pub Opens : ℕ → List ℕ → Bool → Type 0
 Opens form text true = Enclosed form text
-Opens form text false = 1 ≤ form → form ≤ 2 → decode form text ≡ decode₁ text
+Opens form text false = 1 ≤ form → form ≤ 2 → (decode form text ≡ decode₁ text) × (placeOf form text ≡ place text)
 
 -- basic text that means what it means as canonical text
 pub record Bared (form : ℕ) (text : List ℕ) : Type 0 where
   pub basic : form ≡ 2
   pub is : decode form text ≡ decode 1 text
+  pub told : placeOf form text ≡ placeOf 1 text
 
 pub record Bare (form : ℕ) (text : List ℕ) (r : Bool) : Type 0 where
   pub bared : r ≡ true → Bared form text
 
 -- ---- what is told
 
--- the sizes of the tree o that a text means, if it means one; where the tree's canonical form is no longer than a sheet, it stands
+-- the sizes of the tree o that a text means, if it means one, else the place p that is told; where the tree's canonical form is no longer than a sheet, it stands
 -- at the front of scratch; and where the tree fits besides and the notes have room, they are the tree's
-pub record Taken (o : Option Tree) (scratch notes notes′ : List ℕ) (r : Extent) : Type 0 where
+pub record Taken (o : Option Tree) (p : ℕ) (scratch notes notes′ : List ℕ) (r : Extent) : Type 0 where
   pub measures : Measures o r
+  pub fails : (q : ℕ) → r ≡ Refused q → q ≡ p
   pub octets : (t : Tree) → o ≡ some t → length (canon t) ≤ maxCanonical → take (length (canon t)) scratch ≡ canon t
   pub noted : (t : Tree) → o ≡ some t → length (canon t) ≤ maxCanonical → depth t ≤ maxDepth → nodes t ≤ length notes → Holds notes′ (nodes t) t

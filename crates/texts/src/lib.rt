@@ -3,6 +3,8 @@
 ghost use mathlib.Core.Path.{_≡_};
 ghost use lib.ListN.{length};
 ghost use Rattle.model.specs.Grammar.{rules};
+ghost use Rattle.model.specs.Answers.{placeOf};
+ghost use Rattle.model.specs.Automaton.{place};
 ghost use Rattle.model.specs.Decode.{decode₁, decode₂, decode};
 ghost use Rattle.octets.specs.Classes.{Classed, Lettered};
 ghost use Rattle.advanced.specs.Converted.{Lent};
@@ -57,7 +59,7 @@ pub fn bare(form: u32, text: &[u8]) -> bool
 // Canonical text is its own octets.
 fn take_canonical(text: &[u8], scratch: &mut [u8], notes: &mut [usize]) -> Extent
     requires { ⌜ Lent (length (now text)) (length (now scratch)) ⌝ }
-    ensures { λ r. ⌜ Taken (decode₁ (now (text .entry))) (now (scratch .exit)) (now (notes .entry)) (now (notes .exit)) r ⌝ }
+    ensures { λ r. ⌜ Taken (decode₁ (now (text .entry))) (place (now (text .entry))) (now (scratch .exit)) (now (notes .entry)) (now (notes .exit)) r ⌝ }
 {
     let len = text.len();
     if len > limits::CANONICAL {
@@ -67,7 +69,7 @@ fn take_canonical(text: &[u8], scratch: &mut [u8], notes: &mut [usize]) -> Exten
     sheets::note(text, notes)
 }
 
-// Base-64 in braces: what it decodes to is canonical text.
+// Base-64 in braces: what it decodes to is canonical text. No place is told of it.
 fn take_braced(
     classes: &[u8; 256],
     letters: &[u8; 256],
@@ -78,18 +80,29 @@ fn take_braced(
     requires { ⌜ Classed (now classes) ⌝ }
     requires { ⌜ Lettered (now letters) ⌝ }
     requires { ⌜ Braced (now text) × Lent (length (now text)) (length (now scratch)) ⌝ }
-    ensures { λ r. ⌜ Taken (decode₂ rules (now (text .entry))) (now (scratch .exit)) (now (notes .entry)) (now (notes .exit)) r ⌝ }
+    ensures { λ r. ⌜ Taken (decode₂ rules (now (text .entry))) 0 (now (scratch .exit)) (now (notes .entry)) (now (notes .exit)) r ⌝ }
 {
     let mut len: usize = 0;
     let next = marks::base(classes, letters, text, 1, b'}', scratch, 0, &mut len);
     if next == 0 {
-        return Extent::Refused;
+        return Extent::Refused { place: 0 };
     }
     if next < text.len() {
-        return Extent::Refused;
+        return Extent::Refused { place: 0 };
     }
     let part = &scratch[..len];
-    sheets::note(part, notes)
+    match sheets::note(part, notes) {
+        Extent::Whole {
+            len: octets,
+            nodes,
+            depth,
+        } => Extent::Whole {
+            len: octets,
+            nodes,
+            depth,
+        },
+        Extent::Refused { place: _ } => Extent::Refused { place: 0 },
+    }
 }
 
 // The canonical octets of a text at the front of scratch, the sizes of the tree that it means, and the tree's notes as far as they
@@ -105,7 +118,7 @@ pub fn take(
     requires { ⌜ Classed (now classes) ⌝ }
     requires { ⌜ Lettered (now letters) ⌝ }
     requires { ⌜ Takeable form (length (now text)) (length (now scratch)) ⌝ }
-    ensures { λ r. ⌜ Taken (decode form (now (text .entry))) (now (scratch .exit)) (now (notes .entry)) (now (notes .exit)) r ⌝ }
+    ensures { λ r. ⌜ Taken (decode form (now (text .entry))) (placeOf form (now (text .entry))) (now (scratch .exit)) (now (notes .entry)) (now (notes .exit)) r ⌝ }
 {
     if form == 3 {
         return advanced::convert(classes, letters, text, scratch, notes);

@@ -11,7 +11,7 @@ use Rattle.base.proofs.Cases.{pick-cases, picked, unpicked, some-same, none-som
 use Rattle.model.specs.Decode.{nest}
 use Rattle.model.specs.Lexemes.{Lexeme, opening, closing, atom, hinting, before}
 use Rattle.model.specs.Tree.{Tree, nodes, depth}
-use Rattle.walk.specs.Count.{Count, begin, shut, step, walk, counts}
+use Rattle.model.specs.Count.{Count, begin, shut, step, walk, counts}
 use Rattle.walk.proofs.Walked.{walk-nest}
 
 abbrev pub walking : Option (List Lexeme) → Count → Option Count

@@ -12,7 +12,7 @@ use lib.Dec.{eqb}
 use borrow.Author.Tests.{eqb-false}
 use Rattle.base.proofs.Cases.{pick-cases, some-same, none-some, chain-cases}
 use Rattle.model.specs.Lexemes.{Lexeme, closing}
-use Rattle.walk.specs.Count.{Count, count, shut, step, walk}
+use Rattle.model.specs.Count.{Count, count, shut, step, walk}
 use Rattle.walk.specs.Events.{Frame, frame}
 
 -- the stack of open lists, as two arrays have it

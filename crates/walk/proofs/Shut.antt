@@ -5,7 +5,7 @@ use mathlib.Core.Bool.{false}
 use lib.Dec.{ltb}
 use borrow.Author.Tests.{lt-ltb, le-ltb}
 use Rattle.base.proofs.Cases.{picked, unpicked}
-use Rattle.walk.specs.Count.{shutBy}
+use Rattle.model.specs.Count.{shutBy}
 
 pub closed-open : (o n : ℕ) → 0 < o → false ≡ shutBy o n
 unfolding shutBy

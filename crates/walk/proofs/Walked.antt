@@ -14,7 +14,7 @@ use Rattle.model.specs.Decode.{nest}
 use Rattle.model.specs.Lexemes.{Lexeme, opening, closing, atom, hinting}
 use Rattle.model.specs.Tree.{Tree, plain, hinted, list, Forest, nil, cons, nodes, nodess, depth, depths}
 use Rattle.model.proofs.Nesting.{unnest, unnests, nest-sound, nest-complete}
-use Rattle.walk.specs.Count.{Count, begin, shutBy, shut, step, walk, counts}
+use Rattle.model.specs.Count.{Count, begin, shutBy, shut, step, walk, counts}
 
 -- ---- what is walked through is a tree
 

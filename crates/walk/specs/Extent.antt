@@ -16,4 +16,4 @@ pub record Wholly (o : Option Tree) (len count deep : ℕ) : Type 0 where
 
 unfoldable pub Measures : Option Tree → Extent → Type 0
 Measures o (Whole len count deep) = Wholly o len count deep
-Measures o Refused = o ≡ none
+Measures o (Refused p) = o ≡ none

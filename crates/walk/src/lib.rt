@@ -2,16 +2,18 @@
 // specs/ has the loops as definitions; proofs/ shows that they compute what the model says of the tree.
 ghost use mathlib.Core.Path.{_≡_};
 ghost use Prim.Native.Nat.{max};
-ghost use Rattle.walk.specs.Count.{shutBy};
+ghost use Rattle.model.specs.Count.{shutBy};
 
-// The canonical length, the node count and the depth of the tree that a text means; or it means none.
+// The canonical length, the node count and the depth of the tree that a text means; or it means none, and the place that is told of it.
 pub enum Extent {
     Whole {
         len: usize,
         nodes: usize,
         depth: usize,
     },
-    Refused,
+    Refused {
+        place: usize,
+    },
 }
 
 // The larger of two.

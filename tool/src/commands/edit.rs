@@ -2,7 +2,7 @@
 
 use std::ffi::OsStr;
 
-use etglavino::{OwnedSheet, Refusal};
+use etglavino::{Form, OwnedSheet, Refusal};
 
 use super::convert::deliver;
 use crate::args::{Flag, Given};
@@ -23,17 +23,18 @@ pub const DETAILS: &str = "\
 A FILE is replaced as a whole, after a power cut it is the old one or the new one.
 Without a FILE, or with --output -, the corrected sheet goes to standard output.";
 
-/// Reads the sheet of a file, has it changed, and puts it back. What the sheet
-/// is changed by is called by its name where that is what is refused.
+/// Reads the sheet of a file, has it changed by a text, and puts it back. The
+/// text is called by its name where that is what is refused.
 pub fn edit(
     given: &Given,
     file: Option<&OsStr>,
+    text: (Form, &[u8]),
     change: impl FnOnce(&mut OwnedSheet) -> Result<(), Refusal>,
 ) -> Result<(), Problem> {
     let mut taken = files::take(given, file)?;
     let to = given.form("--to", taken.form)?;
     change(&mut taken.sheet).map_err(|why| match why.number() {
-        2 | 3 => Problem::Refused("TEXT".into(), why),
+        2 | 3 => Problem::text("TEXT".into(), why, text.0, text.1),
         _ => Problem::Refused(taken.name.clone(), why),
     })?;
     let text = files::text(&taken.name, &taken.sheet, to)?;

@@ -27,7 +27,7 @@ fn run(given: &Given) -> Result<(), Problem> {
     };
     let text = given.plain[2].as_bytes();
     let form = given.form_of("--text", text)?;
-    edit(given, given.at(3), |sheet| {
+    edit(given, given.at(3), (form, text), |sheet| {
         let node = node.number(sheet);
         sheet.insert(form, text, Slot { node, k })
     })

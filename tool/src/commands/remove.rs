@@ -1,5 +1,7 @@
 //! A node removed.
 
+use etglavino::Form;
+
 use super::edit::{edit, DETAILS, TO};
 use crate::args::{Command, Given, FROM, OUTPUT};
 use crate::nodes::Named;
@@ -17,5 +19,8 @@ pub const COMMAND: Command = Command {
 
 fn run(given: &Given) -> Result<(), Problem> {
     let node = Named::of(&given.plain[0])?;
-    edit(given, given.at(1), |sheet| sheet.remove(node.number(sheet)))
+    let none = (Form::Canonical, &b""[..]);
+    edit(given, given.at(1), none, |sheet| {
+        sheet.remove(node.number(sheet))
+    })
 }

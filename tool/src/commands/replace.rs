@@ -21,7 +21,7 @@ fn run(given: &Given) -> Result<(), Problem> {
     let node = Named::of(&given.plain[0])?;
     let text = given.plain[1].as_bytes();
     let form = given.form_of("--text", text)?;
-    edit(given, given.at(2), |sheet| {
+    edit(given, given.at(2), (form, text), |sheet| {
         sheet.replace(form, text, node.number(sheet))
     })
 }

@@ -1,11 +1,11 @@
 use native.Mathlib.Omega.{arith}
-use Rattle.etglavino_c.proofs.Handed.{read-handed}
+use Rattle.etglavino_c.proofs.Handed.{read-placed}
 use borrow.Author.Needs.{needs}
 use Rattle.etglavino_c.proofs.etg_read.Statement.{statement}
 use Rattle.etglavino_c.proofs.etg_read.Tie as tie
 
 returns : tie.Need-returns
-returns c = search (read-handed, arith)
+returns c = search (read-placed, arith)
 
 pub etg-read-spec : {M : Type 1} → statement M
 etg-read-spec =

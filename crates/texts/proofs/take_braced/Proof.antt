@@ -1,5 +1,5 @@
 use Rattle.base64.proofs.Marks.{brace}
-use Rattle.texts.proofs.Braces.{brace-room, brace-none, brace-more, brace-lent, brace-part, brace-short, brace-noted}
+use Rattle.texts.proofs.Braces.{brace-room, brace-none, brace-more, brace-lent, brace-part, brace-short, brace-whole, brace-refused}
 use native.Mathlib.Omega.{arith}
 use borrow.Author.Needs.{needs}
 use Rattle.texts.proofs.take_braced.Statement.{statement}
@@ -24,7 +24,10 @@ note-requires : tie.Need-note-requires
 note-requires c κs = search (brace-short, arith)
 
 returns-3 : tie.Need-returns-3
-returns-3 c = search (brace-noted, arith)
+returns-3 c = search (brace-whole, arith)
+
+returns-4 : tie.Need-returns-4
+returns-4 c = search (brace-refused, arith)
 
 pub take-braced-spec : {M : Type 1} → statement M
 take-braced-spec =
@@ -40,4 +43,9 @@ take-braced-spec =
     note-requires
     (λ c. search needs)
     (λ c. search needs)
-    returns-3)
+    (λ c. search needs)
+    (λ c. search needs)
+    returns-3
+    (λ c. search needs)
+    (λ c. search needs)
+    returns-4)

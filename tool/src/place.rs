@@ -1,0 +1,46 @@
+//! Where a text went wrong, for people.
+
+/// Octets shown before the place, and from it on.
+const BEFORE: usize = 50;
+const AFTER: usize = 20;
+
+/// The line of a place, or what is near of it, with a caret under the place.
+/// Octets that can't be printed are spelled.
+pub fn shown(source: &[u8], place: usize) -> String {
+    let (before, after) = source.split_at(place.min(source.len()));
+    let start = before.iter().rposition(|octet| *octet == b'\n');
+    let near = before.len().saturating_sub(BEFORE);
+    let before = spelled(&before[start.map_or(0, |at| at + 1).max(near)..]);
+    let end = after.iter().position(|octet| *octet == b'\n');
+    let after = spelled(&after[..end.unwrap_or(after.len()).min(AFTER)]);
+    format!("  {before}{after}\n  {}^", " ".repeat(before.len()))
+}
+
+fn spelled(octets: &[u8]) -> String {
+    let spell = |octet: &u8| match octet {
+        b' '..=b'~' => char::from(*octet).to_string(),
+        _ => format!("\\x{octet:02x}"),
+    };
+    octets.iter().map(spell).collect()
+}
+
+#[cfg(test)]
+mod tests {
+    use super::shown;
+
+    #[test]
+    fn a_caret_under_the_place() {
+        assert_eq!(shown(b"3:abcX", 5), "  3:abcX\n       ^");
+        assert_eq!(shown(b"03:", 1), "  03:\n   ^");
+        assert_eq!(shown(b"(3:ab", 5), "  (3:ab\n       ^");
+        assert_eq!(shown(b"", 0), "  \n  ^");
+        assert_eq!(shown(b"2:\x00\xffx", 4), "  2:\\x00\\xffx\n            ^");
+        assert_eq!(shown(b"2:a\n(x\ny", 5), "  (x\n   ^");
+        let long = [b'a'; 200];
+        let lines = shown(&long, 100);
+        assert_eq!(
+            lines.split('\n').map(str::len).collect::<Vec<_>>(),
+            [72, 53]
+        );
+    }
+}
