@@ -63,9 +63,9 @@
  *
  * Refusals. Every function but those that find a hint or data, that split a
  * run of sheets, or that go on with an addition to a spool, returns one of
- * these numbers. In a refusal the values given out are 0, but for `*bad` of
- * etg_week with 12 and for the state of a refused start, and every lent buffer
- * holds what it held.
+ * these numbers. In a refusal the values given out are 0, but for `*place` with
+ * 3, for `*bad` of etg_week with 12 and for the state of a refused start, and
+ * every lent buffer holds what it held.
  */
 #ifndef ETGLAVINO_H
 #define ETGLAVINO_H

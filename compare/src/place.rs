@@ -1,134 +1,206 @@
-//! Where a text goes wrong: what the library tells with refusal 3, over numbers
-//! and over records, in reading, in replacing and in inserting, and what the
-//! reference program finds by trying.
+//! Where a text goes wrong: the number and the place that the library's C entries
+//! tell, over numbers and over records, in reading, in replacing and in inserting,
+//! beside the number that the reference program gives and, with 3, the place that it
+//! finds by trying. In the other cases the place is 0.
 
-use etglavino::{Extent, Record, Refusal, Slot, MAX_CANONICAL, MAX_NODES, RECORD};
+mod raw;
+mod texts;
+
+use std::collections::BTreeMap;
+
+use etglavino::{Record, RECORD};
+use reference::corrections::insert;
+use reference::entries::{read, replace, Reading};
 use reference::place::place;
 
 /// Differences shown whole; the rest are only counted.
 const SHOWN: u64 = 5;
 
-/// What was tried, and what differed.
+/// An entry that tells a place: a reading, a replacement of a node, or an insertion
+/// into a node's list as its k-th element.
+#[derive(Clone, Copy, Debug)]
+enum Entry {
+    Read,
+    Replace(usize),
+    Insert(usize, usize),
+}
+
+/// What is lent, with the length and the number of nodes of its sheet.
+#[derive(Clone)]
+struct Lent {
+    octets: Vec<u8>,
+    table: Vec<u32>,
+    sheet: (usize, usize),
+}
+
+/// What was asked, by the number wanted, and what differed.
 #[derive(Default)]
 struct Tally {
-    asked: u64,
-    refused: u64,
+    asked: BTreeMap<u32, u64>,
     differences: u64,
 }
 
-/// Compares on texts around some canonical forms; how many differences there are.
+/// Compares; how many differences there are, and numbers that no case has.
 pub fn compare() -> u64 {
     let mut tally = Tally::default();
-    for form in canonical_forms() {
-        tally.around(&form);
+    let own = Lent::own();
+    for (text, told) in texts::EXAMPLES {
+        tally.wrong(text, told);
     }
-    for digits in 1..=30 {
-        for tail in [&b":"[..], b":a", b"x", b"", b"]1:a", b")"] {
-            for lead in [&b""[..], b"(", b"[", b"[1:x]", b"(1:a"] {
-                tally.ask(&[lead, &vec![b'9'; digits], tail].concat());
-                tally.ask(&[lead, &vec![b'0'; digits], tail].concat());
-            }
+    for text in texts::cut_short() {
+        tally.wrong(&text, text.len());
+    }
+    for text in texts::wrong_at_the_end() {
+        tally.wrong(&text, text.len() - 1);
+    }
+    for text in [[b'('; 32_769], [b'7'; 32_769]] {
+        tally.each(&text, &own, |_| Some((2, 0)));
+    }
+    for text in texts::around().iter().chain(&texts::lengths()) {
+        tally.each(text, &own, |_| None);
+    }
+    for text in texts::good() {
+        for lent in [own.clone(), own.foreign(), own.outside()] {
+            tally.each(&text, &lent, |_| None);
+            tally.elsewhere(&text, &lent, |_| None);
         }
     }
-    tally.ask(&[b'('; 1000]);
-    tally.ask(&[b'7'; 300]);
+    let missing = (0..=9).filter(|number| !tally.asked.contains_key(number));
+    let missing: Vec<u32> = missing.collect();
     println!(
-        "{} texts, {} of them refused with 3 in form 1: {} differences of places",
-        tally.asked, tally.refused, tally.differences
+        "places: numbers and how often {:?}, {} differences; numbers without a case: {missing:?}",
+        tally.asked, tally.differences
     );
-    tally.differences
+    tally.differences + missing.len() as u64
 }
 
-/// Forms whose prefixes and changes are tried.
-fn canonical_forms() -> Vec<Vec<u8>> {
-    let mut forms: Vec<Vec<u8>> = [
-        &b"()"[..],
-        b"0:",
-        b"3:abc",
-        b"10:0123456789",
-        b"(3:abc[1:x]0:)",
-        b"[0:]0:",
-        b"[2:ab]3:cde",
-        b"(()(()))",
-        b"(1:((1:))1:])",
-        b"(4:1:a)([1:]]1:[))",
-        b"((1:a)(1:b)[3:f32]4:\0\0\0\0)",
-    ]
-    .iter()
-    .map(|form| form.to_vec())
-    .collect();
-    forms.push([&b"100:"[..], &[b'7'; 100]].concat());
-    forms
+impl Lent {
+    /// A sheet with its own table, in more room than it takes.
+    fn own() -> Lent {
+        let (mut octets, mut table) = (vec![0; 256], vec![0; 32 * RECORD]);
+        let sheet = match read(1, b"(1:a)", &mut octets, &mut table) {
+            Reading::Accepted { length, nodes } => (length, nodes),
+            Reading::Refused(number) => panic!("refused with {number}"),
+        };
+        Lent {
+            octets,
+            table,
+            sheet,
+        }
+    }
+
+    /// With a table that is not its own.
+    fn foreign(&self) -> Lent {
+        let mut lent = self.clone();
+        lent.table[2] += 1;
+        lent
+    }
+
+    /// With a length past what is lent.
+    fn outside(&self) -> Lent {
+        let mut lent = self.clone();
+        lent.sheet.0 = usize::MAX;
+        lent
+    }
+
+    /// The number that the reference program gives.
+    fn number(&self, entry: Entry, form: u32, text: &[u8]) -> u32 {
+        let (mut octets, mut table) = (self.octets.clone(), self.table.clone());
+        let (octets, table) = (&mut octets[..], &mut table[..]);
+        let (length, nodes) = self.sheet;
+        let answer = match entry {
+            Entry::Read => read(form, text, octets, table),
+            Entry::Replace(node) => replace(form, text, octets, table, length, nodes, node),
+            Entry::Insert(node, k) => insert(form, text, octets, table, length, nodes, node, k),
+        };
+        match answer {
+            Reading::Accepted { .. } => 0,
+            Reading::Refused(number) => number,
+        }
+    }
+
+    /// What the library tells, over numbers and over records.
+    fn told(&self, entry: Entry, form: u32, text: &[u8]) -> [(u32, usize); 2] {
+        let (mut octets, mut table) = (self.octets.clone(), self.table.clone());
+        let numbers = raw::numbers(entry, form, text, &mut octets, &mut table, self.sheet);
+        let mut octets = self.octets.clone();
+        let eight = |row: &[u32]| Record::from(<[u32; RECORD]>::try_from(row).expect("a row"));
+        let mut table: Vec<Record> = self.table.chunks_exact(RECORD).map(eight).collect();
+        let records = raw::records(entry, form, text, &mut octets, &mut table, self.sheet);
+        [numbers, records]
+    }
 }
 
 impl Tally {
-    /// Every prefix, and every change of one octet.
-    fn around(&mut self, form: &[u8]) {
-        for end in 0..=form.len() {
-            self.ask(&form[..end]);
-        }
-        for at in 0..form.len() {
-            for octet in 0..=255 {
-                let mut text = form.to_vec();
-                text[at] = octet;
-                self.ask(&text);
-            }
-        }
-        for more in [&b"X"[..], b"(", b")", b"0:", b"\n"] {
-            self.ask(&[form, more].concat());
+    /// A text that is wrong at a place, by its literal number, whatever else is wrong
+    /// too.
+    fn wrong(&mut self, text: &[u8], at: usize) {
+        let literal = |form| (form == 1 || form == 2).then_some((3, at));
+        let own = Lent::own();
+        for lent in [own.clone(), own.foreign(), own.outside()] {
+            self.each(text, &lent, literal);
+            self.elsewhere(text, &lent, literal);
         }
     }
 
-    fn ask(&mut self, text: &[u8]) {
-        self.asked += 1;
+    /// Every entry and form; `literal` says of a form what is wanted, where that is
+    /// known beforehand.
+    fn each(
+        &mut self,
+        text: &[u8],
+        lent: &Lent,
+        literal: impl Fn(u32) -> Option<(u32, usize)> + Copy,
+    ) {
         for form in 1..=3 {
-            for (entry, answer) in answers(form, text) {
-                let told = answer
-                    .err()
-                    .map_or((0, 0), |refusal| (refusal.number(), refusal.place()));
-                let wanted = if told.0 == 3 { place(form, text) } else { 0 };
-                if entry == "read" && form == 1 && told.0 == 3 {
-                    self.refused += 1;
-                }
-                if told.1 != wanted {
-                    self.differences += 1;
-                    if self.differences <= SHOWN {
-                        println!(
-                            "{entry}, form {form}: {told:?}, place {wanted}\n  text {text:02x?}"
-                        );
-                    }
-                }
+            for entry in [Entry::Read, Entry::Replace(1), Entry::Insert(0, 1)] {
+                self.ask(entry, form, text, lent, literal(form));
             }
         }
     }
-}
 
-/// The entries that tell a place; nothing is wrong with the sheet that is lent.
-fn answers(form: u32, text: &[u8]) -> [(&'static str, Result<Extent, Refusal>); 6] {
-    let mut octets = vec![0; MAX_CANONICAL];
-    let mut numbers = vec![0; MAX_NODES * RECORD];
-    let mut records = vec![Record::default(); MAX_NODES];
-    let read = etglavino::read_form(form, text, &mut octets, &mut numbers);
-    let read_records = etglavino::read_records_form(form, text, &mut octets, &mut records);
-    let sheet = etglavino::read_form(1, b"(1:a)", &mut octets, &mut numbers).expect("a sheet");
-    let replaced = etglavino::replace_form(form, text, &mut octets, &mut numbers, sheet, 1);
-    let sheet = etglavino::read_form(1, b"(1:a)", &mut octets, &mut numbers).expect("a sheet");
-    let slot = Slot { node: 0, k: 1 };
-    let inserted = etglavino::insert_form(form, text, &mut octets, &mut numbers, sheet, slot);
-    let sheet =
-        etglavino::read_records_form(1, b"(1:a)", &mut octets, &mut records).expect("a sheet");
-    let replaced_records =
-        etglavino::replace_records_form(form, text, &mut octets, &mut records, sheet, 1);
-    let sheet =
-        etglavino::read_records_form(1, b"(1:a)", &mut octets, &mut records).expect("a sheet");
-    let inserted_records =
-        etglavino::insert_records_form(form, text, &mut octets, &mut records, sheet, slot);
-    [
-        ("read", read),
-        ("read records", read_records),
-        ("replace", replaced),
-        ("replace records", replaced_records),
-        ("insert", inserted),
-        ("insert records", inserted_records),
-    ]
+    /// A node that does not exist, a list that has no such place, and a string; forms
+    /// that are none, too.
+    fn elsewhere(
+        &mut self,
+        text: &[u8],
+        lent: &Lent,
+        literal: impl Fn(u32) -> Option<(u32, usize)> + Copy,
+    ) {
+        let entries = [
+            Entry::Read,
+            Entry::Replace(2),
+            Entry::Replace(usize::MAX),
+            Entry::Insert(2, 0),
+            Entry::Insert(0, 2),
+            Entry::Insert(0, usize::MAX),
+            Entry::Insert(1, 0),
+        ];
+        for form in 0..=4 {
+            for entry in entries {
+                self.ask(entry, form, text, lent, literal(form));
+            }
+        }
+    }
+
+    fn ask(
+        &mut self,
+        entry: Entry,
+        form: u32,
+        text: &[u8],
+        lent: &Lent,
+        literal: Option<(u32, usize)>,
+    ) {
+        let number = lent.number(entry, form, text);
+        let found = (number, if number == 3 { place(form, text) } else { 0 });
+        *self.asked.entry(number).or_default() += 1;
+        let told = lent.told(entry, form, text);
+        if told != [found; 2] || literal.is_some_and(|wanted| wanted != found) {
+            self.differences += 1;
+            if self.differences <= SHOWN {
+                let start = &text[..text.len().min(40)];
+                println!("{entry:?}, form {form}, {} octets {start:02x?}", text.len());
+                println!("  told {told:?}, the reference program {found:?}, wanted {literal:?}");
+            }
+        }
+    }
 }

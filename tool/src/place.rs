@@ -4,9 +4,19 @@
 const BEFORE: usize = 50;
 const AFTER: usize = 20;
 
+/// A place in words and shown. Where it is the text's length, nothing that is there
+/// is wrong, and more should follow.
+pub fn told(source: &[u8], place: usize) -> String {
+    let words = match place == source.len() {
+        true => format!("cut short after {place} octets"),
+        false => format!("from octet {place} on"),
+    };
+    format!("{words}\n{}", shown(source, place))
+}
+
 /// The line of a place, or what is near of it, with a caret under the place.
 /// Octets that can't be printed are spelled.
-pub fn shown(source: &[u8], place: usize) -> String {
+fn shown(source: &[u8], place: usize) -> String {
     let (before, after) = source.split_at(place.min(source.len()));
     let start = before.iter().rposition(|octet| *octet == b'\n');
     let near = before.len().saturating_sub(BEFORE);
@@ -26,7 +36,17 @@ fn spelled(octets: &[u8]) -> String {
 
 #[cfg(test)]
 mod tests {
-    use super::shown;
+    use super::{shown, told};
+
+    #[test]
+    fn wrong_or_cut_short() {
+        assert_eq!(told(b"03:", 1), "from octet 1 on\n  03:\n   ^");
+        assert_eq!(
+            told(b"(3:ab", 5),
+            "cut short after 5 octets\n  (3:ab\n       ^"
+        );
+        assert_eq!(told(b"", 0), "cut short after 0 octets\n  \n  ^");
+    }
 
     #[test]
     fn a_caret_under_the_place() {

@@ -18,8 +18,8 @@ pub enum Problem {
     Output(io::Error),
     /// The library refused something, by its name.
     Refused(String, Refusal),
-    /// The library refused a text, by its name, and told where: the line with a
-    /// caret.
+    /// The library refused a text, by its name, and told where: in words, and the
+    /// line with a caret.
     Syntax(String, Refusal, String),
     /// All has been told already, and this is the status.
     Told(u8),
@@ -49,7 +49,7 @@ impl Problem {
     pub fn text(name: String, refusal: Refusal, form: Form, text: &[u8]) -> Problem {
         let bare = form == Form::Basic && text.first() != Some(&b'{');
         match refusal.number() == 3 && (form == Form::Canonical || bare) {
-            true => Problem::Syntax(name, refusal, place::shown(text, refusal.place())),
+            true => Problem::Syntax(name, refusal, place::told(text, refusal.place())),
             false => Problem::Refused(name, refusal),
         }
     }
@@ -71,10 +71,7 @@ impl fmt::Display for Problem {
             Problem::File(name, error) => write!(f, "{name}: {error}"),
             Problem::Output(error) => write!(f, "standard output: {error}"),
             Problem::Refused(name, refusal) => write!(f, "{name}: {refusal}"),
-            Problem::Syntax(name, refusal, shown) => {
-                let place = refusal.place();
-                write!(f, "{name}: {refusal}, from octet {place} on\n{shown}")
-            }
+            Problem::Syntax(name, refusal, told) => write!(f, "{name}: {refusal}, {told}"),
             Problem::Told(status) => write!(f, "status {status}"),
         }
     }

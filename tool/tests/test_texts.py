@@ -39,15 +39,14 @@ class Convert(Case):
 
     def test_the_place_of_what_is_wrong(self) -> None:
         sentence = b"etglavino: standard input: " + SYNTAX.rstrip(b"\n")
-        for place, source, lines in (
-            (5, b"3:abcX", b"  3:abcX\n       ^\n"),
-            (1, b"03:", b"  03:\n   ^\n"),
-            (5, b"(3:ab", b"  (3:ab\n       ^\n"),
-            (0, b"\xff", b"  \\xff\n  ^\n"),
+        for words, source, lines in (
+            (b"from octet 5 on", b"3:abcX", b"  3:abcX\n       ^\n"),
+            (b"from octet 1 on", b"03:", b"  03:\n   ^\n"),
+            (b"cut short after 5 octets", b"(3:ab", b"  (3:ab\n       ^\n"),
+            (b"from octet 0 on", b"\xff", b"  \\xff\n  ^\n"),
         ):
             answer = self.run_tool("convert", "--from", "canonical", source=source)
-            said = sentence + b", from octet %d on\n" % place + lines
-            self.assertEqual(answer, (1, b"", said))
+            self.assertEqual(answer, (1, b"", sentence + b", " + words + b"\n" + lines))
             self.assertEqual(self.run_tool("convert", "--from", "basic", source=source), answer)
         # Of other texts no place is told.
         self.fails(1, sentence + b"\n", "convert", source=b"3:abcX")

@@ -2,7 +2,7 @@
 -- form 2 where the text doesn't begin with `{`; in all other cases it is 0.
 use Prim.Native.Nat.{ℕ}
 use mathlib.Core.Path.{_≡_, refl, sym, ap, _∙_, subst}
-use mathlib.Core.Bool.{false}
+use mathlib.Core.Bool.{true, false}
 use mathlib.Core.List.{List}
 use borrow.Author.Tests.{eq-eqb, ne-eqb}
 use Rattle.base.proofs.Cases.{picked, unpicked}
@@ -29,11 +29,26 @@ placing-is (bare-text e) = rw e
 told-largest : {form : ℕ} {s : List ℕ} → Placing form s → Largest s (placeOf form s)
 told-largest {form} {s} p = subst (Largest s) (sym (placing-is p)) (place-largest s)
 
+-- the forms of which none is told, whatever they hold: form 3, and form 2 where the text begins with `{`
+pub data Placeless : ℕ → List ℕ → Type 0 where
+  advanced-text : {s : List ℕ} → Placeless 3 s
+  braced-text : {s : List ℕ} → braced s ≡ true → Placeless 2 s
+
+placeless-is : {form : ℕ} {s : List ℕ} → Placeless form s → placeOf form s ≡ 0
+unfolding placeOf
+placeless-is advanced-text = refl
+placeless-is (braced-text e) = rw e
+
 -- an answer to which the place of a text is told
 module _ {form : ℕ} {text : List ℕ} (o : Outcome) where
   with-3 : Placing form text → telling (placeOf form text) o .number ≡ Syntax → Largest text (telling (placeOf form text) o .place)
   unfolding telling
   with-3 p e = subst (Largest text) (sym (picked _ _ (eq-eqb _ 3 e))) (told-largest p)
+
+-- and where none is told
+placeless : {form : ℕ} {text : List ℕ} (o : Outcome) → Placeless form text → telling (placeOf form text) o .number ≡ Syntax → telling (placeOf form text) o .place ≡ 0
+unfolding telling
+placeless o p e = picked _ _ (eq-eqb _ 3 e) ∙ placeless-is p
 
 -- and one that tells none itself
 without-3 : (p : ℕ) (cs : List Check) (t : Tree) (len count : ℕ) (canonical table : List ℕ)
@@ -48,6 +63,10 @@ module _ (form : ℕ) (text canonical table : List ℕ) where
   unfolding reading
   read-tells p e = with-3 _ p e
 
+  pub read-tells-nothing : Placeless form text → reading form text canonical table .number ≡ Syntax → reading form text canonical table .place ≡ 0
+  unfolding reading
+  read-tells-nothing p e = placeless _ p e
+
   pub read-tells-none : (reading form text canonical table .number ≡ Syntax → ⊥) → reading form text canonical table .place ≡ 0
   unfolding reading
   read-tells-none n = without-3 _ (readingChecks form text canonical table) (the (decode form text)) 0 0 canonical table n
@@ -57,6 +76,10 @@ module _ (form : ℕ) (text canonical table : List ℕ) where
     unfolding replacing
     replace-tells p e = with-3 _ p e
 
+    pub replace-tells-nothing : Placeless form text → replacing form text canonical table len count node .number ≡ Syntax → replacing form text canonical table len count node .place ≡ 0
+    unfolding replacing
+    replace-tells-nothing p e = placeless _ p e
+
     pub replace-tells-none : (replacing form text canonical table len count node .number ≡ Syntax → ⊥) → replacing form text canonical table len count node .place ≡ 0
     unfolding replacing
     replace-tells-none n = without-3 _ (replacingChecks form text canonical table len count node) (replaced form text canonical table len count node) len count canonical table n
@@ -65,6 +88,10 @@ module _ (form : ℕ) (text canonical table : List ℕ) where
       pub insert-tells : Placing form text → inserting form text canonical table len count node k .number ≡ Syntax → Largest text (inserting form text canonical table len count node k .place)
       unfolding inserting
       insert-tells p e = with-3 _ p e
+
+      pub insert-tells-nothing : Placeless form text → inserting form text canonical table len count node k .number ≡ Syntax → inserting form text canonical table len count node k .place ≡ 0
+      unfolding inserting
+      insert-tells-nothing p e = placeless _ p e
 
       pub insert-tells-none : (inserting form text canonical table len count node k .number ≡ Syntax → ⊥) → inserting form text canonical table len count node k .place ≡ 0
       unfolding inserting

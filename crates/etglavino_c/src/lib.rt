@@ -1,5 +1,5 @@
 // The C interface: the public entries with 01's number as the return value. What is asked for goes out through pointers and is
-// 0 in a refusal. include/etglavino.h tells a C program how to call them.
+// 0 in a refusal, but for the place with 3 and the node of a week with 12. include/etglavino.h tells a C program how to call them.
 mod batching; // batching.rt: sheets written back to back
 mod corrections; // corrections.rt: elements put into lists, and nodes removed
 mod extract; // extract.rt: extracts for foremen
