@@ -60,4 +60,4 @@ impl<'a> Iterator for Run<'a> {
     }
 }
 
-impl std::iter::FusedIterator for Run<'_> {}
+impl core::iter::FusedIterator for Run<'_> {}
