@@ -27,7 +27,13 @@ fn answers_are_the_librarys() {
         let answer = reader.read(*form, source, &mut octets, &mut numbers);
         let (mut expected, mut table) = (canonical.buffer(), table.buffer());
         let proved = etglavino::read_form(*form, source, &mut expected, &mut table);
-        assert_eq!(answer, proved, "{}", String::from_utf8_lossy(source));
+        // The plain reader tells no place.
+        assert_eq!(
+            answer.map_err(|refusal| refusal.number()),
+            proved.map_err(|refusal| refusal.number()),
+            "{}",
+            String::from_utf8_lossy(source)
+        );
         assert!(octets == expected && numbers == table);
         match answer {
             Ok(_) => accepted += 1,
