@@ -1,0 +1,4 @@
+pub mod Tracking
+pub mod Following
+pub mod Storing
+pub mod Turns
