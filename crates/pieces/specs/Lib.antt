@@ -1,2 +1,3 @@
 pub mod Tracks
 pub mod Feeding
+pub mod Ending
