@@ -5,3 +5,4 @@ pub mod Turns
 pub mod Ended
 pub mod Wholes
 pub mod Tabled
+pub mod Cutting

@@ -158,3 +158,29 @@ ended x sheet lent table table′ r e =
           ∙ ended-in-turn first lent s table
           ∙ ap (λ (y : List ℕ). inSheet y (reading 1 s first table)) (sym (t .sheet-is));
     }
+
+-- 02, "where accepted, the same sheet": what reading the whole leaves is what the pieces left
+module _ (first s table : List ℕ) (a : reading 1 s first table .accepted ≡ true) where
+  short : length s ≤ maxSource
+  short = by-le (length s) maxSource (λ h. h) (λ h. differ a (ap (λ (o : Outcome). o .accepted) (read-long s first table h)))
+
+  by-tree : (o : Option Tree) → decode₁ s ≡ o → sheetAfter first s ≡ reading 1 s first table .canonical
+  unfolding filled
+  by-tree none e = differ a (ap (λ (o : Outcome). o .accepted) (read-tree s first table short ∙ tree-none (decode₁ s) first table e))
+  by-tree (some t) e =
+      by-le (roomVerdict (depth t) (nodes t) (length (canon t)) (length first) (records table)) 0
+      (λ h.
+          let z : roomVerdict (depth t) (nodes t) (length (canon t)) (length first) (records table) ≡ 0 = omega arith in
+          let g = roomy (depth t) (nodes t) (length (canon t)) (length first) (records table) z in
+          let c : s ≡ canon t = canon-sound s t e in
+          let l : length s ≤ space (length first) = omega (arith, g .lent, g .small, ap length c) in
+          sheet-whole first s l
+          ∙ sym (sets-all first s (omega (arith, l)))
+          ∙ sym (settled-front first s (omega (arith, l)))
+          ∙ ap (settled first 0) c
+          ∙ sym (ap (λ (o : Outcome). o .canonical) (read-tree s first table short ∙ tree-accepted (decode₁ s) first table t e z)))
+      (λ h.
+          differ a (ap (λ (o : Outcome). o .accepted) (read-tree s first table short ∙ tree-refused (decode₁ s) first table t e (roomVerdict (depth t) (nodes t) (length (canon t)) (length first) (records table)) refl h)))
+
+  pub accepted-sheet : sheetAfter first s ≡ reading 1 s first table .canonical
+  accepted-sheet = by-tree (decode₁ s) refl

@@ -1,3 +1,4 @@
 pub mod Tracks
 pub mod Feeding
 pub mod Ending
+pub mod Handed
