@@ -148,8 +148,8 @@ module _ (x : State) (sheet : List ℕ) (lent n : ℕ) (notes : List ℕ) where
         end-past k r f =
             unsized (pastRow (extent (meant (x .track))) (length sheet) n) (past-positive (extent (meant (x .track))) (length sheet) n) r f
             (λ table q.
-                ap (λ (m : ℕ). unchanged (pastRow (extent (meant (x .track))) (length sheet) m) sheet table) (sym q)
-                ∙ sym (picked _ _ same-sizes ∙ unpicked _ _ (le-ltb maxSource (x .fed) h) ∙ unpicked _ _ (lt-leb (x .fed) (space (length sheet)) (omega (arith, e)))))
+            ap (λ (m : ℕ). unchanged (pastRow (extent (meant (x .track))) (length sheet) m) sheet table) (sym q)
+            ∙ sym (picked _ _ same-sizes ∙ unpicked _ _ (le-ltb maxSource (x .fed) h) ∙ unpicked _ _ (lt-leb (x .fed) (space (length sheet)) (omega (arith, e)))))
 
 pub held : (fed len room notes : ℕ) → room ≡ space len → fed ≤ room → Noteable fed notes → Held fed len notes
 held fed len room notes e h m = record { inside = omega (arith, e); notable = m }

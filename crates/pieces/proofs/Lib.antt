@@ -6,3 +6,4 @@ pub mod Ended
 pub mod Wholes
 pub mod Tabled
 pub mod Cutting
+pub mod Coding

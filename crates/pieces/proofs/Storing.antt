@@ -23,12 +23,12 @@ pub take-both : {A : Type 0} (n : ℕ) (s p : List A) → take n s ++ take (n - 
 take-both n s p =
     by-le (length s) n
     (λ h.
-        let e : n - min (length s) n ≡ n - length s = omega arith in
-        let f : length s + (n - length s) ≡ n = omega arith in
-        (λ i. take-all n s h i ++ take (e i) p) ∙ sym (take-append-add s p (n - length s)) ∙ ap (λ (m : ℕ). take m (s ++ p)) f)
+    let e : n - min (length s) n ≡ n - length s = omega arith in
+    let f : length s + (n - length s) ≡ n = omega arith in
+    (λ i. take-all n s h i ++ take (e i) p) ∙ sym (take-append-add s p (n - length s)) ∙ ap (λ (m : ℕ). take m (s ++ p)) f)
     (λ h.
-        let e : n - min (length s) n ≡ 0 = omega arith in
-        ap (λ (m : ℕ). take n s ++ take m p) e ∙ append-nil (take n s) ∙ sym (take-append-le n s p (omega arith)))
+    let e : n - min (length s) n ≡ 0 = omega arith in
+    ap (λ (m : ℕ). take n s ++ take m p) e ∙ append-nil (take n s) ∙ sym (take-append-le n s p (omega arith)))
 
 -- at most as many as there are
 pub take-few : {A : Type 0} (k : ℕ) (l : List A) → take (min k (length l)) l ≡ take k l

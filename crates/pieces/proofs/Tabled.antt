@@ -12,6 +12,7 @@ use Rattle.answers.specs.declared.Refusal.{Refusal}
 use Rattle.answers.specs.declared.Reading.{Reading}
 use Rattle.answers.specs.declared.Reading.the-variants as reading
 use Rattle.reader.specs.Stored.{Noteable, halved, most, Accepting, Puts}
+use Rattle.pieces.specs.Coded.{stateIn}
 use Rattle.pieces.specs.Ending.{endedBy}
 use Rattle.pieces.specs.declared.state.State.{State}
 
@@ -42,3 +43,7 @@ middle-notes fed n h k = halved (omega arith)
 
 pub long-notes : (fed n : ℕ) → maxNodes ≤ n → Noteable fed n
 long-notes fed n h = most h
+
+-- the same of a state that numbers say
+pub puts-coded : (state sheet notes : List ℕ) (n : ℕ) (x : State) → x ≡ stateIn state → (r : Reading) → Puts (endedBy x sheet n) sheet n notes r → Puts (endedBy (stateIn state) sheet n) sheet n notes r
+puts-coded state sheet notes n x e r p = subst (λ (y : State). Puts (endedBy y sheet n) sheet n notes r) e p

@@ -76,13 +76,13 @@ module _ (first s piece : List ℕ) where
   caught-on =
       by-le (length s) (space (length first))
       (λ h.
-          let e : min (length s) cap ≡ length s = omega arith in
-          ap meant (picked _ _ (le-leb (min (length s) cap) (space (length (sheetAfter first s))) (omega (arith, sheet-length first s))))
-          ∙ meant-coded _
-          ∙ ap (run capped start) ((λ i. take (e i) (sheet-whole first s h i)) ∙ take-at s (drop (length s) first) (length s) refl ∙ sym (take-all cap s (omega arith))))
+      let e : min (length s) cap ≡ length s = omega arith in
+      ap meant (picked _ _ (le-leb (min (length s) cap) (space (length (sheetAfter first s))) (omega (arith, sheet-length first s))))
+      ∙ meant-coded _
+      ∙ ap (run capped start) ((λ i. take (e i) (sheet-whole first s h i)) ∙ take-at s (drop (length s) first) (length s) refl ∙ sym (take-all cap s (omega arith))))
       (λ h.
-          ap meant (unpicked _ _ (lt-leb (min (length s) cap) (space (length (sheetAfter first s))) (omega (arith, sheet-length first s))) ∙ unpicked _ _ (lt-leb (length s) (space (length first)) h))
-          ∙ meant-coded _)
+      ap meant (unpicked _ _ (lt-leb (min (length s) cap) (space (length (sheetAfter first s))) (omega (arith, sheet-length first s))) ∙ unpicked _ _ (lt-leb (length s) (space (length first)) h))
+      ∙ meant-coded _)
 
   track-inside : length s + length piece ≤ space (length first) → goneOn (trackAfter (length first) s) (min (length s) cap) piece (sheetAfter first s) ≡ trackAfter (length first) (s ++ piece)
   unfolding goneOn trackAfter

@@ -61,14 +61,14 @@ module _ (s d first table : List ℕ) (short : length s ≤ maxSource) (same : l
       ap (λ (n : ℕ). roomVerdict (depth t) (nodes t) (length (canon t)) n (records table)) same in
       by-le (roomVerdict (depth t) (nodes t) (length (canon t)) (length first) (records table)) 0
       (λ h.
-          let z : roomVerdict (depth t) (nodes t) (length (canon t)) (length first) (records table) ≡ 0 = omega arith in
-          let c : settled (s ++ d) 0 (canon t) ≡ s ++ d = ap (settled (s ++ d) 0) (sym (canon-sound s t e)) ∙ settled-there s d in
-          tree-accepted (decode₁ s) (s ++ d) table t e (v ∙ z)
-          ∙ (λ i. inSheet (c i) (filled t 0 0 first table))
-          ∙ ap (inSheet (s ++ d)) (sym (tree-accepted (decode₁ s) first table t e z)))
+      let z : roomVerdict (depth t) (nodes t) (length (canon t)) (length first) (records table) ≡ 0 = omega arith in
+      let c : settled (s ++ d) 0 (canon t) ≡ s ++ d = ap (settled (s ++ d) 0) (sym (canon-sound s t e)) ∙ settled-there s d in
+      tree-accepted (decode₁ s) (s ++ d) table t e (v ∙ z)
+      ∙ (λ i. inSheet (c i) (filled t 0 0 first table))
+      ∙ ap (inSheet (s ++ d)) (sym (tree-accepted (decode₁ s) first table t e z)))
       (λ h.
-          tree-refused (decode₁ s) (s ++ d) table t e (roomVerdict (depth t) (nodes t) (length (canon t)) (length first) (records table)) (sym v) h
-          ∙ ap (inSheet (s ++ d)) (sym (tree-refused (decode₁ s) first table t e (roomVerdict (depth t) (nodes t) (length (canon t)) (length first) (records table)) refl h)))
+      tree-refused (decode₁ s) (s ++ d) table t e (roomVerdict (depth t) (nodes t) (length (canon t)) (length first) (records table)) (sym v) h
+      ∙ ap (inSheet (s ++ d)) (sym (tree-refused (decode₁ s) first table t e (roomVerdict (depth t) (nodes t) (length (canon t)) (length first) (records table)) refl h)))
 
 -- ---- past the sheet
 
@@ -83,8 +83,8 @@ module _ (s first table : List ℕ) (short : length s ≤ maxSource) (long : spa
       by-le (roomVerdict d n len (length first) (records table)) 0
       (λ h. let g = roomy d n len (length first) (records table) (omega arith) in absurd (omega (arith, g .lent, g .small, b)))
       (λ h.
-          ap (λ (k : ℕ). unchanged k sheet table) (picked _ _ (lt-ltb 0 (roomVerdict d n len (length first) (records table)) h))
-          ∙ ap (inSheet sheet) (sym (tree-refused (decode₁ s) first table (m .tree) (m .is) (roomVerdict d n len (length first) (records table)) (sym a) h)))
+      ap (λ (k : ℕ). unchanged k sheet table) (picked _ _ (lt-ltb 0 (roomVerdict d n len (length first) (records table)) h))
+      ∙ ap (inSheet sheet) (sym (tree-refused (decode₁ s) first table (m .tree) (m .is) (roomVerdict d n len (length first) (records table)) (sym a) h)))
 
 -- ---- in turn
 
@@ -170,17 +170,17 @@ module _ (first s table : List ℕ) (a : reading 1 s first table .accepted ≡ t
   by-tree (some t) e =
       by-le (roomVerdict (depth t) (nodes t) (length (canon t)) (length first) (records table)) 0
       (λ h.
-          let z : roomVerdict (depth t) (nodes t) (length (canon t)) (length first) (records table) ≡ 0 = omega arith in
-          let g = roomy (depth t) (nodes t) (length (canon t)) (length first) (records table) z in
-          let c : s ≡ canon t = canon-sound s t e in
-          let l : length s ≤ space (length first) = omega (arith, g .lent, g .small, ap length c) in
-          sheet-whole first s l
-          ∙ sym (sets-all first s (omega (arith, l)))
-          ∙ sym (settled-front first s (omega (arith, l)))
-          ∙ ap (settled first 0) c
-          ∙ sym (ap (λ (o : Outcome). o .canonical) (read-tree s first table short ∙ tree-accepted (decode₁ s) first table t e z)))
+      let z : roomVerdict (depth t) (nodes t) (length (canon t)) (length first) (records table) ≡ 0 = omega arith in
+      let g = roomy (depth t) (nodes t) (length (canon t)) (length first) (records table) z in
+      let c : s ≡ canon t = canon-sound s t e in
+      let l : length s ≤ space (length first) = omega (arith, g .lent, g .small, ap length c) in
+      sheet-whole first s l
+      ∙ sym (sets-all first s (omega (arith, l)))
+      ∙ sym (settled-front first s (omega (arith, l)))
+      ∙ ap (settled first 0) c
+      ∙ sym (ap (λ (o : Outcome). o .canonical) (read-tree s first table short ∙ tree-accepted (decode₁ s) first table t e z)))
       (λ h.
-          differ a (ap (λ (o : Outcome). o .accepted) (read-tree s first table short ∙ tree-refused (decode₁ s) first table t e (roomVerdict (depth t) (nodes t) (length (canon t)) (length first) (records table)) refl h)))
+      differ a (ap (λ (o : Outcome). o .accepted) (read-tree s first table short ∙ tree-refused (decode₁ s) first table t e (roomVerdict (depth t) (nodes t) (length (canon t)) (length first) (records table)) refl h)))
 
   pub accepted-sheet : sheetAfter first s ≡ reading 1 s first table .canonical
   accepted-sheet = by-tree (decode₁ s) refl

@@ -2,3 +2,4 @@ pub mod Tracks
 pub mod Feeding
 pub mod Ending
 pub mod Handed
+pub mod Coded

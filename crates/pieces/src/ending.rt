@@ -7,7 +7,9 @@ ghost use Rattle.answers.specs.Cases.{outcome, Refuses};
 ghost use Rattle.reader.specs.Stored.{Noteable, Puts};
 ghost use Rattle.automaton.specs.Extents.{extent};
 ghost use Rattle.pieces.specs.Tracks.{meant};
+ghost use Rattle.pieces.specs.Coded.{stateIn};
 ghost use Rattle.pieces.specs.Ending.{Held, End, pastRow, endedBy};
+use crate::coded::state_in;
 use crate::state::State;
 use crate::state::space;
 use crate::track::Track;
@@ -131,4 +133,17 @@ pub fn end(state: State, canonical: &[u8], table: &mut [u32]) -> Reading
         return end_middle(state, canonical, table);
     }
     end_long(state, canonical, table)
+}
+
+// The end but for the table, of a state that numbers say, where so many records are lent: the notes tell them.
+pub fn end_coded(
+    state: &[usize; 10],
+    canonical: &[u8],
+    notes: &mut [usize; limits::NODES],
+    records: usize,
+) -> Reading
+    ensures { λ r. ⌜ Puts (endedBy (stateIn (now (state .entry))) (now (canonical .entry)) records) (now (canonical .entry)) records (now (notes .exit)) r ⌝ }
+{
+    let x = state_in(state);
+    end_notes(x, canonical, notes, records, records)
 }
