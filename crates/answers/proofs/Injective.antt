@@ -20,8 +20,8 @@ use Rattle.answers.specs.declared.Place.the-variants as place
 apart : true ≡ false → ⊥
 apart e = let z : _≡_ {A = ℕ} 0 1 = cc in omega arith
 
-refusal : (f g : Refusal) → f .number ≡ g .number → f ≡ g
-refusal f g e = λ i. record { number = e i }
+pub refusal-injective : (f g : Refusal) → f .number ≡ g .number → f .place ≡ g .place → f ≡ g
+refusal-injective f g e p = λ i. record { number = e i; place = p i }
 
 -- ---- reading and replacing, with both lent buffers
 module _ (c d t u : List ℕ) where
@@ -30,7 +30,7 @@ module _ (c d t u : List ℕ) where
   outcome-injective (reading.Accepted l n) (reading.Accepted m k) e = ap₂ (λ (l n : ℕ). reading.Accepted l n) (ap (λ (o : Outcome). o .octets) e) (ap (λ (o : Outcome). o .count) e)
   outcome-injective (reading.Accepted l n) (reading.Refused g) e = absurd (apart (ap (λ (o : Outcome). o .accepted) e))
   outcome-injective (reading.Refused f) (reading.Accepted m k) e = absurd (apart (sym (ap (λ (o : Outcome). o .accepted) e)))
-  outcome-injective (reading.Refused f) (reading.Refused g) e = ap (λ (f : Refusal). reading.Refused f) (refusal f g (ap (λ (o : Outcome). o .number) e))
+  outcome-injective (reading.Refused f) (reading.Refused g) e = ap (λ (f : Refusal). reading.Refused f) (refusal-injective f g (ap (λ (o : Outcome). o .number) e) (ap (λ (o : Outcome). o .place) e))
 
   pub outcome-lent : (r s : Reading) → outcome r c t ≡ outcome s d u → (c ≡ d) × (t ≡ u)
   unfolding outcome
@@ -46,7 +46,7 @@ module _ (c d : List ℕ) where
   output-injective (writing.Accepted l) (writing.Accepted m) e = ap (λ (l : ℕ). writing.Accepted l) (ap (λ (o : Output). o .octets) e)
   output-injective (writing.Accepted l) (writing.Refused g) e = absurd (apart (ap (λ (o : Output). o .accepted) e))
   output-injective (writing.Refused f) (writing.Accepted m) e = absurd (apart (sym (ap (λ (o : Output). o .accepted) e)))
-  output-injective (writing.Refused f) (writing.Refused g) e = ap (λ (f : Refusal). writing.Refused f) (refusal f g (ap (λ (o : Output). o .number) e))
+  output-injective (writing.Refused f) (writing.Refused g) e = ap (λ (f : Refusal). writing.Refused f) (refusal-injective f g (ap (λ (o : Output). o .number) e) (ap (λ (o : Output). o .place) e))
 
   pub output-lent : (r s : Writing) → output r c ≡ output s d → c ≡ d
   unfolding output
@@ -61,7 +61,7 @@ unfolding told
 told-injective (comparing.Accepted a) (comparing.Accepted b) e = ap (λ (b : Bool). comparing.Accepted b) (ap (λ (o : Comparison). o .yes) e)
 told-injective (comparing.Accepted a) (comparing.Refused g) e = absurd (apart (ap (λ (o : Comparison). o .accepted) e))
 told-injective (comparing.Refused f) (comparing.Accepted b) e = absurd (apart (sym (ap (λ (o : Comparison). o .accepted) e)))
-told-injective (comparing.Refused f) (comparing.Refused g) e = ap (λ (f : Refusal). comparing.Refused f) (refusal f g (ap (λ (o : Comparison). o .number) e))
+told-injective (comparing.Refused f) (comparing.Refused g) e = ap (λ (f : Refusal). comparing.Refused f) (refusal-injective f g (ap (λ (o : Comparison). o .number) e) (ap (λ (o : Comparison). o .place) e))
 
 -- ---- showing
 pub placed-injective : (r s : Place) → placed r ≡ placed s → r ≡ s

@@ -5,7 +5,7 @@ use mathlib.Core.Bool.{true}
 use mathlib.Core.Option.{Option, none, some}
 use mathlib.Core.List.{List}
 use Rattle.model.specs.Limits.{Accepted}
-use Rattle.model.specs.Answers.{Outcome, unchanged, Output, unwritten, Comparison, uncompared, part}
+use Rattle.model.specs.Answers.{Outcome, unchangedAt, unchanged, Output, unwrittenAt, unwritten, Comparison, uncomparedAt, uncompared, part}
 use Rattle.answers.specs.declared.Reading.{Reading}
 use Rattle.answers.specs.declared.Reading.the-variants as reading
 use Rattle.answers.specs.declared.Writing.{Writing}
@@ -17,25 +17,25 @@ use Rattle.answers.specs.declared.Place.the-variants as place
 
 -- the answer of reading or replacing, with what both lent buffers hold afterwards
 unfoldable pub outcome : Reading → List ℕ → List ℕ → Outcome
-outcome (reading.Accepted len count) canonical table = record { accepted = true; number = Accepted; octets = len; count = count; canonical = canonical; table = table }
-outcome (reading.Refused f) canonical table = unchanged (f .number) canonical table
+outcome (reading.Accepted len count) canonical table = record { accepted = true; number = Accepted; place = 0; octets = len; count = count; canonical = canonical; table = table }
+outcome (reading.Refused f) canonical table = unchangedAt (f .number) (f .place) canonical table
 
 -- the answer of writing, with what the lent output holds afterwards
 unfoldable pub output : Writing → List ℕ → Output
-output (writing.Accepted len) out = record { accepted = true; number = Accepted; octets = len; out = out }
-output (writing.Refused f) out = unwritten (f .number) out
+output (writing.Accepted len) out = record { accepted = true; number = Accepted; place = 0; octets = len; out = out }
+output (writing.Refused f) out = unwrittenAt (f .number) (f .place) out
 
 -- the answer of comparing
 unfoldable pub told : Comparing → Comparison
-told (comparing.Accepted s) = record { accepted = true; number = Accepted; yes = s }
-told (comparing.Refused f) = uncompared (f .number)
+told (comparing.Accepted s) = record { accepted = true; number = Accepted; place = 0; yes = s }
+told (comparing.Refused f) = uncomparedAt (f .number) (f .place)
 
 -- the part of a sheet that is shown, if one is
 unfoldable pub placed : Place → Option Rattle.model.specs.Answers.Part
 placed (place.Part s e) = some (part s e)
 placed place.NoPart = none
 
--- refused with a number
+-- refused with a number, and no place told
 pub record Refuses (n : ℕ) (r : Reading) : Type 0 where
   pub is : (canonical table : List ℕ) → outcome r canonical table ≡ unchanged n canonical table
 

@@ -1,9 +1,10 @@
 // What the entries answer. specs/ gives 01's number and values for each case.
 ghost use Rattle.answers.specs.Cases.{Refuses, RefusesWriting, RefusesComparing};
 
-// Why something was refused: the number of the row in document 01's table.
+// Why something was refused: the number of the row in document 01's table, and the place in the text; 0 where none is told.
 pub struct Refusal {
     pub number: u32,
+    pub place: usize,
 }
 
 // The answer of reading, and of replacing: the canonical length and the node count.
@@ -35,7 +36,7 @@ pub fn refused(number: u32) -> Reading
     ensures { λ r. ⌜ Refuses number r ⌝ }
 {
     Reading::Refused {
-        refusal: Refusal { number },
+        refusal: Refusal { number, place: 0 },
     }
 }
 
@@ -44,7 +45,7 @@ pub fn refused_writing(number: u32) -> Writing
     ensures { λ r. ⌜ RefusesWriting number r ⌝ }
 {
     Writing::Refused {
-        refusal: Refusal { number },
+        refusal: Refusal { number, place: 0 },
     }
 }
 
@@ -53,6 +54,6 @@ pub fn refused_comparing(number: u32) -> Comparing
     ensures { λ r. ⌜ RefusesComparing number r ⌝ }
 {
     Comparing::Refused {
-        refusal: Refusal { number },
+        refusal: Refusal { number, place: 0 },
     }
 }

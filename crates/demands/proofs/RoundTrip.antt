@@ -24,6 +24,7 @@ pub reads-back : (form : ℕ) (c : List ℕ) (n : ℕ) (out canonical table : Li
     ≡ record {
       accepted = true;
       number = 0;
+      place = 0;
       octets = n;
       count = nodes (the (sheetTree c n));
       canonical = settled canonical 0 (take n c);

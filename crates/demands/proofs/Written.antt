@@ -46,7 +46,7 @@ module _ (form : ℕ) (canonical : List ℕ) (len : ℕ) (out : List ℕ) where
 
   -- accepted, and the tree's text is in the front of the output
   pub writable-accepted : (w : Writable form canonical len out)
-      → answer ≡ record { accepted = true; number = 0; octets = length (encode form (w .tree)); out = settled out 0 (encode form (w .tree)) }
+      → answer ≡ record { accepted = true; number = 0; place = 0; octets = length (encode form (w .tree)); out = settled out 0 (encode form (w .tree)) }
   unfolding writing writingChecks written the isNone
   writable-accepted w =
       let e : written form canonical len ≡ encode form (w .tree) = ap (λ (o : Option Tree). encode form (the o)) (w .is) in
@@ -54,7 +54,7 @@ module _ (form : ℕ) (canonical : List ℕ) (len : ℕ) (out : List ℕ) where
       (past 1 _ _ (w .known)
       (past 7 _ _ (ap isNone (w .is))
       (past 6 _ _ (ap (λ (x : List ℕ). ltb (length out) (length x)) e ∙ le-ltb (length out) (length (encode form (w .tree))) (w .roomy)) none-applies)))
-      ∙ ap (λ (x : List ℕ). record { accepted = true; number = 0; octets = length x; out = settled out 0 x }) e
+      ∙ ap (λ (x : List ℕ). record { accepted = true; number = 0; place = 0; octets = length x; out = settled out 0 x }) e
 
   pub accepted-writable : answer .number ≡ 0 → Writable form canonical len out
   unfolding writing writingChecks written the
@@ -100,7 +100,7 @@ module _ (a : List ℕ) (aLength : ℕ) (b : List ℕ) (bLength : ℕ) (x : List
   compare-refused-for n h e = judged-for (λ (c : Comparison). c .number) compareChecks _ (λ (k : ℕ). uncompared k) (λ k. refl) refl n h e
 
   -- both are sheets: whether their trees are the same
-  pub compared : (t u : Tree) → sheetTree a aLength ≡ some t → sheetTree b bLength ≡ some u → comparing a aLength b bLength x ≡ record { accepted = true; number = 0; yes = same t u x }
+  pub compared : (t u : Tree) → sheetTree a aLength ≡ some t → sheetTree b bLength ≡ some u → comparing a aLength b bLength x ≡ record { accepted = true; number = 0; place = 0; yes = same t u x }
   unfolding comparing comparingChecks isNone the
   compared t u i j =
       judged-accepted _ _ _ (past 7 _ _ (unpicked _ _ (ap isNone i) ∙ ap isNone j) none-applies)

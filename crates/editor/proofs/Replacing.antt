@@ -44,8 +44,8 @@ use Rattle.plan.specs.declared.Plan.{Plan}
 use Rattle.plan.specs.declared.Plan.the-variants.{Fits, Misfit}
 
 same-outcome : {a a′ b b′ : ℕ} {c c′ d d′ : List ℕ} → a ≡ a′ → b ≡ b′ → c ≡ c′ → d ≡ d′
-    → _≡_ {A = Outcome} (record { accepted = true; number = Accepted; octets = a; count = b; canonical = c; table = d }) (record { accepted = true; number = Accepted; octets = a′; count = b′; canonical = c′; table = d′ })
-same-outcome p q r s = λ i. record { accepted = true; number = Accepted; octets = p i; count = q i; canonical = r i; table = s i }
+    → _≡_ {A = Outcome} (record { accepted = true; number = Accepted; place = 0; octets = a; count = b; canonical = c; table = d }) (record { accepted = true; number = Accepted; place = 0; octets = a′; count = b′; canonical = c′; table = d′ })
+same-outcome p q r s = λ i. record { accepted = true; number = Accepted; place = 0; octets = p i; count = q i; canonical = r i; table = s i }
 
 -- the octets of the sheet with its node k replaced
 module _ (canonical : List ℕ) (len count start end n level : ℕ) (t : Tree) (k : ℕ) (a : AtNode len count start end n level t k) (u : Tree) where

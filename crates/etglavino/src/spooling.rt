@@ -19,7 +19,7 @@ pub fn spool_open(area: &[u8], number: usize) -> Opening
 
 // The sheet of a number: the part of the area that holds it, else an empty part at the area's front, damaged areas included.
 pub fn spool_shown<'a>(area: &'a [u8], number: usize) -> &'a [u8]
-    ensures { λ r. ⌜ Shows r (opening (now (area .entry)) number .shown) (shownAt (some (opening (now (area .entry)) number .place)) (area .entry .ptr) (area .entry .ptr)) ⌝ }
+    ensures { λ r. ⌜ Shows r (opening (now (area .entry)) number .shown) (shownAt (some (opening (now (area .entry)) number .stands)) (area .entry .ptr) (area .entry .ptr)) ⌝ }
 {
     spool::shown(area, number)
 }

@@ -5,9 +5,9 @@ use mathlib.Core.Bool.{Bool, true, false}
 use mathlib.Core.Option.{Option}
 use mathlib.Core.List.{List}
 use lib.Dec.{eqb}
-use Rattle.model.specs.Answers.{Outcome, unchanged, Output, unwritten, Comparison, Part}
+use Rattle.model.specs.Answers.{Outcome, unchangedAt, Output, unwrittenAt, Comparison, Part}
 use Rattle.model.specs.Answers as model
-use Rattle.model.proofs.Numbered.{reading-numbered, replacing-numbered, writing-numbered}
+use Rattle.model.proofs.Numbered.{reading-numbered, reading-unplaced, replacing-numbered, replacing-unplaced, writing-numbered, writing-unplaced}
 use Rattle.answers.specs.Cases.{outcome, output, told, placed}
 use Rattle.answers.specs.declared.Refusal.{Refusal}
 use Rattle.answers.specs.declared.Reading.{Reading}
@@ -23,24 +23,25 @@ use Rattle.etglavino_c.specs.Pointers.{outcomeOf, HandsReading, outputOf
 module _ (r : Reading) where
   pub hand-accepted : (len count : ℕ) → r ≡ reading.Accepted len count → HandsReading r 0 len count
   unfolding outcome
-  hand-accepted len count q = record { is = λ canonical table o e _. sym (ap (λ (r : Reading). outcome r canonical table) q) ∙ e }
+  hand-accepted len count q = record { is = λ canonical table o e _ _. sym (ap (λ (r : Reading). outcome r canonical table) q) ∙ e }
 
   pub hand-refused : (f : Refusal) → r ≡ reading.Refused f → HandsReading r (f .number) 0 0
   unfolding outcome
   hand-refused f q =
       record {
-        is = λ canonical table o e n.
-            let w : unchanged (f .number) canonical table ≡ o = sym (ap (λ (r : Reading). outcome r canonical table) q) ∙ e in
+        is = λ canonical table o e n p.
+            let w : unchangedAt (f .number) (f .place) canonical table ≡ o = sym (ap (λ (r : Reading). outcome r canonical table) q) ∙ e in
             let z : eqb (f .number) 0 ≡ false = ap (λ (o : Outcome). eqb (o .number) 0) w ∙ sym n ∙ sym (ap (λ (o : Outcome). o .accepted) w) in
-            (λ i. record { accepted = z i; number = f .number; octets = 0; count = 0; canonical = canonical; table = table }) ∙ w;
+            let y : 0 ≡ f .place = sym (ap (λ (o : Outcome). o .place) w ∙ p) in
+            (λ i. record { accepted = z i; number = f .number; place = y i; octets = 0; count = 0; canonical = canonical; table = table }) ∙ w;
       }
 
   module _ (canonical table : List ℕ) (n len count : ℕ) (h : HandsReading r n len count) where
     pub read-handed : (form : ℕ) (s c t : List ℕ) → outcome r canonical table ≡ model.reading form s c t → outcomeOf n len count canonical table ≡ model.reading form s c t
-    read-handed form s c t e = h .is canonical table (model.reading form s c t) e (reading-numbered form s c t)
+    read-handed form s c t e = h .is canonical table (model.reading form s c t) e (reading-numbered form s c t) (reading-unplaced form s c t)
 
     pub replace-handed : (form : ℕ) (s c t : List ℕ) (l k node : ℕ) → outcome r canonical table ≡ model.replacing form s c t l k node → outcomeOf n len count canonical table ≡ model.replacing form s c t l k node
-    replace-handed form s c t l k node e = h .is canonical table (model.replacing form s c t l k node) e (replacing-numbered form s c t l k node)
+    replace-handed form s c t l k node e = h .is canonical table (model.replacing form s c t l k node) e (replacing-numbered form s c t l k node) (replacing-unplaced form s c t l k node)
 
 module _ (r : Writing) (out : List ℕ) (form : ℕ) (c : List ℕ) (n : ℕ) (x : List ℕ) (e : output r out ≡ model.writing form c n x) where
   pub write-accepted : (len : ℕ) → r ≡ writing.Accepted len → outputOf 0 len out ≡ model.writing form c n x
@@ -50,9 +51,10 @@ module _ (r : Writing) (out : List ℕ) (form : ℕ) (c : List ℕ) (n : ℕ) (x
   pub write-refused : (f : Refusal) → r ≡ writing.Refused f → outputOf (f .number) 0 out ≡ model.writing form c n x
   unfolding output
   write-refused f q =
-      let w : unwritten (f .number) out ≡ model.writing form c n x = sym (ap (λ (r : Writing). output r out) q) ∙ e in
+      let w : unwrittenAt (f .number) (f .place) out ≡ model.writing form c n x = sym (ap (λ (r : Writing). output r out) q) ∙ e in
       let z : eqb (f .number) 0 ≡ false = ap (λ (o : Output). eqb (o .number) 0) w ∙ sym (writing-numbered form c n x) ∙ sym (ap (λ (o : Output). o .accepted) w) in
-      (λ i. record { accepted = z i; number = f .number; octets = 0; out = out }) ∙ w
+      let y : 0 ≡ f .place = sym (ap (λ (o : Output). o .place) w ∙ writing-unplaced form c n x) in
+      (λ i. record { accepted = z i; number = f .number; place = y i; octets = 0; out = out }) ∙ w
 
 module _ (r : Comparing) (o : Comparison) (e : told r ≡ o) where
   pub same-yes : (b : Bool) → r ≡ comparing.Accepted b → b ≡ true → compared 0 1 ≡ comparedOf o

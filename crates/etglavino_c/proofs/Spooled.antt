@@ -1,13 +1,13 @@
 -- Each case of an answer of the spool, handed out as a number and values.
 use Prim.Native.Nat.{ℕ}
-use mathlib.Core.Path.{_≡_, refl, sym, ap, _∙_}
+use mathlib.Core.Path.{_≡_, refl, sym, ap, ap₂, _∙_}
 use mathlib.Core.Bool.{Bool, true, false}
 use mathlib.Core.List.{List, [], _∷_}
 use lib.Dec.{eqb}
 use Rattle.model.specs.Answers.{part, octetsAt}
-use Rattle.spools.specs.Adding.{Adding as State, Start, Step, Added as Whole, unadded, stepping, committing, adding}
-use Rattle.spools.specs.Spool.{Opening as Shown, unopened, opening}
-use Rattle.spools.proofs.Numbered.{opening-numbered, adding-numbered}
+use Rattle.spools.specs.Adding.{Adding as State, Start, Step, Added as Whole, unaddedAt, stepping, committing, adding}
+use Rattle.spools.specs.Spool.{Opening as Shown, unopenedAt, opening}
+use Rattle.spools.proofs.Numbered.{opening-numbered, opening-unplaced, adding-numbered, adding-unplaced}
 use Rattle.answers.specs.declared.Refusal.{Refusal}
 use Rattle.spool.specs.Cases.{opened, stateOf, startOf, stepOf, addedOf}
 use Rattle.spool.specs.declared.Opening.{Opening}
@@ -40,9 +40,10 @@ module _ (r : Opening) (area : List ℕ) (k : ℕ) (e : opened r area ≡ openin
   pub open-refused : (f : Refusal) → r ≡ opening.Refused f → openingOf (f .number) 0 0 0 area ≡ opening area k
   unfolding opened octetsAt
   open-refused f q =
-      let w : unopened (f .number) ≡ opening area k = sym (ap (λ (r : Opening). opened r area) q) ∙ e in
+      let w : unopenedAt (f .number) (f .place) ≡ opening area k = sym (ap (λ (r : Opening). opened r area) q) ∙ e in
       let z : eqb (f .number) 0 ≡ false = ap (λ (o : Shown). eqb (o .number) 0) w ∙ sym (opening-numbered area k) ∙ sym (ap (λ (o : Shown). o .accepted) w) in
-      ap (λ (b : Bool). record { accepted = b; number = f .number; count = 0; place = part 0 0; shown = octetsAt area (part 0 0) }) z ∙ w
+      let y : 0 ≡ f .place = sym (ap (λ (o : Shown). o .place) w ∙ opening-unplaced area k) in
+      ap₂ (λ (b : Bool) (p : ℕ). record { accepted = b; number = f .number; place = p; count = 0; stands = part 0 0; shown = octetsAt area (part 0 0) }) z y ∙ w
 
 module _ (r : Starting) (o : Start) (e : startOf r ≡ o) where
   pub start-accepted : (s : Adding) (x : List ℕ) → r ≡ starting.Accepted s → x ≡ stateNumbers (stateOf s) → begun 0 x ≡ begunOf o
@@ -71,6 +72,7 @@ module _ (r : Added) (after area sheet : List ℕ) (len : ℕ) (e : addedOf r af
   pub add-refused : (f : Refusal) → r ≡ added.Refused f → addingOf (f .number) after ≡ adding area sheet len
   unfolding addedOf
   add-refused f q =
-      let w : unadded (f .number) after ≡ adding area sheet len = sym (ap (λ (r : Added). addedOf r after) q) ∙ e in
+      let w : unaddedAt (f .number) (f .place) after ≡ adding area sheet len = sym (ap (λ (r : Added). addedOf r after) q) ∙ e in
       let z : eqb (f .number) 0 ≡ false = ap (λ (o : Whole). eqb (o .number) 0) w ∙ sym (adding-numbered area sheet len) ∙ sym (ap (λ (o : Whole). o .accepted) w) in
-      ap (λ (b : Bool). record { accepted = b; number = f .number; area = after }) z ∙ w
+      let y : 0 ≡ f .place = sym (ap (λ (o : Whole). o .place) w ∙ adding-unplaced area sheet len) in
+      ap₂ (λ (b : Bool) (p : ℕ). record { accepted = b; number = f .number; place = p; area = after }) z y ∙ w

@@ -1,5 +1,5 @@
 -- Each case of an answer for values and hours, handed out as a number and values.
-use Prim.Native.Nat.{ℕ, zero, suc}
+use Prim.Native.Nat.{ℕ}
 use mathlib.Core.Path.{_≡_, refl, sym, ap, _∙_}
 use mathlib.Core.Bool.{Bool, true, false}
 use mathlib.Core.List.{List}
@@ -12,7 +12,8 @@ use lib.Ieee.{Float}
 use lib.ListN.{length}
 use borrow.Author.Tests.{eq-eqb, ne-eqb}
 use Rattle.base.proofs.Cases.{picked, unpicked}
-use Rattle.model.specs.Answers.{Check, verdict, judged, settled, Output, unwritten}
+use Rattle.model.specs.Answers.{settled, Output, unwrittenAt, unwritten}
+use Rattle.model.proofs.Judging.{judged-holds}
 use Rattle.answers.specs.Cases.{output}
 use Rattle.answers.specs.declared.Refusal.{Refusal}
 use Rattle.answers.specs.declared.Writing.{Writing}
@@ -117,21 +118,12 @@ module _ (k : ℕ) (x y : Float) (w : ℤ) (s e : ℕ) where
       unfolding valueFor
       for-raw n₃ = sym (unpicked _ _ (ne-eqb k 1 n₁) ∙ unpicked _ _ (ne-eqb k 2 n₂) ∙ unpicked _ _ (ne-eqb k 3 n₃))
 
-judged-numbered : (cs : List Check) (given : Output) (out : List ℕ) (is : Output → Bool) (number : Output → ℕ) → is given ≡ eqb (number given) 0 → ((n : ℕ) → is (unwritten (suc n) out) ≡ eqb (number (unwritten (suc n) out)) 0)
-    → is (judged cs given (λ n. unwritten n out)) ≡ eqb (number (judged cs given (λ n. unwritten n out))) 0
-unfolding judged
-judged-numbered cs given out is number f g = by (verdict cs)
-  where
-    by : (v : ℕ) → is (elim v [ zero ↦ given | suc n ↦ unwritten (suc n) out ]) ≡ eqb (number (elim v [ zero ↦ given | suc n ↦ unwritten (suc n) out ])) 0
-    by zero = f
-    by (suc n) = g n
-
-putting-numbered : (v : Value) (src out : List ℕ) → putting v src out .accepted ≡ eqb (putting v src out .number) 0
+putting-tells : (v : Value) (src out : List ℕ) → (putting v src out .accepted ≡ eqb (putting v src out .number) 0) × (putting v src out .place ≡ 0)
 unfolding putting
-putting-numbered v src out =
-    judged-numbered (puttingChecks v src out)
-    (record { accepted = true; number = 0; octets = length (theOctets (coding src v)); out = settled out 0 (theOctets (coding src v)) }) out
-    (λ (o : Output). o .accepted) (λ (o : Output). o .number) refl (λ n. sym (eqb·suc-zero n))
+putting-tells v src out =
+    judged-holds (puttingChecks v src out)
+    (record { accepted = true; number = 0; place = 0; octets = length (theOctets (coding src v)); out = settled out 0 (theOctets (coding src v)) }) (λ n. unwritten n out)
+    (λ (o : Output). (o .accepted ≡ eqb (o .number) 0) × (o .place ≡ 0)) (refl, refl) (λ n. (sym (eqb·suc-zero n), refl))
 
 module _ (r : Writing) (out : List ℕ) (v : Value) (k : ℕ) (x′ y′ : Float) (w′ : ℤ) (s e′ : ℕ) (fits : SFits w64 w′) (q : v ≡ valueFor k x′ y′ (toZ w64 (ofZ w64 w′)) s e′) (src x : List ℕ) (e : output r out ≡ putting v src x) where
   abbrev u : Value
@@ -147,6 +139,7 @@ module _ (r : Writing) (out : List ℕ) (v : Value) (k : ℕ) (x′ y′ : Float
   pub put-refused : (f : Refusal) → r ≡ writing.Refused f → outputOf (f .number) 0 out ≡ putting u src x
   unfolding output
   put-refused f z =
-      let w : unwritten (f .number) out ≡ putting u src x = sym (ap (λ (r : Writing). output r out) z) ∙ same in
-      let y : eqb (f .number) 0 ≡ false = ap (λ (o : Output). eqb (o .number) 0) w ∙ sym (putting-numbered u src x) ∙ sym (ap (λ (o : Output). o .accepted) w) in
-      (λ i. record { accepted = y i; number = f .number; octets = 0; out = out }) ∙ w
+      let w : unwrittenAt (f .number) (f .place) out ≡ putting u src x = sym (ap (λ (r : Writing). output r out) z) ∙ same in
+      let y : eqb (f .number) 0 ≡ false = ap (λ (o : Output). eqb (o .number) 0) w ∙ sym (putting-tells u src x .0) ∙ sym (ap (λ (o : Output). o .accepted) w) in
+      let p : 0 ≡ f .place = sym (ap (λ (o : Output). o .place) w ∙ putting-tells u src x .1) in
+      (λ i. record { accepted = y i; number = f .number; place = p i; octets = 0; out = out }) ∙ w

@@ -11,17 +11,17 @@ use Rattle.answers.specs.Cases.{outcome, placed}
 use Rattle.answers.specs.declared.Reading.{Reading}
 use Rattle.answers.specs.declared.Place.{Place}
 
--- the number, which tells an acceptance, the length and the node count, with both lent buffers
+-- the number, which tells an acceptance, the length and the node count, with both lent buffers; no place
 abbrev pub outcomeOf : ℕ → ℕ → ℕ → List ℕ → List ℕ → Outcome
-outcomeOf n len count canonical table = record { accepted = eqb n Accepted; number = n; octets = len; count = count; canonical = canonical; table = table }
+outcomeOf n len count canonical table = record { accepted = eqb n Accepted; number = n; place = 0; octets = len; count = count; canonical = canonical; table = table }
 
--- an answer of reading or replacing handed out, as far as its number tells an acceptance
+-- an answer of reading or replacing handed out, as far as its number tells an acceptance, and its place is 0
 pub record HandsReading (answer : Reading) (n len count : ℕ) : Type 0 where
-  pub is : (canonical table : List ℕ) (o : Outcome) → outcome answer canonical table ≡ o → o .accepted ≡ eqb (o .number) 0 → outcomeOf n len count canonical table ≡ o
+  pub is : (canonical table : List ℕ) (o : Outcome) → outcome answer canonical table ≡ o → o .accepted ≡ eqb (o .number) 0 → o .place ≡ 0 → outcomeOf n len count canonical table ≡ o
 
 -- the number, which tells an acceptance, and the length, with the lent output
 abbrev pub outputOf : ℕ → ℕ → List ℕ → Output
-outputOf n len out = record { accepted = eqb n Accepted; number = n; octets = len; out = out }
+outputOf n len out = record { accepted = eqb n Accepted; number = n; place = 0; octets = len; out = out }
 
 -- 1 for yes, 0 for no
 unfoldable pub flag : Bool → ℕ

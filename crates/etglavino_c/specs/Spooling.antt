@@ -13,7 +13,7 @@ use Rattle.etglavino_c.specs.Pointers.{flag}
 
 -- the number, which tells an acceptance, the count, and where the sheet shown stands in the area
 abbrev pub openingOf : ℕ → ℕ → ℕ → ℕ → List ℕ → Opening
-openingOf n count s e area = record { accepted = eqb n Accepted; number = n; count = count; place = part s e; shown = octetsAt area (part s e) }
+openingOf n count s e area = record { accepted = eqb n Accepted; number = n; place = 0; count = count; stands = part s e; shown = octetsAt area (part s e) }
 
 -- the state that numbers say, and the numbers of a state
 abbrev pub stateIn : List ℕ → Adding
@@ -47,4 +47,4 @@ steppedOf s = stepped (flag (s .state .done)) (stateNumbers (s .state)) (s .area
 
 -- a whole addition: the number, which tells an acceptance, and the area
 abbrev pub addingOf : ℕ → List ℕ → Added
-addingOf n area = record { accepted = eqb n Accepted; number = n; area = area }
+addingOf n area = record { accepted = eqb n Accepted; number = n; place = 0; area = area }

@@ -20,7 +20,7 @@ use Rattle.lookup.proofs.Sheets.{tree-of, none-of, Sheet, sheet-of, wit
 use Rattle.answers.specs.declared.Comparing.{Comparing}
 use Rattle.answers.specs.declared.Comparing.the-variants.{Accepted}
 
-by-rows : (b : Bool) (y : Bool) → judged (when 7 b ∷ []) (record { accepted = true; number = 0; yes = y }) (λ n. uncompared n) ≡ pick b (uncompared 7) (told (Accepted y))
+by-rows : (b : Bool) (y : Bool) → judged (when 7 b ∷ []) (record { accepted = true; number = 0; place = 0; yes = y }) (λ n. uncompared n) ≡ pick b (uncompared 7) (told (Accepted y))
 unfolding judged verdict told
 by-rows true y = refl
 by-rows false y = refl

@@ -18,6 +18,15 @@ module _ {A : Type 0} (cs : List Check) (accepted : A) (refused : ℕ → A) whe
   judged-refused zero e h = absurd (omega arith)
   judged-refused (suc n) e h = rw (e, judged)
 
+  -- what holds of the acceptance and of every refusal holds of the answer
+  pub judged-holds : (P : A → Type 0) → P accepted → ((n : ℕ) → P (refused (suc n))) → P (judged cs accepted refused)
+  unfolding judged
+  judged-holds P given others = by-verdict (verdict cs)
+    where
+      by-verdict : (v : ℕ) → P (elim v [ zero ↦ accepted | suc n ↦ refused (suc n) ])
+      by-verdict zero = given
+      by-verdict (suc n) = others n
+
 -- a check that applies, and one that does not
 pub verdict-here : (n : ℕ) (t : Bool) (cs : List Check) → t ≡ true → verdict (when n t ∷ cs) ≡ n
 unfolding verdict

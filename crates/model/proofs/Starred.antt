@@ -36,10 +36,10 @@ lent space front = front ++ drop (length front) space
 
 -- accepted, with the length and the node count; what lies past the octets and the records stays
 abbrev accepted : ℕ → ℕ → List ℕ → List ℕ → Outcome
-accepted n k octets numbers = record { accepted = true; number = 0; octets = n; count = k; canonical = lent sheet octets; table = lent table numbers }
+accepted n k octets numbers = record { accepted = true; number = 0; place = 0; octets = n; count = k; canonical = lent sheet octets; table = lent table numbers }
 
 abbrev wrote : ℕ → List ℕ → Output
-wrote n octets = record { accepted = true; number = 0; octets = n; out = lent out octets }
+wrote n octets = record { accepted = true; number = 0; place = 0; octets = n; out = lent out octets }
 
 cases : List (Answer × Answer)
 cases =
@@ -58,7 +58,7 @@ cases =
     -- node 1 of it replaced by "hi" in form 3: one octet less, which becomes 0
     ∷ (
       outcome (replacing 3 (34 ∷ 104 ∷ 105 ∷ 34 ∷ []) (lent sheet (40 ∷ 51 ∷ 58 ∷ 97 ∷ 98 ∷ 99 ∷ 91 ∷ 49 ∷ 58 ∷ 120 ∷ 93 ∷ 48 ∷ 58 ∷ 41 ∷ [])) (lent table (2 ∷ 0 ∷ 14 ∷ 3 ∷ 0 ∷ 0 ∷ 1 ∷ 13 ∷ 0 ∷ 1 ∷ 6 ∷ 1 ∷ 0 ∷ 0 ∷ 3 ∷ 6 ∷ 1 ∷ 6 ∷ 13 ∷ 1 ∷ 9 ∷ 10 ∷ 13 ∷ 13 ∷ [])) 14 3 1),
-      outcome (record { accepted = true; number = 0; octets = 13; count = 3; canonical = lent sheet (40 ∷ 50 ∷ 58 ∷ 104 ∷ 105 ∷ 91 ∷ 49 ∷ 58 ∷ 120 ∷ 93 ∷ 48 ∷ 58 ∷ 41 ∷ 0 ∷ []); table = lent table (2 ∷ 0 ∷ 13 ∷ 3 ∷ 0 ∷ 0 ∷ 1 ∷ 12 ∷ 0 ∷ 1 ∷ 5 ∷ 1 ∷ 0 ∷ 0 ∷ 3 ∷ 5 ∷ 1 ∷ 5 ∷ 12 ∷ 1 ∷ 8 ∷ 9 ∷ 12 ∷ 12 ∷ []) }),
+      outcome (record { accepted = true; number = 0; place = 0; octets = 13; count = 3; canonical = lent sheet (40 ∷ 50 ∷ 58 ∷ 104 ∷ 105 ∷ 91 ∷ 49 ∷ 58 ∷ 120 ∷ 93 ∷ 48 ∷ 58 ∷ 41 ∷ 0 ∷ []); table = lent table (2 ∷ 0 ∷ 13 ∷ 3 ∷ 0 ∷ 0 ∷ 1 ∷ 12 ∷ 0 ∷ 1 ∷ 5 ∷ 1 ∷ 0 ∷ 0 ∷ 3 ∷ 5 ∷ 1 ∷ 5 ∷ 12 ∷ 1 ∷ 8 ∷ 9 ∷ 12 ∷ 12 ∷ []) }),
     )
     -- a3:xyz
     ∷ (outcome (reading 3 (97 ∷ 51 ∷ 58 ∷ 120 ∷ 121 ∷ 122 ∷ []) sheet table), outcome (accepted 8 1 (54 ∷ 58 ∷ 97 ∷ 51 ∷ 58 ∷ 120 ∷ 121 ∷ 122 ∷ []) (0 ∷ 0 ∷ 8 ∷ 1 ∷ 0 ∷ 0 ∷ 2 ∷ 8 ∷ [])))

@@ -86,18 +86,24 @@ owns table count t = pick (both (eqb count (nodes t)) (equal (take (width * coun
 unfoldable pub ownTree : List ℕ → ℕ → List ℕ → ℕ → Option Tree
 ownTree canonical len table count = chain (sheetTree canonical len) (owns table count)
 
--- ---- reading, and replacing: whether it is accepted, 01's number, length and node count, and the lent sheet and table afterwards
+-- ---- reading, and replacing: whether it is accepted, 01's number, a place in the text, length and node count, and the lent sheet
+-- and table afterwards
 pub record Outcome : Type 0 where
   pub accepted : Bool
   pub number : ℕ
+  pub place : ℕ
   pub octets : ℕ
   pub count : ℕ
   pub canonical : List ℕ
   pub table : List ℕ
 
--- 01, "Counts are 0 in a refusal, and all lent space is unchanged"
+-- 01, "Counts are 0 in a refusal, and all lent space is unchanged"; a number and a place are told
+abbrev pub unchangedAt : ℕ → ℕ → List ℕ → List ℕ → Outcome
+unchangedAt n p canonical table = record { accepted = false; number = n; place = p; octets = 0; count = 0; canonical = canonical; table = table }
+
+-- with no place
 abbrev pub unchanged : ℕ → List ℕ → List ℕ → Outcome
-unchanged n canonical table = record { accepted = false; number = n; octets = 0; count = 0; canonical = canonical; table = table }
+unchanged n canonical table = unchangedAt n 0 canonical table
 
 -- the tree put where a sheet of oldOctets octets and oldCount nodes stood
 unfoldable pub filled : Tree → ℕ → ℕ → List ℕ → List ℕ → Outcome
@@ -105,6 +111,7 @@ filled t oldOctets oldCount canonical table =
     record {
       accepted = true;
       number = Accepted;
+      place = 0;
       octets = length (canon t);
       count = nodes t;
       canonical = settled canonical oldOctets (canon t);
@@ -141,16 +148,20 @@ replacing form text canonical table len count node =
     (filled (replaced form text canonical table len count node) len count canonical table)
     (λ n. unchanged n canonical table)
 
--- ---- writing: whether it is accepted, 01's number, the length, and the lent output afterwards
+-- ---- writing: whether it is accepted, 01's number, a place (0: writing tells none), the length, and the lent output afterwards
 pub record Output : Type 0 where
   pub accepted : Bool
   pub number : ℕ
+  pub place : ℕ
   pub octets : ℕ
   pub out : List ℕ
 
 -- 01, "Counts are 0 in a refusal, and all lent space is unchanged"
+abbrev pub unwrittenAt : ℕ → ℕ → List ℕ → Output
+unwrittenAt n p out = record { accepted = false; number = n; place = p; octets = 0; out = out }
+
 abbrev pub unwritten : ℕ → List ℕ → Output
-unwritten n out = record { accepted = false; number = n; octets = 0; out = out }
+unwritten n out = unwrittenAt n 0 out
 
 -- what goes out of the sheet
 unfoldable pub written : ℕ → List ℕ → ℕ → List ℕ
@@ -168,18 +179,22 @@ writingChecks form canonical len out =
 unfoldable pub writing : ℕ → List ℕ → ℕ → List ℕ → Output
 writing form canonical len out =
     judged (writingChecks form canonical len out)
-    (record { accepted = true; number = Accepted; octets = length (written form canonical len); out = settled out 0 (written form canonical len) })
+    (record { accepted = true; number = Accepted; place = 0; octets = length (written form canonical len); out = settled out 0 (written form canonical len) })
     (λ n. unwritten n out)
 
--- ---- comparing: whether it is accepted, 01's number, and yes or no
+-- ---- comparing: whether it is accepted, 01's number, a place (0: comparing tells none), and yes or no
 pub record Comparison : Type 0 where
   pub accepted : Bool
   pub number : ℕ
+  pub place : ℕ
   pub yes : Bool
 
 -- 01, "no in a refusal"
+abbrev pub uncomparedAt : ℕ → ℕ → Comparison
+uncomparedAt n p = record { accepted = false; number = n; place = p; yes = false }
+
 abbrev pub uncompared : ℕ → Comparison
-uncompared n = record { accepted = false; number = n; yes = false }
+uncompared n = uncomparedAt n 0
 
 -- 01, "comparing 7"
 unfoldable pub comparingChecks : List ℕ → ℕ → List ℕ → ℕ → List Check
@@ -189,7 +204,7 @@ comparingChecks a aLength b bLength = when NotOwn (either (isNone (sheetTree a a
 unfoldable pub comparing : List ℕ → ℕ → List ℕ → ℕ → List ℕ → Comparison
 comparing a aLength b bLength defaultHint =
     judged (comparingChecks a aLength b bLength)
-    (record { accepted = true; number = Accepted; yes = same (the (sheetTree a aLength)) (the (sheetTree b bLength)) defaultHint })
+    (record { accepted = true; number = Accepted; place = 0; yes = same (the (sheetTree a aLength)) (the (sheetTree b bLength)) defaultHint })
     (λ n. uncompared n)
 
 -- ---- showing: the part of the sheet that is shown, if one is

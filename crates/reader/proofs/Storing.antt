@@ -32,8 +32,8 @@ same-verdict : (o k : ℕ) {d d′ n n′ l l′ : ℕ} → d ≡ d′ → n ≡
 same-verdict o k p q r = λ i. roomVerdict (p i) (q i) (r i) o k
 
 same-outcome : {a a′ b b′ : ℕ} {c c′ d d′ : List ℕ} → a ≡ a′ → b ≡ b′ → c ≡ c′ → d ≡ d′
-    → _≡_ {A = Outcome} (record { accepted = true; number = Accepted; octets = a; count = b; canonical = c; table = d }) (record { accepted = true; number = Accepted; octets = a′; count = b′; canonical = c′; table = d′ })
-same-outcome p q r s = λ i. record { accepted = true; number = Accepted; octets = p i; count = q i; canonical = r i; table = s i }
+    → _≡_ {A = Outcome} (record { accepted = true; number = Accepted; place = 0; octets = a; count = b; canonical = c; table = d }) (record { accepted = true; number = Accepted; place = 0; octets = a′; count = b′; canonical = c′; table = d′ })
+same-outcome p q r s = λ i. record { accepted = true; number = Accepted; place = 0; octets = p i; count = q i; canonical = r i; table = s i }
 
 -- ---- all but the table
 

@@ -16,7 +16,7 @@ word = tyInt w64
 abbrev pub answerTy : Ty
 answerTy =
     tyEnum (97 ∷ 110 ∷ 115 ∷ 119 ∷ 101 ∷ 114 ∷ 115 ∷ 58 ∷ 58 ∷ 82 ∷ 101 ∷ 97 ∷ 100 ∷ 105 ∷ 110 ∷ 103 ∷ [])
-    (ttcons (tcons word (tcons word tnil)) (ttcons (tcons (tyStruct (97 ∷ 110 ∷ 115 ∷ 119 ∷ 101 ∷ 114 ∷ 115 ∷ 58 ∷ 58 ∷ 82 ∷ 101 ∷ 102 ∷ 117 ∷ 115 ∷ 97 ∷ 108 ∷ []) (tcons (tyInt w32) tnil)) tnil) ttnil))
+    (ttcons (tcons word (tcons word tnil)) (ttcons (tcons (tyStruct (97 ∷ 110 ∷ 115 ∷ 119 ∷ 101 ∷ 114 ∷ 115 ∷ 58 ∷ 58 ∷ 82 ∷ 101 ∷ 102 ∷ 117 ∷ 115 ∷ 97 ∷ 108 ∷ []) (tcons (tyInt w32) (tcons word tnil))) tnil) ttnil))
 
 -- `answers::Place`
 abbrev pub placeTy : Ty

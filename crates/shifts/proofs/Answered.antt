@@ -63,19 +63,19 @@ module _ {A : Type 0} (c : List ℕ) (len : ℕ) (table : List ℕ) (count node 
 
 -- ---- row 11 or 12, by what there is
 
-value-some : (o : Option Value) (x : Value) → o ≡ some x → judged (when NotTyped (isNone o) ∷ []) (record { accepted = true; number = Accepted; value = o }) (λ n. unvalued n) ≡ valued (valuings.Accepted x)
+value-some : (o : Option Value) (x : Value) → o ≡ some x → judged (when NotTyped (isNone o) ∷ []) (record { accepted = true; number = Accepted; place = 0; value = o }) (λ n. unvalued n) ≡ valued (valuings.Accepted x)
 unfolding judged verdict isNone valued
 value-some o x e = rw e
 
-value-none : (o : Option Value) → o ≡ none → judged (when NotTyped (isNone o) ∷ []) (record { accepted = true; number = Accepted; value = o }) (λ n. unvalued n) ≡ unvalued 11
+value-none : (o : Option Value) → o ≡ none → judged (when NotTyped (isNone o) ∷ []) (record { accepted = true; number = Accepted; place = 0; value = o }) (λ n. unvalued n) ≡ unvalued 11
 unfolding judged verdict isNone
 value-none o e = rw e
 
-line-some : (o : Option Line) (s : Option Total) (l : Line) (u : Total) → o ≡ some l → s ≡ some u → judged (when NotLine (isNone o) ∷ []) (record { accepted = true; number = Accepted; line = o; total = s }) (λ n. unlined n) ≡ lined (linings.Accepted l u)
+line-some : (o : Option Line) (s : Option Total) (l : Line) (u : Total) → o ≡ some l → s ≡ some u → judged (when NotLine (isNone o) ∷ []) (record { accepted = true; number = Accepted; place = 0; line = o; total = s }) (λ n. unlined n) ≡ lined (linings.Accepted l u)
 unfolding judged verdict isNone lined
 line-some o s l u e f = rw (e, f)
 
-line-none : (o : Option Line) (s : Option Total) → o ≡ none → judged (when NotLine (isNone o) ∷ []) (record { accepted = true; number = Accepted; line = o; total = s }) (λ n. unlined n) ≡ unlined 12
+line-none : (o : Option Line) (s : Option Total) → o ≡ none → judged (when NotLine (isNone o) ∷ []) (record { accepted = true; number = Accepted; place = 0; line = o; total = s }) (λ n. unlined n) ≡ unlined 12
 unfolding judged verdict isNone
 line-none o s e = rw e
 

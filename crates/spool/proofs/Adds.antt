@@ -1,7 +1,7 @@
 -- A whole addition, by its start.
 use Prim.Native.Nat.{ℕ, zero, suc, _+_, _-_, _≤_, _<_}
 use native.Mathlib.Omega.{arith}
-use mathlib.Core.Path.{_≡_, refl, sym, ap, _∙_}
+use mathlib.Core.Path.{_≡_, refl, sym, ap, ap₂, _∙_}
 use mathlib.Core.Bool.{true, false}
 use mathlib.Core.List.{List, _++_}
 use lib.ListN.{length, length-append, take}
@@ -11,7 +11,7 @@ use Rattle.spools.specs.Adding.{Start, fresh, started, starting, stored, stores
 use Rattle.spools.specs.Groups.{groups}
 use Rattle.spools.specs.Rules.{Addable}
 use Rattle.spools.specs.Spool.{entry}
-use Rattle.spools.proofs.Judged.{sheet-of-lent, sheet-of-small, accepted-0, start-of, adding-of, adding-refused}
+use Rattle.spools.proofs.Judged.{sheet-of-lent, sheet-of-small, accepted-0, start-of, start-refused, adding-of, adding-refused}
 use Rattle.spools.proofs.Opened.{spool-sound}
 use Rattle.spool.specs.Cases.{stateOf, startOf, addedOf}
 use Rattle.spool.specs.Whole.{Room}
@@ -52,18 +52,21 @@ module _ (area sheet : List ℕ) (len : ℕ) (r : Starting) (w : startOf r ≡ s
     pub add-whole : (after : List ℕ) → after ≡ stored area (stores (length area) (s .at) (entry (take len sheet))) → addedOf added.Accepted after ≡ adding area sheet len
     unfolding addedOf
     add-whole after h =
-        ap (λ (z : List ℕ). record { accepted = true; number = 0; area = z }) (h ∙ ap (λ (n : ℕ). stored area (stores (length area) n (entry (take len sheet)))) at-is)
+        ap (λ (z : List ℕ). record { accepted = true; number = 0; place = 0; area = z }) (h ∙ ap (λ (n : ℕ). stored area (stores (length area) n (entry (take len sheet)))) at-is)
         ∙ sym (adding-of area sheet len addable)
 
   pub add-refused : (f : Refusal) (s : Adding) → r ≡ starting.Refused f s → addedOf (added.Refused f) area ≡ adding area sheet len
   unfolding startOf addedOf
   add-refused f s e = of (f .number) refl
     where
-      v : starting area sheet len ≡ record { accepted = false; number = f .number; state = stateOf s }
+      v : starting area sheet len ≡ record { accepted = false; number = f .number; place = f .place; state = stateOf s }
       v = sym w ∙ ap startOf e
 
-      of : (n : ℕ) → f .number ≡ n → record { accepted = false; number = f .number; area = area } ≡ adding area sheet len
+      of : (n : ℕ) → f .number ≡ n → record { accepted = false; number = f .number; place = f .place; area = area } ≡ adding area sheet len
       of zero h =
           let a : Addable area sheet len = accepted-0 area sheet len .0 (ap (λ (x : Start). x .number) v ∙ h) in
           differ (ap (λ (x : Start). x .accepted) (start-of area sheet len a)) (ap (λ (x : Start). x .accepted) v)
-      of (suc n) h = ap (λ (m : ℕ). record { accepted = false; number = m; area = area }) h ∙ sym (adding-refused area sheet len (suc n) (ap (λ (x : Start). x .number) v ∙ h) (omega arith))
+      of (suc n) h =
+          let g : starting area sheet len .number ≡ suc n = ap (λ (x : Start). x .number) v ∙ h in
+          let p : f .place ≡ 0 = ap (λ (x : Start). x .place) (sym v ∙ start-refused area sheet len (suc n) g (omega arith)) in
+          ap₂ (λ (m k : ℕ). record { accepted = false; number = m; place = k; area = area }) h p ∙ sym (adding-refused area sheet len (suc n) g (omega arith))

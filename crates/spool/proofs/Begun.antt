@@ -73,7 +73,7 @@ module _ (area : List ℕ) (k : ℕ) (r : Survey) (w : Surveys area k r) where
     unfolding opened
     open-whole =
         rw (found .counted)
-        (ap₂ (λ (p : Part) (x : List ℕ). record { accepted = true; number = 0; count = length (found .old .sheets); place = p; shown = x })
+        (ap₂ (λ (p : Part) (x : List ℕ). record { accepted = true; number = 0; place = 0; count = length (found .old .sheets); stands = p; shown = x })
         (sym (found .placed)) (octets-are ∙ ap (λ (x : Shown). x .shown) opening-is)
         ∙ sym opening-is)
 
@@ -81,9 +81,9 @@ module _ (area : List ℕ) (k : ℕ) (r : Survey) (w : Surveys area k r) where
     unfolding octetsAt
     shown-part = octets-are
 
-    pub shown-at : (x y : ℕ × ℕ) → (x .0, start + x .1) ≡ shownAt (some (opening area k .place)) x y
+    pub shown-at : (x y : ℕ × ℕ) → (x .0, start + x .1) ≡ shownAt (some (opening area k .stands)) x y
     unfolding shownAt
-    shown-at x y = ap (λ (p : Part). (x .0, p .start + x .1)) (sym (found .placed) ∙ sym (ap (λ (z : Shown). z .place) opening-is))
+    shown-at x y = ap (λ (p : Part). (x .0, p .start + x .1)) (sym (found .placed) ∙ sym (ap (λ (z : Shown). z .stands) opening-is))
 
     -- ---- a start
     module _ (sheet : List ℕ) (len : ℕ) (b : Bool) (t : b ≡ not (isNone (sheetTree sheet len))) where
@@ -112,13 +112,13 @@ module _ (area : List ℕ) (k : ℕ) (r : Survey) (w : Surveys area k r) where
   pub start-damaged : (sheet : List ℕ) (len : ℕ) (x : Starting) → r ≡ Damaged → RefusesStart 10 x → startOf x ≡ starting area sheet len
   start-damaged sheet len x e y = y .is ∙ sym (start-refused area sheet len 10 (damaged-10 area sheet len .1 (spool-damage area (damaged e))) (omega arith))
 
-  pub open-damaged : r ≡ Damaged → opened (opening.Refused (record { number = 10 })) area ≡ opening area k
+  pub open-damaged : r ≡ Damaged → opened (opening.Refused (record { number = 10; place = 0 })) area ≡ opening area k
   unfolding opened
   open-damaged e = sym (opening-none area k (damaged e))
 
   pub shown-none : r ≡ Damaged → [] ≡ opening area k .shown
   shown-none e = sym (ap (λ (x : Shown). x .shown) (opening-none area k (damaged e)))
 
-  pub shown-none-at : (x y : ℕ × ℕ) → r ≡ Damaged → (x .0, 0 + x .1) ≡ shownAt (some (opening area k .place)) x y
+  pub shown-none-at : (x y : ℕ × ℕ) → r ≡ Damaged → (x .0, 0 + x .1) ≡ shownAt (some (opening area k .stands)) x y
   unfolding shownAt
-  shown-none-at x y e = ap (λ (p : Part). (x .0, p .start + x .1)) (sym (ap (λ (z : Shown). z .place) (opening-none area k (damaged e))))
+  shown-none-at x y e = ap (λ (p : Part). (x .0, p .start + x .1)) (sym (ap (λ (z : Shown). z .stands) (opening-none area k (damaged e))))

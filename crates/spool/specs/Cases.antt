@@ -6,7 +6,7 @@ use mathlib.Core.List.{List}
 use Rattle.model.specs.Limits.{Accepted}
 use Rattle.model.specs.Answers.{part, octetsAt}
 use Rattle.spools.specs.Adding as spools
-use Rattle.spools.specs.Spool.{unopened}
+use Rattle.spools.specs.Spool.{unopenedAt}
 use Rattle.spool.specs.declared.Opening.{Opening}
 use Rattle.spool.specs.declared.Opening.the-variants as opening
 use Rattle.spool.specs.declared.Adding.{Adding}
@@ -17,8 +17,8 @@ use Rattle.spool.specs.declared.Added.the-variants as added
 
 -- the answer of opening, with the octets that stand in the area at the place told
 unfoldable pub opened : Opening → List ℕ → Rattle.spools.specs.Spool.Opening
-opened (opening.Accepted n s e) area = record { accepted = true; number = Accepted; count = n; place = part s e; shown = octetsAt area (part s e) }
-opened (opening.Refused f) area = unopened (f .number)
+opened (opening.Accepted n s e) area = record { accepted = true; number = Accepted; place = 0; count = n; stands = part s e; shown = octetsAt area (part s e) }
+opened (opening.Refused f) area = unopenedAt (f .number) (f .place)
 
 -- the state of an addition
 abbrev pub stateOf : Adding → spools.Adding
@@ -27,7 +27,7 @@ stateOf a = record { at = a .at; octets = a .octets; made = a .made; done = a .d
 -- the answer of a start
 unfoldable pub startOf : Starting → spools.Start
 startOf (starting.Accepted s) = spools.started (stateOf s)
-startOf (starting.Refused f s) = record { accepted = false; number = f .number; state = stateOf s }
+startOf (starting.Refused f s) = record { accepted = false; number = f .number; place = f .place; state = stateOf s }
 
 -- the state that a step hands back, and the area
 abbrev pub stepOf : Adding → List ℕ → spools.Step
@@ -35,8 +35,8 @@ stepOf a area = record { state = stateOf a; area = area }
 
 -- the answer of a whole addition, with the area
 unfoldable pub addedOf : Added → List ℕ → spools.Added
-addedOf added.Accepted area = record { accepted = true; number = Accepted; area = area }
-addedOf (added.Refused f) area = spools.unadded (f .number) area
+addedOf added.Accepted area = record { accepted = true; number = Accepted; place = 0; area = area }
+addedOf (added.Refused f) area = spools.unaddedAt (f .number) (f .place) area
 
 -- a start refused with a number
 pub record RefusesStart (n : ℕ) (r : Starting) : Type 0 where

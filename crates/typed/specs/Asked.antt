@@ -43,7 +43,7 @@ nodeValue canonical len table count node = valueIn (typedRow canonical (rowOf (t
 unfoldable pub valuing : List ℕ → ℕ → List ℕ → ℕ → ℕ → Valued
 valuing canonical len table count node =
     judged (nodeChecks canonical len table count node (when NotTyped (isNone (nodeValue canonical len table count node)) ∷ []))
-    (record { accepted = true; number = Accepted; value = nodeValue canonical len table count node })
+    (record { accepted = true; number = Accepted; place = 0; value = nodeValue canonical len table count node })
     (λ n. unvalued n)
 
 -- ---- a line's total, and a node's line; 02, "Whatever is wrong with a line gives 12, after 7 and 8"
@@ -51,7 +51,7 @@ valuing canonical len table count node =
 unfoldable pub totalling : Line → Totalled
 totalling h =
     judged (when NotLine (isNone (totalOf h)) ∷ [])
-    (record { accepted = true; number = Accepted; total = totalOf h })
+    (record { accepted = true; number = Accepted; place = 0; total = totalOf h })
     (λ n. untotalled n)
 
 unfoldable pub nodeLine : List ℕ → ℕ → List ℕ → ℕ → ℕ → Option Line
@@ -63,6 +63,7 @@ lining canonical len table count node =
     (record {
       accepted = true;
       number = Accepted;
+      place = 0;
       line = nodeLine canonical len table count node;
       total = totalFor (lineCount canonical (treeOf canonical len table count) node);
     })
@@ -74,7 +75,7 @@ unfoldable pub nodeSum : List ℕ → ℕ → List ℕ → ℕ → ℕ → Sum
 nodeSum canonical len table count node = sumAt canonical (treeOf canonical len table count) node
 
 unfoldable pub summedBy : Sum → Summed
-summedBy (lines n q) = record { accepted = true; number = Accepted; lines = n; total = some (totalBy q); bad = 0 }
+summedBy (lines n q) = record { accepted = true; number = Accepted; place = 0; lines = n; total = some (totalBy q); bad = 0 }
 summedBy (bad k) = unsummed NotLine k
 
 unfoldable pub summing : List ℕ → ℕ → List ℕ → ℕ → ℕ → Summed

@@ -75,5 +75,5 @@ puttingChecks v src out =
 unfoldable pub putting : Value → List ℕ → List ℕ → Output
 putting v src out =
     judged (puttingChecks v src out)
-    (record { accepted = true; number = Accepted; octets = length (theOctets (coding src v)); out = settled out 0 (theOctets (coding src v)) })
+    (record { accepted = true; number = Accepted; place = 0; octets = length (theOctets (coding src v)); out = settled out 0 (theOctets (coding src v)) })
     (λ n. unwritten n out)

@@ -65,7 +65,7 @@ pub fn refused_valuing(number: u32) -> Valuing
     ensures { λ r. ⌜ valued r ≡ unvalued number ⌝ }
 {
     Valuing::Refused {
-        refusal: Refusal { number },
+        refusal: Refusal { number, place: 0 },
     }
 }
 
@@ -74,7 +74,7 @@ pub fn refused_totalling(number: u32) -> Totalling
     ensures { λ r. ⌜ totalled r ≡ untotalled number ⌝ }
 {
     Totalling::Refused {
-        refusal: Refusal { number },
+        refusal: Refusal { number, place: 0 },
     }
 }
 
@@ -83,7 +83,7 @@ pub fn refused_lining(number: u32) -> Lining
     ensures { λ r. ⌜ lined r ≡ unlined number ⌝ }
 {
     Lining::Refused {
-        refusal: Refusal { number },
+        refusal: Refusal { number, place: 0 },
     }
 }
 
@@ -92,7 +92,7 @@ pub fn refused_summing(number: u32, node: usize) -> Summing
     ensures { λ r. ⌜ summed r ≡ unsummed number node ⌝ }
 {
     Summing::Refused {
-        refusal: Refusal { number },
+        refusal: Refusal { number, place: 0 },
         node,
     }
 }

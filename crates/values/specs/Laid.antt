@@ -14,7 +14,7 @@ use Rattle.model.specs.Answers.{Output, unwritten, settled}
 -- octets at the front of out, or refused with n where there are none
 unfoldable pub laid : ℕ → Option (List ℕ) → List ℕ → Output
 laid n none out = unwritten n out
-laid n (some o) out = pick (ltb (length out) (length o)) (unwritten Size out) (record { accepted = true; number = Accepted; octets = length o; out = settled out 0 o })
+laid n (some o) out = pick (ltb (length out) (length o)) (unwritten Size out) (record { accepted = true; number = Accepted; place = 0; octets = length o; out = settled out 0 o })
 
 -- whether three octets from a place on are these
 abbrev pub Spells : List ℕ → ℕ → ℕ → ℕ → ℕ → Bool → Type 0

@@ -79,7 +79,7 @@ use Rattle.rosters.proofs.line.Code.Mir as mir
 
 -- `typed::Lining`, spelled out
 abbrev answerTy : Ty
-answerTy = tyEnum (116 ∷ 121 ∷ 112 ∷ 101 ∷ 100 ∷ 58 ∷ 58 ∷ 76 ∷ 105 ∷ 110 ∷ 105 ∷ 110 ∷ 103 ∷ []) (ttcons (tcons (tyStruct (116 ∷ 121 ∷ 112 ∷ 101 ∷ 100 ∷ 58 ∷ 58 ∷ 76 ∷ 105 ∷ 110 ∷ 101 ∷ []) (tcons (tyFloat binary64) (tcons (tyFloat binary64) (tcons (tyFloat binary64) tnil)))) (tcons (tyStruct (116 ∷ 121 ∷ 112 ∷ 101 ∷ 100 ∷ 58 ∷ 58 ∷ 84 ∷ 111 ∷ 116 ∷ 97 ∷ 108 ∷ []) (tcons (tyInt w32) (tcons (tyFloat binary64) tnil))) tnil)) (ttcons (tcons (tyStruct (97 ∷ 110 ∷ 115 ∷ 119 ∷ 101 ∷ 114 ∷ 115 ∷ 58 ∷ 58 ∷ 82 ∷ 101 ∷ 102 ∷ 117 ∷ 115 ∷ 97 ∷ 108 ∷ []) (tcons (tyInt w32) tnil)) tnil) ttnil))
+answerTy = tyEnum (116 ∷ 121 ∷ 112 ∷ 101 ∷ 100 ∷ 58 ∷ 58 ∷ 76 ∷ 105 ∷ 110 ∷ 105 ∷ 110 ∷ 103 ∷ []) (ttcons (tcons (tyStruct (116 ∷ 121 ∷ 112 ∷ 101 ∷ 100 ∷ 58 ∷ 58 ∷ 76 ∷ 105 ∷ 110 ∷ 101 ∷ []) (tcons (tyFloat binary64) (tcons (tyFloat binary64) (tcons (tyFloat binary64) tnil)))) (tcons (tyStruct (116 ∷ 121 ∷ 112 ∷ 101 ∷ 100 ∷ 58 ∷ 58 ∷ 84 ∷ 111 ∷ 116 ∷ 97 ∷ 108 ∷ []) (tcons (tyInt w32) (tcons (tyFloat binary64) tnil))) tnil)) (ttcons (tcons (tyStruct (97 ∷ 110 ∷ 115 ∷ 119 ∷ 101 ∷ 114 ∷ 115 ∷ 58 ∷ 58 ∷ 82 ∷ 101 ∷ 102 ∷ 117 ∷ 115 ∷ 97 ∷ 108 ∷ []) (tcons (tyInt w32) (tcons word tnil))) tnil) ttnil))
 
 abbrev stayed : Stays (entry.ended .signature .params) (entry.ended .kept)
 stayed = (stay-dropped (shrSliceOf (0 ∷ []) tt (plain (λ _. u8))) yes, (stay-dropped (plain (λ _. usize)) yes, (stay-dropped (shrSliceOf (1 ∷ []) tt (plain (λ _. T.the-row))) yes, (stay-dropped (plain (λ _. usize)) yes, (stay-dropped (plain (λ _. usize)) yes, tt)))))

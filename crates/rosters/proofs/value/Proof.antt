@@ -79,7 +79,7 @@ use Rattle.rosters.proofs.value.Code.Mir as mir
 
 -- `typed::Valuing`, spelled out
 abbrev answerTy : Ty
-answerTy = tyEnum (116 ∷ 121 ∷ 112 ∷ 101 ∷ 100 ∷ 58 ∷ 58 ∷ 86 ∷ 97 ∷ 108 ∷ 117 ∷ 105 ∷ 110 ∷ 103 ∷ []) (ttcons (tcons (tyEnum (116 ∷ 121 ∷ 112 ∷ 101 ∷ 100 ∷ 58 ∷ 58 ∷ 86 ∷ 97 ∷ 108 ∷ 117 ∷ 101 ∷ []) (ttcons (tcons (tyFloat binary32) tnil) (ttcons (tcons (tyFloat binary64) tnil) (ttcons (tcons (tyInt w64) tnil) (ttcons (tcons word (tcons word tnil)) ttnil))))) tnil) (ttcons (tcons (tyStruct (97 ∷ 110 ∷ 115 ∷ 119 ∷ 101 ∷ 114 ∷ 115 ∷ 58 ∷ 58 ∷ 82 ∷ 101 ∷ 102 ∷ 117 ∷ 115 ∷ 97 ∷ 108 ∷ []) (tcons (tyInt w32) tnil)) tnil) ttnil))
+answerTy = tyEnum (116 ∷ 121 ∷ 112 ∷ 101 ∷ 100 ∷ 58 ∷ 58 ∷ 86 ∷ 97 ∷ 108 ∷ 117 ∷ 105 ∷ 110 ∷ 103 ∷ []) (ttcons (tcons (tyEnum (116 ∷ 121 ∷ 112 ∷ 101 ∷ 100 ∷ 58 ∷ 58 ∷ 86 ∷ 97 ∷ 108 ∷ 117 ∷ 101 ∷ []) (ttcons (tcons (tyFloat binary32) tnil) (ttcons (tcons (tyFloat binary64) tnil) (ttcons (tcons (tyInt w64) tnil) (ttcons (tcons word (tcons word tnil)) ttnil))))) tnil) (ttcons (tcons (tyStruct (97 ∷ 110 ∷ 115 ∷ 119 ∷ 101 ∷ 114 ∷ 115 ∷ 58 ∷ 58 ∷ 82 ∷ 101 ∷ 102 ∷ 117 ∷ 115 ∷ 97 ∷ 108 ∷ []) (tcons (tyInt w32) (tcons word tnil))) tnil) ttnil))
 
 abbrev stayed : Stays (entry.ended .signature .params) (entry.ended .kept)
 stayed = (stay-dropped (shrSliceOf (0 ∷ []) tt (plain (λ _. u8))) yes, (stay-dropped (plain (λ _. usize)) yes, (stay-dropped (shrSliceOf (1 ∷ []) tt (plain (λ _. T.the-row))) yes, (stay-dropped (plain (λ _. usize)) yes, (stay-dropped (plain (λ _. usize)) yes, tt)))))

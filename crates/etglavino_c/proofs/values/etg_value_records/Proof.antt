@@ -65,7 +65,7 @@ use Rattle.etglavino_c.proofs.values.etg_value_records.Code.Mir as mir
 
 -- `typed::Valuing`, spelled out
 abbrev answerTy : Ty
-answerTy = tyEnum (116 ∷ 121 ∷ 112 ∷ 101 ∷ 100 ∷ 58 ∷ 58 ∷ 86 ∷ 97 ∷ 108 ∷ 117 ∷ 105 ∷ 110 ∷ 103 ∷ []) (ttcons (tcons (tyEnum (116 ∷ 121 ∷ 112 ∷ 101 ∷ 100 ∷ 58 ∷ 58 ∷ 86 ∷ 97 ∷ 108 ∷ 117 ∷ 101 ∷ []) (ttcons (tcons (tyFloat binary32) tnil) (ttcons (tcons (tyFloat binary64) tnil) (ttcons (tcons (tyInt w64) tnil) (ttcons (tcons word (tcons word tnil)) ttnil))))) tnil) (ttcons (tcons (tyStruct (97 ∷ 110 ∷ 115 ∷ 119 ∷ 101 ∷ 114 ∷ 115 ∷ 58 ∷ 58 ∷ 82 ∷ 101 ∷ 102 ∷ 117 ∷ 115 ∷ 97 ∷ 108 ∷ []) (tcons (tyInt w32) tnil)) tnil) ttnil))
+answerTy = tyEnum (116 ∷ 121 ∷ 112 ∷ 101 ∷ 100 ∷ 58 ∷ 58 ∷ 86 ∷ 97 ∷ 108 ∷ 117 ∷ 105 ∷ 110 ∷ 103 ∷ []) (ttcons (tcons (tyEnum (116 ∷ 121 ∷ 112 ∷ 101 ∷ 100 ∷ 58 ∷ 58 ∷ 86 ∷ 97 ∷ 108 ∷ 117 ∷ 101 ∷ []) (ttcons (tcons (tyFloat binary32) tnil) (ttcons (tcons (tyFloat binary64) tnil) (ttcons (tcons (tyInt w64) tnil) (ttcons (tcons word (tcons word tnil)) ttnil))))) tnil) (ttcons (tcons (tyStruct (97 ∷ 110 ∷ 115 ∷ 119 ∷ 101 ∷ 114 ∷ 115 ∷ 58 ∷ 58 ∷ 82 ∷ 101 ∷ 102 ∷ 117 ∷ 115 ∷ 97 ∷ 108 ∷ []) (tcons (tyInt w32) (tcons word tnil))) tnil) ttnil))
 
 -- a pointer's machine value
 abbrev at : {A : Type 0} → RefT A → Val
