@@ -23,7 +23,7 @@ use Rattle.pieces.specs.declared.state.State.{State}
 
 -- 02, "A refused end restores nothing": an answer, with the sheet as the pieces left it
 abbrev pub inSheet : List ℕ → Outcome → Outcome
-inSheet sheet o = record { accepted = o .accepted; number = o .number; octets = o .octets; count = o .count; canonical = sheet; table = o .table }
+inSheet sheet o = record { accepted = o .accepted; number = o .number; place = o .place; octets = o .octets; count = o .count; canonical = sheet; table = o .table }
 
 -- the end, in a state, with a sheet and a table; with the table afterwards, and the answer
 pub record End (x : State) (sheet : List ℕ) (lent : ℕ) (table table′ : List ℕ) (r : Reading) : Type 0 where
