@@ -37,6 +37,9 @@ class Form(IntEnum):
     """Canonical, or base-64 of it in braces."""
     ADVANCED = 3
     """What people write."""
+    TERMINAL_1997 = 4
+    """What the terminals of 1997 send: advanced, with base-64 in braces
+    wherever a value may stand. It is read and never written."""
 
 
 class Refusal(Exception):
@@ -44,7 +47,7 @@ class Refusal(Exception):
     library gives it; `sentence` says what is wrong."""
 
     SENTENCES: ClassVar[dict[int, str]] = {
-        1: "the form is not 1, 2 or 3",
+        1: "the form is not 1 to 4, or in writing not 1 to 3",
         2: "the source has over 32,768 octets",
         3: "the source is not in the form's language",
         4: "lists nest over 32 deep",

@@ -93,7 +93,7 @@ fn the_lists_around_a_node_grow_with_it() {
 #[test]
 fn each_refusal() {
     let replaced = |form, text: &[u8], node| Sheet::list().replace(form, text, node);
-    for form in [0, 4, u32::MAX] {
+    for form in [0, 5, u32::MAX] {
         assert_eq!(replaced(form, b"hi", 1), Err(Refusal::Form));
     }
     let long = padded(b"hi", MAX_SOURCE + 1);

@@ -7,6 +7,7 @@ use mathlib.Core.List.{List, [], _∷_, _++_, append-assoc}
 use lib.ListN.{length, drop, getD, length-append, length-drop, set, length-set, drop-of-length-le}
 use borrow.Author.Tests.{ne-eqb, eq-eqb}
 use Rattle.base.proofs.Cases.{unpicked, picked}
+use Rattle.model.specs.Grammar.{rules}
 use Rattle.model.specs.Lexemes.{atom, hinting, closeHint, lexeme}
 use Rattle.model.specs.Strings.{got, bind, skip, simple}
 use Rattle.model.specs.Tree.{digits, verbatim}
@@ -26,22 +27,22 @@ use Rattle.advanced.specs.Spelled.{Room, Spelled, Spells}
 use Rattle.advanced.specs.Nodes.{Spare, hintOf, HintClosed, HintCloses, HintSpelled, HintSpells, Nodes}
 
 -- a string has no more octets than it takes up
-simple-fits : {s d k : List ℕ} → Stripped.Simple s d k → length d + length k ≤ length s
+simple-fits : {s d k : List ℕ} → Stripped.Simple rules s d k → length d + length k ≤ length s
 simple-fits (simple-verbatim d k) = omega (arith, length-append (verbatim d) k, verbatim-length d)
 simple-fits (simple-token t r) = omega (arith, run-size r)
 simple-fits (unmeasured m) = omega (arith, marked-size m)
 simple-fits (measured {s = s} {d = d} m) = omega (arith, marked-size m, length-append (digits (length d)) s)
 
-spelled-few : (src : List ℕ) (at pos : ℕ) (a b : List ℕ) (e next : ℕ) → length src ≤ maxSource → Spelled src (simple (drop at src)) at pos a b e next → e + at ≤ pos + next + 6
+spelled-few : (src : List ℕ) (at pos : ℕ) (a b : List ℕ) (e next : ℕ) → length src ≤ maxSource → Spelled src (simple rules (drop at src)) at pos a b e next → e + at ≤ pos + next + 6
 spelled-few src at pos a b e next h s =
     let f : length (s .octets) + length (drop next src) ≤ length (drop at src) = simple-fits (simple-sound (drop at src) (s .reads)) in
     omega (arith, few-digits (length (s .octets)) (omega (arith, length-drop at src)), verbatim-length (s .octets), length-drop at src, length-drop next src, s .front .place, s .on, s .within)
 
 -- the law of three for each octet, at one string
-spelled-low : (src : List ℕ) (at pos : ℕ) (a b : List ℕ) (e next : ℕ) → Spelled src (simple (drop at src)) at pos a b e next → e + 3 * at ≤ pos + 3 * next
+spelled-low : (src : List ℕ) (at pos : ℕ) (a b : List ℕ) (e next : ℕ) → Spelled src (simple rules (drop at src)) at pos a b e next → e + 3 * at ≤ pos + 3 * next
 spelled-low src at pos a b e next s = omega (arith, simple-size (simple-sound (drop at src) (s .reads)), length-drop at src, length-drop next src, s .front .place, s .on, s .within)
 
-spelled-small : (src : List ℕ) (at pos : ℕ) (a b : List ℕ) (e next : ℕ) → length src ≤ maxSource → (s : Spelled src (simple (drop at src)) at pos a b e next) → length (s .octets) ≤ maxSource
+spelled-small : (src : List ℕ) (at pos : ℕ) (a b : List ℕ) (e next : ℕ) → length src ≤ maxSource → (s : Spelled src (simple rules (drop at src)) at pos a b e next) → length (s .octets) ≤ maxSource
 spelled-small src at pos a b e next h s = omega (arith, simple-fits (simple-sound (drop at src) (s .reads)), length-drop at src)
 
 pub kept-length : (a b : List ℕ) (i v : ℕ) → length b ≡ length (set a i v) → length b ≡ length a
@@ -62,8 +63,8 @@ module _ (src : List ℕ) (at pos : ℕ) (out : List ℕ) (h : at < length src) 
     pub hint-room : Room src i (pos + 1) (length (set out pos 91))
     hint-room = record { inside = p .within; short = t .short; space = omega (arith, p .from, p .within, t .space, length-set out pos 91) }
 
-    module _ (out₁ : List ℕ) (e next : ℕ) (s : Spells src (simple (drop i src)) i (pos + 1) (set out pos 91) out₁ e next) where
-      hinted : hintOf (drop (at + 1) src) ≡ bind (simple (drop i src)) (λ x k. closeHint x (skip k))
+    module _ (out₁ : List ℕ) (e next : ℕ) (s : Spells src (simple rules (drop i src)) i (pos + 1) (set out pos 91) out₁ e next) where
+      hinted : hintOf (drop (at + 1) src) ≡ bind (simple rules (drop i src)) (λ x k. closeHint rules x (skip k))
       hinted = rw (p .reads)
 
       pub hint-none : next ≡ 0 → (b : List ℕ) (q : ℕ) → HintSpells src at pos out b q 0
@@ -71,13 +72,13 @@ module _ (src : List ℕ) (at pos : ℕ) (out : List ℕ) (h : at < length src) 
       hint-none z b q = record { none = λ _. hinted ∙ rw (s .none z); some = λ y. absurd (y refl) }
 
       module _ (z : next ≡ 0 → ⊥) where
-        got-it : Spelled src (simple (drop i src)) i (pos + 1) (set out pos 91) out₁ e next
+        got-it : Spelled src (simple rules (drop i src)) i (pos + 1) (set out pos 91) out₁ e next
         got-it = s .some z
 
         pub hint-inside : next ≤ length src
         hint-inside = got-it .within
 
-        followed : hintOf (drop (at + 1) src) ≡ closeHint (got-it .octets) (skip (drop next src))
+        followed : hintOf (drop (at + 1) src) ≡ closeHint rules (got-it .octets) (skip (drop next src))
         unfolding bind
         followed = hinted ∙ rw (got-it .reads)
 
@@ -106,17 +107,17 @@ module _ (src : List ℕ) (at pos : ℕ) (out : List ℕ) (h : at < length src) 
 
 -- ---- its closing bracket
 module _ (src : List ℕ) (at pos : ℕ) (out : List ℕ) (j : ℕ) (u : Skipped src at j) where
-  closing-at : (h : List ℕ) → closeHint h (skip (drop at src)) ≡ closeHint h (drop j src)
-  closing-at h = ap (closeHint h) (u .reads)
+  closing-at : (h : List ℕ) → closeHint rules h (skip (drop at src)) ≡ closeHint rules h (drop j src)
+  closing-at h = ap (closeHint rules h) (u .reads)
 
   pub close-cut : length src ≤ j → (b : List ℕ) (q : ℕ) → HintCloses src at pos out b q 0
   unfolding closeHint
-  close-cut n b q = record { none = λ _ h. closing-at h ∙ ap (closeHint h) (drop-of-length-le src n); some = λ y. absurd (y refl) }
+  close-cut n b q = record { none = λ _ h. closing-at h ∙ ap (closeHint rules h) (drop-of-length-le src n); some = λ y. absurd (y refl) }
 
   module _ (n : j < length src) where
     pub close-open : (getD src j 0 ≡ 93 → ⊥) → (b : List ℕ) (q : ℕ) → HintCloses src at pos out b q 0
     unfolding closeHint
-    close-open y b q = record { none = λ _ h. closing-at h ∙ ap (closeHint h) (one-here src j n) ∙ unpicked _ _ (ne-eqb _ _ y); some = λ y. absurd (y refl) }
+    close-open y b q = record { none = λ _ h. closing-at h ∙ ap (closeHint rules h) (one-here src j n) ∙ unpicked _ _ (ne-eqb _ _ y); some = λ y. absurd (y refl) }
 
     pub close-some : getD src j 0 ≡ 93 → pos < length out → (k : ℕ) → Skipped src (j + 1) k → HintCloses src at pos out (set out pos 93) (pos + 1) k
     unfolding closeHint
@@ -125,7 +126,7 @@ module _ (src : List ℕ) (at pos : ℕ) (out : List ℕ) (j : ℕ) (u : Skipped
           none = λ w. absurd (omega (arith, v .from));
           some = λ _.
               record {
-                reads = λ h. closing-at h ∙ ap (closeHint h) (one-here src j n) ∙ picked _ _ (eq-eqb _ _ y) ∙ rw (v .reads);
+                reads = λ h. closing-at h ∙ ap (closeHint rules h) (one-here src j n) ∙ picked _ _ (eq-eqb _ _ y) ∙ rw (v .reads);
                 on = omega (arith, u .from, v .from);
                 within = v .within;
                 front = front-one out pos 93 m;
@@ -135,9 +136,9 @@ module _ (src : List ℕ) (at pos : ℕ) (out : List ℕ) (j : ℕ) (u : Skipped
 -- ---- a string
 module _ (src : List ℕ) (at pos : ℕ) (out : List ℕ) (h : at < length src) (t : Spare src at pos (length out)) (a : getD src at 0 ≡ 40 → ⊥) (b : getD src at 0 ≡ 41 → ⊥) where
   module _ (c : getD src at 0 ≡ 91) (out₁ : List ℕ) (e from : ℕ) (s : HintSpells src at pos out out₁ e from) where
-    bracketed : lexeme (drop at src) ≡ hintOf (drop (at + 1) src)
+    bracketed : lexeme rules (drop at src) ≡ hintOf (drop (at + 1) src)
     unfolding lexeme
-    bracketed = ap lexeme (one-here src at h) ∙ unpicked _ _ (ne-eqb _ _ a) ∙ unpicked _ _ (ne-eqb _ _ b) ∙ picked _ _ (eq-eqb _ _ c)
+    bracketed = ap (lexeme rules) (one-here src at h) ∙ unpicked _ _ (ne-eqb _ _ a) ∙ unpicked _ _ (ne-eqb _ _ b) ∙ picked _ _ (eq-eqb _ _ c)
 
     pub node-unhinted : from ≡ 0 → (d : List ℕ) (m q : ℕ) → Nodes src at pos out d m q 0
     node-unhinted z d m q = record { none = λ _. bracketed ∙ s .none z; some = λ y. absurd (y refl) }
@@ -149,13 +150,13 @@ module _ (src : List ℕ) (at pos : ℕ) (out : List ℕ) (h : at < length src) 
       pub node-room : length out₁ ≡ length out → Room src from e (length out₁)
       node-room l = record { inside = hint-got .within; short = t .short; space = omega (arith, t .space, hint-got .few, hint-got .on, hint-got .within) }
 
-      pub node-hinted : (out₂ : List ℕ) (q next : ℕ) → Spells src (simple (drop from src)) from e out₁ out₂ q next → Nodes src at pos out out₂ e q next
+      pub node-hinted : (out₂ : List ℕ) (q next : ℕ) → Spells src (simple rules (drop from src)) from e out₁ out₂ q next → Nodes src at pos out out₂ e q next
       unfolding bind step octetsOfLexeme
       node-hinted out₂ q next w =
           record {
             none = λ y. bracketed ∙ hint-got .reads ∙ rw (w .none y);
             some = λ y.
-                let v : Spelled src (simple (drop from src)) from e out₁ out₂ q next = w .some y in
+                let v : Spelled src (simple rules (drop from src)) from e out₁ out₂ q next = w .some y in
                 let g : List ℕ = hint-got .hint in
                 let r : (91 ∷ (verbatim g ++ (93 ∷ []))) ++ verbatim (v .octets) ≡ 91 ∷ (verbatim g ++ (93 ∷ verbatim (v .octets))) = ap (λ (x : List ℕ). 91 ∷ x) (append-assoc (verbatim g) (93 ∷ []) (verbatim (v .octets))) in
                 record {
@@ -174,12 +175,12 @@ module _ (src : List ℕ) (at pos : ℕ) (out : List ℕ) (h : at < length src) 
                 };
           }
 
-  module _ (c : getD src at 0 ≡ 91 → ⊥) (out₁ : List ℕ) (q next : ℕ) (w : Spells src (simple (drop at src)) at pos out out₁ q next) where
-    plain : lexeme (drop at src) ≡ bind (simple (drop at src)) (λ d k. got (atom d) k)
+  module _ (c : getD src at 0 ≡ 91 → ⊥) (out₁ : List ℕ) (q next : ℕ) (w : Spells src (simple rules (drop at src)) at pos out out₁ q next) where
+    plain : lexeme rules (drop at src) ≡ bind (simple rules (drop at src)) (λ d k. got (atom d) k)
     unfolding lexeme
     plain =
-        ap lexeme (one-here src at h) ∙ unpicked _ _ (ne-eqb _ _ a) ∙ unpicked _ _ (ne-eqb _ _ b) ∙ unpicked _ _ (ne-eqb _ _ c)
-        ∙ ap (λ (s : List ℕ). bind (simple s) (λ d k. got (atom d) k)) (sym (one-here src at h))
+        ap (lexeme rules) (one-here src at h) ∙ unpicked _ _ (ne-eqb _ _ a) ∙ unpicked _ _ (ne-eqb _ _ b) ∙ unpicked _ _ (ne-eqb _ _ c)
+        ∙ ap (λ (s : List ℕ). bind (simple rules s) (λ d k. got (atom d) k)) (sym (one-here src at h))
 
     pub node-plain : Nodes src at pos out out₁ 0 q next
     unfolding bind step octetsOfLexeme
@@ -187,7 +188,7 @@ module _ (src : List ℕ) (at pos : ℕ) (out : List ℕ) (h : at < length src) 
         record {
           none = λ y. plain ∙ rw (w .none y);
           some = λ y.
-              let v : Spelled src (simple (drop at src)) at pos out out₁ q next = w .some y in
+              let v : Spelled src (simple rules (drop at src)) at pos out out₁ q next = w .some y in
               record {
                 is = atom (v .octets);
                 reads = plain ∙ rw (v .reads);

@@ -1,8 +1,11 @@
 // Advanced text into canonical octets in one pass, in lent scratch of which only the front is promised.
+mod braces; // braces.rt: a tree in braces
+
 ghost use mathlib.Core.Path.{_≡_};
 ghost use mathlib.Core.Bool.{true};
 ghost use Prim.Native.Nat.{_+_, _≤_, _<_};
 ghost use lib.ListN.{length, drop, getD};
+ghost use Rattle.model.specs.Grammar.{rules};
 ghost use Rattle.model.specs.Decode.{decode₃};
 ghost use Rattle.model.specs.Limits.{maxSource};
 ghost use Rattle.model.specs.Octets.{isDigit};
@@ -12,6 +15,9 @@ ghost use Rattle.marks.specs.Decoded.{Spacious, Decodes};
 ghost use Rattle.advanced.specs.Spelled.{Room, Spells};
 ghost use Rattle.advanced.specs.Nodes.{Spare, HintCloses, HintSpells, Nodes};
 ghost use Rattle.advanced.specs.Converted.{Converts, Wrapped, Lent};
+use braces::Inside;
+use braces::opens;
+use braces::tree_at;
 use blocks::frame;
 use blocks::put_string;
 use decimal::Number;
@@ -35,7 +41,7 @@ fn decode(
     requires { ⌜ Classed (now classes) ⌝ }
     requires { ⌜ Lettered (now letters) ⌝ }
     requires { ⌜ (at < length (now src)) × Spacious (now src) (at + 1) pos (length (now out)) ⌝ }
-    ensures { λ r. ⌜ Decodes (now (src .entry)) (marked (getD (now (src .entry)) at 0) (drop (at + 1) (now (src .entry)))) at pos (now (out .entry)) (now (out .exit)) (now (count .exit)) r ⌝ }
+    ensures { λ r. ⌜ Decodes (now (src .entry)) (marked rules (getD (now (src .entry)) at 0) (drop (at + 1) (now (src .entry)))) at pos (now (out .entry)) (now (out .exit)) (now (count .exit)) r ⌝ }
 {
     let b = src[at];
     if b == 34 {
@@ -63,7 +69,7 @@ fn framed(
     requires { ⌜ Classed (now classes) ⌝ }
     requires { ⌜ Lettered (now letters) ⌝ }
     requires { ⌜ (at < length (now src)) × Room (now src) at pos (length (now out)) ⌝ }
-    ensures { λ r. ⌜ Spells (now (src .entry)) (marked (getD (now (src .entry)) at 0) (drop (at + 1) (now (src .entry)))) at pos (now (out .entry)) (now (out .exit)) (now (end .exit)) r ⌝ }
+    ensures { λ r. ⌜ Spells (now (src .entry)) (marked rules (getD (now (src .entry)) at 0) (drop (at + 1) (now (src .entry)))) at pos (now (out .entry)) (now (out .exit)) (now (end .exit)) r ⌝ }
 {
     let mut n: usize = 0;
     let next = decode(classes, letters, src, at, out, pos + 3, &mut n);
@@ -87,7 +93,7 @@ fn between(
     requires { ⌜ Classed (now classes) ⌝ }
     requires { ⌜ Lettered (now letters) ⌝ }
     requires { ⌜ (at < length (now src)) × Room (now src) at pos (length (now out)) ⌝ }
-    ensures { λ r. ⌜ Spells (now (src .entry)) (marked (getD (now (src .entry)) at 0) (drop (at + 1) (now (src .entry)))) at pos (now (out .entry)) (now (out .exit)) (now (end .exit)) r ⌝ }
+    ensures { λ r. ⌜ Spells (now (src .entry)) (marked rules (getD (now (src .entry)) at 0) (drop (at + 1) (now (src .entry)))) at pos (now (out .entry)) (now (out .exit)) (now (end .exit)) r ⌝ }
 {
     if src[at] != 34 {
         return framed(classes, letters, src, at, out, pos, end);
@@ -114,7 +120,7 @@ fn after_number(
     requires { ⌜ Classed (now classes) ⌝ }
     requires { ⌜ Lettered (now letters) ⌝ }
     requires { ⌜ Room (now src) at pos (length (now out)) ⌝ }
-    ensures { λ r. ⌜ Spells (now (src .entry)) (afterNumber n (drop at (now (src .entry)))) at pos (now (out .entry)) (now (out .exit)) (now (end .exit)) r ⌝ }
+    ensures { λ r. ⌜ Spells (now (src .entry)) (afterNumber rules n (drop at (now (src .entry)))) at pos (now (out .entry)) (now (out .exit)) (now (end .exit)) r ⌝ }
 {
     if at >= src.len() {
         return 0;
@@ -152,7 +158,7 @@ fn counted(
     requires { ⌜ Classed (now classes) ⌝ }
     requires { ⌜ Lettered (now letters) ⌝ }
     requires { ⌜ (at < length (now src)) × Room (now src) at pos (length (now out)) × (isDigit (getD (now src) at 0) ≡ true) ⌝ }
-    ensures { λ r. ⌜ Spells (now (src .entry)) (bind (decimal (getD (now (src .entry)) at 0) (drop (at + 1) (now (src .entry)))) afterNumber) at pos (now (out .entry)) (now (out .exit)) (now (end .exit)) r ⌝ }
+    ensures { λ r. ⌜ Spells (now (src .entry)) (bind (decimal (getD (now (src .entry)) at 0) (drop (at + 1) (now (src .entry)))) (afterNumber rules)) at pos (now (out .entry)) (now (out .exit)) (now (end .exit)) r ⌝ }
 {
     match decimal_at(src, at) {
         Number::Value { value, next } => {
@@ -175,7 +181,7 @@ pub fn simple(
     requires { ⌜ Classed (now classes) ⌝ }
     requires { ⌜ Lettered (now letters) ⌝ }
     requires { ⌜ Room (now src) at pos (length (now out)) ⌝ }
-    ensures { λ r. ⌜ Spells (now (src .entry)) (simple (drop at (now (src .entry)))) at pos (now (out .entry)) (now (out .exit)) (now (end .exit)) r ⌝ }
+    ensures { λ r. ⌜ Spells (now (src .entry)) (simple rules (drop at (now (src .entry)))) at pos (now (out .entry)) (now (out .exit)) (now (end .exit)) r ⌝ }
 {
     if at >= src.len() {
         return 0;
@@ -279,10 +285,12 @@ fn wrap(end: usize) -> usize
 }
 
 // The canonical octets of a text at the front of `out`, the sizes of the tree that it means, and its notes. No limit decides whether it
-// means one. Once more octets are written than a sheet has, octets and notes no longer matter.
+// means one. Once more octets are written than a sheet has, octets and notes no longer matter. With braces, which form 4 has, no notes
+// are kept.
 pub fn convert(
     classes: &[u8; 256],
     letters: &[u8; 256],
+    braces: bool,
     src: &[u8],
     out: &mut [u8],
     notes: &mut [usize],
@@ -290,7 +298,7 @@ pub fn convert(
     requires { ⌜ Classed (now classes) ⌝ }
     requires { ⌜ Lettered (now letters) ⌝ }
     requires { ⌜ Lent (length (now src)) (length (now out)) ⌝ }
-    ensures { λ r. ⌜ Converts (decode₃ (now (src .entry))) (now (out .exit)) (now (notes .entry)) (now (notes .exit)) r ⌝ }
+    ensures { λ r. ⌜ Converts braces (decode₃ rules braces (now (src .entry))) (now (out .exit)) (now (notes .entry)) (now (notes .exit)) r ⌝ }
 {
     let mut starts: [usize; limits::DEPTH] = [0; limits::DEPTH];
     let mut numbers: [usize; limits::DEPTH] = [0; limits::DEPTH];
@@ -338,6 +346,26 @@ pub fn convert(
             size += 1;
             at = i + 1;
             continue;
+        }
+        if opens(braces, b) {
+            match tree_at(classes, letters, src, i, out, o) {
+                Inside::Held {
+                    next,
+                    len,
+                    nodes,
+                    depth,
+                } => {
+                    deepest = walk::larger(deepest, opened + depth);
+                    seen += nodes;
+                    size += len;
+                    o = wrap(o + len);
+                    at = next;
+                    continue;
+                }
+                Inside::NoTree => {
+                    return Extent::Refused;
+                }
+            }
         }
         let mut mid: usize = 0;
         let mut end: usize = 0;

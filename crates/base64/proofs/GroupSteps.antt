@@ -6,7 +6,7 @@ use mathlib.Core.Bool.{Bool, true, false}
 use mathlib.Core.List.{List, [], _∷_, _++_}
 use lib.ListN.{take, drop}
 use Rattle.base.proofs.Cases.{by-bool, picked, unpicked}
-use Rattle.model.specs.Grammar.{octet₁, leftover₂, leftover₃}
+use Rattle.model.specs.Grammar.{octet₁, leftover₂, leftover₃, rules}
 use Rattle.model.specs.Octets.{letter, leftover}
 use Rattle.model.specs.Strings.{Read, unbase}
 use Rattle.model.proofs.Streams.{between, base-group}
@@ -26,7 +26,7 @@ low a b c e h i j k = record { first = h; second = i; third = j; fourth = k }
 
 -- what is said of a group at a place, after p, of which n letters belong to the group
 abbrev GroupsAfter : ℕ → List ℕ → List ℕ → ℕ → ℕ → Group → Type 0
-GroupsAfter m src p n at g = Groups m src (between m unbase p (drop at src)) n at g
+GroupsAfter m src p n at g = Groups m src (between m (unbase rules) p (drop at src)) n at g
 
 -- a step before does not change what is said of the group
 earlier : (m : ℕ) (src : List ℕ) (y z : Read (List ℕ)) (n at next : ℕ) (g : Group) → at < next → y ≡ z → Groups m src z (n + 1) next g → Groups m src y n at g
@@ -37,7 +37,7 @@ earlier m src y z n at next NoGroup h r t = r ∙ t
 
 -- the closing mark after p, where the low bits left over decide
 module _ (m : ℕ) (src : List ℕ) (p : List ℕ) (n at next len a b c : ℕ) (t : Bool) (w : Closed m src at next) (l : Low (a ∷ b ∷ c ∷ 0 ∷ [])) (f : len ≤ 2) where
-  ended : (t ≡ true → Base64 p (take len (threeOctets a b c 0))) → (t ≡ false → (d : List ℕ) → Base64 p d → ⊥) → GroupsAfter m src p n at (allowed t (Rest len a b c next))
+  ended : (t ≡ true → Base64 rules p (take len (threeOctets a b c 0))) → (t ≡ false → (d : List ℕ) → Base64 rules p d → ⊥) → GroupsAfter m src p n at (allowed t (Rest len a b c next))
   unfolding Groups allowed
   ended y z =
       by-bool t
@@ -93,7 +93,7 @@ module _ (m : ℕ) (src : List ℕ) (at x y z : ℕ) (hx : letter x < 64) (hy : 
 -- ---- after two letters, and after a pad
 module _ (m : ℕ) (src : List ℕ) (at x y : ℕ) (hx : letter x < 64) (hy : letter y < 64) (r : Letter) (w : Letters m src at r) where
   ended₂ : (p : List ℕ) (n a b next : ℕ) (g : Group) → a ≡ letter x → b ≡ letter y → r ≡ End next → g ≡ allowed (leftover (b % 16)) (Rest 1 a b 0 next)
-      → (leftover₂ y ≡ true → Base64 p (octet₁ x y ∷ [])) → (leftover₂ y ≡ false → (d : List ℕ) → Base64 p d → ⊥) → GroupsAfter m src p n at g
+      → (leftover₂ y ≡ true → Base64 rules p (octet₁ x y ∷ [])) → (leftover₂ y ≡ false → (d : List ℕ) → Base64 rules p d → ⊥) → GroupsAfter m src p n at g
   ended₂ p n a b next g ea eb e q h k =
       rw (q, ea, eb) (ended m src p n at next 1 _ _ 0 (leftover₂ y) (to-end m src at r w next e) (low _ _ _ _ hx hy (omega arith) (omega arith)) (omega arith) h k)
 

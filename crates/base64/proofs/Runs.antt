@@ -5,6 +5,7 @@ use mathlib.Core.Path.{_≡_, refl, _∙_}
 use mathlib.Core.List.{List, [], _∷_}
 use lib.ListN.{length, drop, getD}
 use Rattle.model.specs.Octets.{letter}
+use Rattle.model.specs.Grammar.{rules}
 use Rattle.model.specs.Strings.{unbase}
 use Rattle.model.proofs.Classes.{letter-unwhite}
 use Rattle.model.proofs.Streams.{between, base-group}
@@ -20,7 +21,7 @@ module _ (m : ℕ) (k : Closing m) (src : List ℕ) where
   still i j h l z = rw z at (one-more m k src i i (skip-here src i h (letter-unwhite _ l)) h (mark-no-letter m k _ l))
 
   pub group-here : (at a b c e : ℕ) → 4 ≤ length src - at → a ≡ letter (getD src at 0) → a < 64 → b ≡ letter (getD src (at + 1) 0) → b < 64
-      → c ≡ letter (getD src (at + 2) 0) → c < 64 → e ≡ letter (getD src (at + 3) 0) → e < 64 → Chunk (between m unbase []) src at (threeOctets a b c e) (at + 4)
+      → c ≡ letter (getD src (at + 2) 0) → c < 64 → e ≡ letter (getD src (at + 3) 0) → e < 64 → Chunk (between m (unbase rules) []) src at (threeOctets a b c e) (at + 4)
   group-here at a b c e h xa ha xb hb xc hc xe he =
       record {
         on = omega arith;

@@ -3,6 +3,7 @@ use Prim.Native.Nat.{ℕ, _+_, _*_, _≤_}
 use mathlib.Core.Path.{_≡_}
 use mathlib.Core.List.{List, []}
 use lib.ListN.{length}
+use Rattle.model.specs.Grammar.{rules}
 use Rattle.model.specs.Strings.{unbase}
 use Rattle.model.proofs.Streams.{between}
 use Rattle.scan.specs.Marks.{Stretch}
@@ -15,4 +16,4 @@ pub record Grouped (src : List ℕ) (at next : ℕ) : Type 0 where
   pub long : at + 4 * groups ≡ next
   pub size : length octets ≡ 3 * groups
   pub within : next ≤ length src
-  pub stretch : (mark : ℕ) → Closing mark → Stretch (between mark unbase []) src at octets next
+  pub stretch : (mark : ℕ) → Closing mark → Stretch (between mark (unbase rules) []) src at octets next

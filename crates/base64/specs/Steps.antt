@@ -6,6 +6,7 @@ use mathlib.Core.List.{List, [], _∷_, _++_}
 use lib.ListN.{length, take, drop}
 use Rattle.base.specs.Choice.{pick}
 use Rattle.model.specs.Octets.{isWhitespace, letter}
+use Rattle.model.specs.Grammar.{rules}
 use Rattle.model.specs.Strings.{Read, got, refused, bind, unbase, decoded}
 use Rattle.model.proofs.Streams.{between}
 use Rattle.base64.specs.declared.steps.Letter.{Letter}
@@ -24,26 +25,26 @@ pub record Closing (mark : ℕ) : Type 0 where
 pub record OneMore (mark : ℕ) (src : List ℕ) (at octet next : ℕ) : Type 0 where
   pub on : at < next
   pub within : next ≤ length src
-  pub moves : (p : List ℕ) → between mark unbase p (drop at src) ≡ between mark unbase (p ++ (octet ∷ [])) (drop next src)
+  pub moves : (p : List ℕ) → between mark (unbase rules) p (drop at src) ≡ between mark (unbase rules) (p ++ (octet ∷ [])) (drop next src)
 
 -- the closing mark, whatever was read before
 pub record Closed (mark : ℕ) (src : List ℕ) (at next : ℕ) : Type 0 where
   pub on : at < next
   pub within : next ≤ length src
-  pub moves : (p : List ℕ) → between mark unbase p (drop at src) ≡ decoded (unbase p) (drop next src)
+  pub moves : (p : List ℕ) → between mark (unbase rules) p (drop at src) ≡ decoded (unbase rules p) (drop next src)
 
 unfoldable pub Letters : ℕ → List ℕ → ℕ → Letter → Type 0
 Letters mark src at (Char x next) = (letter x < 64) × OneMore mark src at x next
 Letters mark src at (Pad next) = OneMore mark src at 61 next
 Letters mark src at (End next) = Closed mark src at next
-Letters mark src at NoLetter = (p : List ℕ) → between mark unbase p (drop at src) ≡ refused
+Letters mark src at NoLetter = (p : List ℕ) → between mark (unbase rules) p (drop at src) ≡ refused
 
 -- the reading y, before which m letters of the group were read, goes on with the octets of a group
 pub record Foured (mark : ℕ) (src : List ℕ) (y : Read (List ℕ)) (m at a b c e next : ℕ) : Type 0 where
   pub on : at + 4 ≤ next + m
   pub within : next ≤ length src
   pub low : Low (a ∷ b ∷ c ∷ e ∷ [])
-  pub more : y ≡ bind (between mark unbase [] (drop next src)) (λ d k. got (threeOctets a b c e ++ d) k)
+  pub more : y ≡ bind (between mark (unbase rules) [] (drop next src)) (λ d k. got (threeOctets a b c e ++ d) k)
 
 -- the reading y ends with the first `len` octets of a group
 pub record Rested (src : List ℕ) (y : Read (List ℕ)) (at len a b c next : ℕ) : Type 0 where

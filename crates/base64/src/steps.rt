@@ -4,6 +4,7 @@ ghost use mathlib.Core.Path.{_≡_};
 ghost use mathlib.Core.List.{[], _∷_};
 ghost use lib.ListN.{length, drop};
 ghost use Rattle.model.specs.Octets.{letter, leftover};
+ghost use Rattle.model.specs.Grammar.{rules};
 ghost use Rattle.model.specs.Strings.{unbase};
 ghost use Rattle.model.proofs.Streams.{between};
 ghost use Rattle.octets.specs.Classes.{Classed, Lettered};
@@ -119,7 +120,7 @@ fn group_4(
     requires { ⌜ Classed (now classes) ⌝ }
     requires { ⌜ Lettered (now letters) ⌝ }
     requires { ⌜ (at ≤ length (now src)) × Closing mark × (letter x < 64) × (letter y < 64) × (letter z < 64) ⌝ }
-    ensures { λ r. ⌜ Groups mark (now (src .entry)) (between mark unbase (x ∷ y ∷ z ∷ []) (drop at (now (src .entry)))) 3 at r ⌝ }
+    ensures { λ r. ⌜ Groups mark (now (src .entry)) (between mark (unbase rules) (x ∷ y ∷ z ∷ []) (drop at (now (src .entry)))) 3 at r ⌝ }
 {
     let a = letter_of(letters, x);
     let b = letter_of(letters, y);
@@ -156,7 +157,7 @@ fn padded(
     requires { ⌜ Classed (now classes) ⌝ }
     requires { ⌜ Lettered (now letters) ⌝ }
     requires { ⌜ (at ≤ length (now src)) × Closing mark × (letter x < 64) × (letter y < 64) ⌝ }
-    ensures { λ r. ⌜ Groups mark (now (src .entry)) (between mark unbase (x ∷ y ∷ 61 ∷ []) (drop at (now (src .entry)))) 3 at r ⌝ }
+    ensures { λ r. ⌜ Groups mark (now (src .entry)) (between mark (unbase rules) (x ∷ y ∷ 61 ∷ []) (drop at (now (src .entry)))) 3 at r ⌝ }
 {
     let a = letter_of(letters, x);
     let b = letter_of(letters, y);
@@ -186,7 +187,7 @@ fn group_3(
     requires { ⌜ Classed (now classes) ⌝ }
     requires { ⌜ Lettered (now letters) ⌝ }
     requires { ⌜ (at ≤ length (now src)) × Closing mark × (letter x < 64) × (letter y < 64) ⌝ }
-    ensures { λ r. ⌜ Groups mark (now (src .entry)) (between mark unbase (x ∷ y ∷ []) (drop at (now (src .entry)))) 2 at r ⌝ }
+    ensures { λ r. ⌜ Groups mark (now (src .entry)) (between mark (unbase rules) (x ∷ y ∷ []) (drop at (now (src .entry)))) 2 at r ⌝ }
 {
     match letter_at(classes, letters, src, at, mark) {
         Letter::Char { octet, next } => group_4(classes, letters, src, next, mark, x, y, octet),
@@ -201,7 +202,7 @@ pub fn group_at(classes: &[u8; 256], letters: &[u8; 256], src: &[u8], at: usize,
     requires { ⌜ Classed (now classes) ⌝ }
     requires { ⌜ Lettered (now letters) ⌝ }
     requires { ⌜ (at ≤ length (now src)) × Closing mark ⌝ }
-    ensures { λ r. ⌜ Groups mark (now (src .entry)) (between mark unbase [] (drop at (now (src .entry)))) 0 at r ⌝ }
+    ensures { λ r. ⌜ Groups mark (now (src .entry)) (between mark (unbase rules) [] (drop at (now (src .entry)))) 0 at r ⌝ }
 {
     match letter_at(classes, letters, src, at, mark) {
         Letter::Char { octet: x, next } => match letter_at(classes, letters, src, next, mark) {

@@ -4,11 +4,12 @@ use mathlib.Core.Path.{_≡_, refl}
 use mathlib.Core.Option.{some}
 use mathlib.Core.List.{List, [], _∷_, _++_}
 use Rattle.model.specs.Amended.{escaping, listed}
-use Rattle.model.specs.Decode.{decode}
+use Rattle.model.specs.Decode.{decodeUnder, decode}
 use Rattle.model.specs.Grammar.{Language, rules}
 use Rattle.model.specs.Octets.{escape, escapes}
 use Rattle.model.specs.Tree.{Tree}
-use Rattle.model.proofs.Exact.{complete}
+use Rattle.model.proofs.Apart.{rules-apart, listed-apart}
+use Rattle.model.proofs.Laws.{decoder-wider}
 use Rattle.model.proofs.Listed.{listed-wider}
 use Rattle.model.proofs.Wider.{language-wider}
 
@@ -25,7 +26,7 @@ pub in-force : rules ≡ escaping escapes
 unfolding escape
 in-force = refl
 
--- "texts accepted before keep their octets": they have the tree that they had
-pub kept : (form : ℕ) (s : List ℕ) (t : Tree) → Language (escaping listed) form s t → decode form s ≡ some t
-unfolding escape
-kept form s t h = complete (more-escapes listed ((97, 7) ∷ (63, 63) ∷ []) h)
+-- "texts accepted before keep their octets": the decoder gives the tree that it gave with 01's list
+pub kept : (form : ℕ) (s : List ℕ) (t : Tree) → decodeUnder (escaping listed) form s ≡ some t → decode form s ≡ some t
+unfolding decode escape
+kept form s t e = decoder-wider (escaping listed) rules (listed-wider listed ((97, 7) ∷ (63, 63) ∷ [])) listed-apart rules-apart form s t e

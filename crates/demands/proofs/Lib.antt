@@ -12,6 +12,7 @@ pub mod Lent
 pub mod Space
 pub mod Stray
 pub mod Escapes
+pub mod Terminals
 pub mod Typed
 pub mod Lined
 pub mod Extracts

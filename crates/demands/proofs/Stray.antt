@@ -5,12 +5,13 @@ use mathlib.Core.Path.{_≡_, refl}
 use mathlib.Core.Bool.{true}
 use mathlib.Core.Option.{some}
 use mathlib.Core.List.{List, [], _∷_, _++_}
-use Rattle.model.specs.Amended.{ignoring, minding, Spelling}
-use Rattle.model.specs.Decode.{decode}
+use Rattle.model.specs.Amended.{Wider, ignoring, minding, Spelling}
+use Rattle.model.specs.Decode.{decodeUnder, decode}
 use Rattle.model.specs.Grammar.{Whitespaces, Base64Chars, Language, rules}
 use Rattle.model.specs.Octets.{letter, escape}
 use Rattle.model.specs.Tree.{Tree}
-use Rattle.model.proofs.Exact.{sound}
+use Rattle.model.proofs.Apart.{rules-apart, ignoring-apart}
+use Rattle.model.proofs.Laws.{one-tree, decoder-wider}
 use Rattle.model.proofs.Spellings.{spellings-differ, braces-differ}
 use Rattle.model.proofs.Wider.{language-wider}
 
@@ -31,9 +32,17 @@ unfolding decode
 one-spelling-in-form-2 = braces-differ
 
 -- "Do so with 3, for bars and braces. This amends 01's …": whatever the escapes are, a text with a tree had that tree under 01's rule
-pub stray-narrows : (escape : ℕ → ℕ) {form : ℕ} {s : List ℕ} {t : Tree} → Language (minding escape) form s t → Language (ignoring escape) form s t
-stray-narrows escape = language-wider (record { leftovers = λ n h. refl; escapes = λ c h. refl })
+pub stray-wider : (escape : ℕ → ℕ) → Wider (minding escape) (ignoring escape)
+stray-wider escape = record { leftovers = λ n h. refl; escapes = λ c h. refl }
 
--- so it is for what is accepted now
-pub accepted-before : (form : ℕ) (s : List ℕ) (t : Tree) → decode form s ≡ some t → Language (ignoring escape) form s t
-accepted-before form s t e = stray-narrows escape (sound form s t e)
+pub stray-narrows : (escape : ℕ → ℕ) {form : ℕ} {s : List ℕ} {t : Tree} → Language (minding escape) form s t → Language (ignoring escape) form s t
+stray-narrows escape = language-wider (stray-wider escape)
+
+-- so it is for what is accepted now: the decoder of 01's rule gave the same tree
+pub accepted-before : (form : ℕ) (s : List ℕ) (t : Tree) → decode form s ≡ some t → decodeUnder (ignoring escape) form s ≡ some t
+unfolding decode
+accepted-before form s t e = decoder-wider (minding escape) (ignoring escape) (stray-wider escape) rules-apart ignoring-apart form s t e
+
+-- and in 01's language a text had no other tree
+pub one-tree-before : (form : ℕ) (s : List ℕ) (t u : Tree) → Language (ignoring escape) form s t → Language (ignoring escape) form s u → t ≡ u
+one-tree-before = one-tree (ignoring escape) ignoring-apart

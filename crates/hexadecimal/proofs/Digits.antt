@@ -10,6 +10,7 @@ use borrow.Author.Tests.{le-ltb, le-leb, ltb-true}
 use Rattle.base.specs.Choice.{among, member}
 use Rattle.base.proofs.Cases.{by-bool, by-eq, picked, unpicked, among-true}
 use Rattle.model.specs.Octets.{isWhitespace, hexval}
+use Rattle.model.specs.Grammar.{rules}
 use Rattle.model.specs.Strings.{unhex, decoded, marked}
 use Rattle.model.proofs.Classes.{hex-unwhite}
 use Rattle.model.proofs.Streams.{between, hex-group, hex-bad₂}
@@ -45,7 +46,7 @@ module _ (src : List ℕ) (at i : ℕ) (s : Skipped src at i) where
     pair-hash z = record { on = omega (arith, s .from); within = omega arith; ends = place-mark 35 unhex [] src at i hash-unwhite s h z }
 
     module _ (n : getD src i 0 ≡ 35 → ⊥) (a : ℕ) (x : a ≡ hexval (getD src i 0)) where
-      first : marked 35 (drop at src) ≡ between 35 unhex (getD src i 0 ∷ []) (drop (i + 1) src)
+      first : marked rules 35 (drop at src) ≡ between 35 unhex (getD src i 0 ∷ []) (drop (i + 1) src)
       unfolding marked
       first = place-other 35 unhex [] src at i hash-unwhite s h n
 
@@ -59,7 +60,7 @@ module _ (src : List ℕ) (at i : ℕ) (s : Skipped src at i) where
         pair-cut₂ h₂ = first ∙ place-none 35 unhex (getD src i 0 ∷ []) src (i + 1) j hash-unwhite s₂ h₂
 
         module _ (h₂ : j < length src) (b : ℕ) (y : b ≡ hexval (getD src j 0)) where
-          second : (getD src j 0 ≡ 35 → ⊥) → marked 35 (drop at src) ≡ between 35 unhex (getD src i 0 ∷ getD src j 0 ∷ []) (drop (j + 1) src)
+          second : (getD src j 0 ≡ 35 → ⊥) → marked rules 35 (drop at src) ≡ between 35 unhex (getD src i 0 ∷ getD src j 0 ∷ []) (drop (j + 1) src)
           second z = first ∙ place-other 35 unhex (getD src i 0 ∷ []) src (i + 1) j hash-unwhite s₂ h₂ z
 
           pub pair-bad₂ : 16 ≤ b → Pairs src at NoPair
@@ -81,7 +82,7 @@ module _ (src : List ℕ) (at i : ℕ) (s : Skipped src at i) where
 
 -- two digits side by side
 pub pair-here : (src : List ℕ) (at a b : ℕ) → 2 ≤ length src - at → a ≡ hexval (getD src at 0) → a < 16 → b ≡ hexval (getD src (at + 1) 0) → b < 16
-    → Chunk (marked 35) src at ((a * 16 + b) ∷ []) (at + 2)
+    → Chunk (marked rules 35) src at ((a * 16 + b) ∷ []) (at + 2)
 unfolding Pairs
 pair-here src at a b h x k y l =
     let s₁ : Skipped src at at = skip-here src at (omega arith) (hex-unwhite _ (omega arith)) in

@@ -4,6 +4,7 @@ pub mod Classes
 pub mod Stripped
 pub mod Marks
 pub mod Quoted
+pub mod Apart
 pub mod Simples
 pub mod Rules
 pub mod Streams
@@ -11,8 +12,12 @@ pub mod Sizes
 pub mod Nesting
 pub mod Lexemes
 pub mod Strict
+pub mod Canonical
+pub mod Held
 pub mod LexemeLoop
+pub mod Braces
 pub mod Unique
+pub mod Unnested
 pub mod Exact
 pub mod Bytes
 pub mod Written

@@ -1,5 +1,5 @@
 -- Whitespace, and what stands between hexadecimal and base-64 marks: the decoder reads it as the rules say.
-use Prim.Native.Nat.{ℕ, _<_}
+use Prim.Native.Nat.{ℕ, _%_, _<_}
 use native.Mathlib.Omega.{arith}
 use mathlib.Core.Path.{_≡_, refl, sym, ap, ap₂, _∙_}
 use mathlib.Core.Bool.{true, false}
@@ -8,7 +8,7 @@ use mathlib.Core.List.{List, [], _∷_, _++_}
 use lib.Dec.{ltb, eqb}
 use borrow.Author.Tests.{lt-ltb, eq-eqb, ne-eqb, eqb-true, eqb-false, ltb-true}
 use Rattle.base.proofs.Cases.{by-bool, differ, pick-cases, picked, unpicked, some-same, none-some}
-use Rattle.model.specs.Grammar.{Whitespaces, no-whitespace, octet₁, octet₂, octet₃, leftover₂, leftover₃}
+use Rattle.model.specs.Grammar.{Whitespaces, no-whitespace, octet₁, octet₂, octet₃, Rules}
 use Rattle.model.specs.Octets.{isWhitespace, hexval, letter}
 use Rattle.model.specs.Strings.{got, bind, skip, upto, also, unhex, twoOf, threeOf, lastly, fourOf, joined, unbase}
 use Rattle.model.proofs.ReadCases.{bind-cases, never, got-same}
@@ -78,54 +78,55 @@ pad-no-letter : (e : ℕ) → letter e < 64 → e ≡ 61 → ⊥
 unfolding letter
 pad-no-letter e h z = let w : letter 61 < 64 = rw z at h in omega arith
 
-two-sound : (a b : ℕ) {d : List ℕ} (p : List ℕ) → Pads 2 p → twoOf a b ≡ some d → Base64 (a ∷ b ∷ p) d
-unfolding twoOf
-two-sound a b p q e =
-    pick-cases (ltb (letter a) 64) _ _ e
-    (λ t h. pick-cases (ltb (letter b) 64) _ _ h
-    (λ u i. pick-cases (leftover₂ b) _ _ i (λ v j. some-same (Base64 (a ∷ b ∷ p)) j (two (ltb-true _ _ t) (ltb-true _ _ u) v q)) (λ v j. none-some j))
-    (λ u i. none-some i))
-    (λ t h. none-some h)
-
-two-complete : (a b : ℕ) → letter a < 64 → letter b < 64 → leftover₂ b ≡ true → twoOf a b ≡ some (octet₁ a b ∷ [])
-unfolding twoOf
-two-complete a b h k l = picked _ _ (lt-ltb (letter a) 64 h) ∙ picked _ _ (lt-ltb (letter b) 64 k) ∙ picked _ _ l
-
--- one more pad is allowed after two letters than after three
-three-sound : (a b c : ℕ) {d : List ℕ} (p : List ℕ) → Pads 1 p → threeOf a b c ≡ some d → Base64 (a ∷ b ∷ c ∷ p) d
+two-padded : (ρ : Rules) (a b : ℕ) → threeOf ρ a b 61 ≡ twoOf ρ a b
 unfolding threeOf
-three-sound a b c {d} p q e =
-    pick-cases (eqb c 61) _ _ e
-    (λ z h. let w : c ≡ 61 = eqb-true c 61 z in rw w (two-sound a b (61 ∷ p) (a-pad q) h))
-    (λ z h. pick-cases (ltb (letter a) 64) _ _ h
-    (λ t i. pick-cases (ltb (letter b) 64) _ _ i
-    (λ u j. pick-cases (ltb (letter c) 64) _ _ j
-    (λ v k. pick-cases (leftover₃ c) _ _ k (λ w l. some-same (Base64 (a ∷ b ∷ c ∷ p)) l (three (ltb-true _ _ t) (ltb-true _ _ u) (ltb-true _ _ v) w q)) (λ w l. none-some l))
-    (λ v k. none-some k))
-    (λ u j. none-some j))
-    (λ t i. none-some i))
+two-padded ρ a b = refl
 
-three-complete : (a b c : ℕ) → letter a < 64 → letter b < 64 → letter c < 64 → leftover₃ c ≡ true → threeOf a b c ≡ some (octet₁ a b ∷ octet₂ b c ∷ [])
+two-complete : (ρ : Rules) (a b : ℕ) → letter a < 64 → letter b < 64 → ρ .leftover (letter b % 16) ≡ true → twoOf ρ a b ≡ some (octet₁ a b ∷ [])
+unfolding twoOf
+two-complete ρ a b h k l = picked _ _ (lt-ltb (letter a) 64 h) ∙ picked _ _ (lt-ltb (letter b) 64 k) ∙ picked _ _ l
+
+three-complete : (ρ : Rules) (a b c : ℕ) → letter a < 64 → letter b < 64 → letter c < 64 → ρ .leftover (letter c % 4) ≡ true → threeOf ρ a b c ≡ some (octet₁ a b ∷ octet₂ b c ∷ [])
 unfolding threeOf
-three-complete a b c h k l m =
+three-complete ρ a b c h k l m =
     unpicked _ _ (ne-eqb c 61 (pad-no-letter c l)) ∙ picked _ _ (lt-ltb (letter a) 64 h) ∙ picked _ _ (lt-ltb (letter b) 64 k) ∙ picked _ _ (lt-ltb (letter c) 64 l) ∙ picked _ _ m
 
-two-padded : (a b : ℕ) → threeOf a b 61 ≡ twoOf a b
-unfolding threeOf
-two-padded a b = refl
+module _ {ρ : Rules} where
+  two-sound : (a b : ℕ) {d : List ℕ} (p : List ℕ) → Pads 2 p → twoOf ρ a b ≡ some d → Base64 ρ (a ∷ b ∷ p) d
+  unfolding twoOf
+  two-sound a b p q e =
+      pick-cases (ltb (letter a) 64) _ _ e
+      (λ t h. pick-cases (ltb (letter b) 64) _ _ h
+      (λ u i. pick-cases (ρ .leftover (letter b % 16)) _ _ i (λ v j. some-same (Base64 ρ (a ∷ b ∷ p)) j (two (ltb-true _ _ t) (ltb-true _ _ u) v q)) (λ v j. none-some j))
+      (λ u i. none-some i))
+      (λ t h. none-some h)
 
-four-sound : (a b c e : ℕ) {d f : List ℕ} {s : List ℕ} → fourOf a b c e ≡ some d → Base64 s f → Base64 (a ∷ b ∷ c ∷ e ∷ s) (d ++ f)
-unfolding fourOf
-four-sound a b c e {d} {f} {s} x y =
-    pick-cases (ltb (letter a) 64) _ _ x
-    (λ t i. pick-cases (ltb (letter b) 64) _ _ i
-    (λ u j. pick-cases (ltb (letter c) 64) _ _ j
-    (λ v k. pick-cases (ltb (letter e) 64) _ _ k
-    (λ w l. some-same (λ (d : List ℕ). Base64 (a ∷ b ∷ c ∷ e ∷ s) (d ++ f)) l (four (ltb-true _ _ t) (ltb-true _ _ u) (ltb-true _ _ v) (ltb-true _ _ w) y))
-    (λ w l. none-some l))
-    (λ v k. none-some k))
-    (λ u j. none-some j))
-    (λ t i. none-some i)
+  -- one more pad is allowed after two letters than after three
+  three-sound : (a b c : ℕ) {d : List ℕ} (p : List ℕ) → Pads 1 p → threeOf ρ a b c ≡ some d → Base64 ρ (a ∷ b ∷ c ∷ p) d
+  unfolding threeOf
+  three-sound a b c {d} p q e =
+      pick-cases (eqb c 61) _ _ e
+      (λ z h. let w : c ≡ 61 = eqb-true c 61 z in rw w (two-sound a b (61 ∷ p) (a-pad q) h))
+      (λ z h. pick-cases (ltb (letter a) 64) _ _ h
+      (λ t i. pick-cases (ltb (letter b) 64) _ _ i
+      (λ u j. pick-cases (ltb (letter c) 64) _ _ j
+      (λ v k. pick-cases (ρ .leftover (letter c % 4)) _ _ k (λ w l. some-same (Base64 ρ (a ∷ b ∷ c ∷ p)) l (three (ltb-true _ _ t) (ltb-true _ _ u) (ltb-true _ _ v) w q)) (λ w l. none-some l))
+      (λ v k. none-some k))
+      (λ u j. none-some j))
+      (λ t i. none-some i))
+
+  four-sound : (a b c e : ℕ) {d f : List ℕ} {s : List ℕ} → fourOf a b c e ≡ some d → Base64 ρ s f → Base64 ρ (a ∷ b ∷ c ∷ e ∷ s) (d ++ f)
+  unfolding fourOf
+  four-sound a b c e {d} {f} {s} x y =
+      pick-cases (ltb (letter a) 64) _ _ x
+      (λ t i. pick-cases (ltb (letter b) 64) _ _ i
+      (λ u j. pick-cases (ltb (letter c) 64) _ _ j
+      (λ v k. pick-cases (ltb (letter e) 64) _ _ k
+      (λ w l. some-same (λ (d : List ℕ). Base64 ρ (a ∷ b ∷ c ∷ e ∷ s) (d ++ f)) l (four (ltb-true _ _ t) (ltb-true _ _ u) (ltb-true _ _ v) (ltb-true _ _ w) y))
+      (λ w l. none-some l))
+      (λ v k. none-some k))
+      (λ u j. none-some j))
+      (λ t i. none-some i)
 
 pub four-complete : (a b c e : ℕ) → letter a < 64 → letter b < 64 → letter c < 64 → letter e < 64 → fourOf a b c e ≡ some (octet₁ a b ∷ octet₂ b c ∷ octet₃ c e ∷ [])
 unfolding fourOf
@@ -136,28 +137,29 @@ unfolding joined
 joined-cases none q h g = none-some h
 joined-cases (some d) q h g = also-cases d q h (λ e i j. g d e refl i j)
 
-pub base-sound : (l : List ℕ) {d : List ℕ} → unbase l ≡ some d → Base64 l d
-unfolding unbase lastly
-base-sound [] e = some-same (Base64 []) e no-letter
-base-sound (a ∷ []) e = none-some e
-base-sound (a ∷ b ∷ []) e = two-sound a b [] no-pad e
-base-sound (a ∷ b ∷ c ∷ []) e = three-sound a b c [] no-pad e
-base-sound (a ∷ b ∷ c ∷ e ∷ []) x =
-    pick-cases (eqb e 61) _ _ x
-    (λ z h. let w : e ≡ 61 = eqb-true e 61 z in rw w (three-sound a b c (61 ∷ []) (a-pad no-pad) h))
-    (λ z h. joined-cases (fourOf a b c e) (unbase []) h (λ d f i j k. some-same (Base64 (a ∷ b ∷ c ∷ e ∷ [])) k (four-sound a b c e i (base-sound [] j))))
-base-sound (a ∷ b ∷ c ∷ e ∷ m ∷ s) x =
-    pick-cases (eqb e 61) _ _ x
-    (λ z h. none-some h)
-    (λ z h. joined-cases (fourOf a b c e) (unbase (m ∷ s)) h (λ d f i j k. some-same (Base64 (a ∷ b ∷ c ∷ e ∷ m ∷ s)) k (four-sound a b c e i (base-sound (m ∷ s) j))))
+module _ {ρ : Rules} where
+  pub base-sound : (l : List ℕ) {d : List ℕ} → unbase ρ l ≡ some d → Base64 ρ l d
+  unfolding unbase lastly
+  base-sound [] e = some-same (Base64 ρ []) e no-letter
+  base-sound (a ∷ []) e = none-some e
+  base-sound (a ∷ b ∷ []) e = two-sound a b [] no-pad e
+  base-sound (a ∷ b ∷ c ∷ []) e = three-sound a b c [] no-pad e
+  base-sound (a ∷ b ∷ c ∷ e ∷ []) x =
+      pick-cases (eqb e 61) _ _ x
+      (λ z h. let w : e ≡ 61 = eqb-true e 61 z in rw w (three-sound a b c (61 ∷ []) (a-pad no-pad) h))
+      (λ z h. joined-cases (fourOf a b c e) (unbase ρ []) h (λ d f i j k. some-same (Base64 ρ (a ∷ b ∷ c ∷ e ∷ [])) k (four-sound a b c e i (base-sound [] j))))
+  base-sound (a ∷ b ∷ c ∷ e ∷ m ∷ s) x =
+      pick-cases (eqb e 61) _ _ x
+      (λ z h. none-some h)
+      (λ z h. joined-cases (fourOf a b c e) (unbase ρ (m ∷ s)) h (λ d f i j k. some-same (Base64 ρ (a ∷ b ∷ c ∷ e ∷ m ∷ s)) k (four-sound a b c e i (base-sound (m ∷ s) j))))
 
-pub base-complete : {l d : List ℕ} → Base64 l d → unbase l ≡ some d
-unfolding unbase lastly joined also
-base-complete no-letter = refl
-base-complete (four {a = a} {b = b} {c = c} {e = e} h k l m x) =
-    unpicked _ _ (ne-eqb e 61 (pad-no-letter e m)) ∙ ap₂ joined (four-complete a b c e h k l m) (base-complete x)
-base-complete (three {a = a} {b = b} {c = c} h k l m no-pad) = three-complete a b c h k l m
-base-complete (three {a = a} {b = b} {c = c} h k l m (a-pad no-pad)) = three-complete a b c h k l m
-base-complete (two {a = a} {b = b} h k m no-pad) = two-complete a b h k m
-base-complete (two {a = a} {b = b} h k m (a-pad no-pad)) = two-padded a b ∙ two-complete a b h k m
-base-complete (two {a = a} {b = b} h k m (a-pad (a-pad no-pad))) = two-padded a b ∙ two-complete a b h k m
+  pub base-complete : {l d : List ℕ} → Base64 ρ l d → unbase ρ l ≡ some d
+  unfolding unbase lastly joined also
+  base-complete no-letter = refl
+  base-complete (four {a = a} {b = b} {c = c} {e = e} h k l m x) =
+      unpicked _ _ (ne-eqb e 61 (pad-no-letter e m)) ∙ ap₂ joined (four-complete a b c e h k l m) (base-complete x)
+  base-complete (three {a = a} {b = b} {c = c} h k l m no-pad) = three-complete ρ a b c h k l m
+  base-complete (three {a = a} {b = b} {c = c} h k l m (a-pad no-pad)) = three-complete ρ a b c h k l m
+  base-complete (two {a = a} {b = b} h k m no-pad) = two-complete ρ a b h k m
+  base-complete (two {a = a} {b = b} h k m (a-pad no-pad)) = two-padded ρ a b ∙ two-complete ρ a b h k m
+  base-complete (two {a = a} {b = b} h k m (a-pad (a-pad no-pad))) = two-padded ρ a b ∙ two-complete ρ a b h k m

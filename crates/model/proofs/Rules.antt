@@ -7,7 +7,7 @@ use mathlib.Core.List.{List, [], _∷_, _++_, append-assoc}
 use lib.ListN.{length}
 use Rattle.base.specs.Choice.{among, member}
 use Rattle.base.proofs.Cases.{by-eq, among-true, among-in}
-use Rattle.model.specs.Grammar.{Whitespaces, no-whitespace, Digits, no-digit, Decimal, zero-decimal, Verbatim, Length, no-length, a-length, Hexadecimals, closing-hash, hexadecimals, Base64Char, base-64-char, Equals, no-equals, Base64Chars, closing-mark, base-64-chars, base-64-end-3, base-64-end-2, SimpleString, verbatim-string, quoted-string, token, hexadecimal, base-64, CSexp, c-string, c-display-string, c-list, CSexps, c-closing-parenthesis, c-sexp, rules}
+use Rattle.model.specs.Grammar.{Whitespaces, no-whitespace, Digits, no-digit, Decimal, zero-decimal, Verbatim, Length, no-length, a-length, Hexadecimals, closing-hash, hexadecimals, Base64Char, base-64-char, Equals, no-equals, Base64Chars, closing-mark, base-64-chars, base-64-end-3, base-64-end-2, SimpleString, verbatim-string, quoted-string, token, hexadecimal, base-64, CSexp, c-string, c-display-string, c-list, CSexps, c-closing-parenthesis, c-sexp, Rules}
 use Rattle.model.specs.Octets.{isWhitespace, isDigit, hexval, letter}
 use Rattle.model.specs.Strings.{decimal, upto}
 use Rattle.model.specs.Tree.{Tree, plain, hinted, list, Forest, nil, cons, digits, verbatim, canon, canons}
@@ -59,17 +59,18 @@ module _ (m : ℕ) (no : letter m ≡ 64) (other : 61 ≡ m → ⊥) where
   letter-of : {a : ℕ} {s k : List ℕ} → Base64Char s a k → letter a < 64
   letter-of (base-64-char h w) = h
 
-  pub base-64-strip : {s d k : List ℕ} → Base64Chars rules m s d k → Split m s k (λ l. Base64 l d)
-  base-64-strip closing-mark = record { letters = []; upto = upto-mark; means = no-letter }
-  base-64-strip (base-64-chars {a = a} {b = b} {c = c} {e = e} {s₄ = s₄} {d = d} {k = k} p q r t u) =
-      let x : Split m s₄ k (λ l. Base64 l d) = base-64-strip u in
-      record { letters = a ∷ b ∷ c ∷ e ∷ x .letters; upto = char-upto p (char-upto q (char-upto r (char-upto t (x .upto)))); means = four (letter-of p) (letter-of q) (letter-of r) (letter-of t) (x .means) }
-  base-64-strip (base-64-end-3 {a = a} {b = b} {c = c} {s₃ = s₃} {k = k} p q r v u) =
-      let x : Split m s₃ k (Pads 1) = equals-upto u refl in
-      record { letters = a ∷ b ∷ c ∷ x .letters; upto = char-upto p (char-upto q (char-upto r (x .upto))); means = three (letter-of p) (letter-of q) (letter-of r) v (x .means) }
-  base-64-strip (base-64-end-2 {a = a} {b = b} {s₂ = s₂} {k = k} p q v u) =
-      let x : Split m s₂ k (Pads 2) = equals-upto u refl in
-      record { letters = a ∷ b ∷ x .letters; upto = char-upto p (char-upto q (x .upto)); means = two (letter-of p) (letter-of q) v (x .means) }
+  module _ {ρ : Rules} where
+    pub base-64-strip : {s d k : List ℕ} → Base64Chars ρ m s d k → Split m s k (λ l. Base64 ρ l d)
+    base-64-strip closing-mark = record { letters = []; upto = upto-mark; means = no-letter }
+    base-64-strip (base-64-chars {a = a} {b = b} {c = c} {e = e} {s₄ = s₄} {d = d} {k = k} p q r t u) =
+        let x : Split m s₄ k (λ l. Base64 ρ l d) = base-64-strip u in
+        record { letters = a ∷ b ∷ c ∷ e ∷ x .letters; upto = char-upto p (char-upto q (char-upto r (char-upto t (x .upto)))); means = four (letter-of p) (letter-of q) (letter-of r) (letter-of t) (x .means) }
+    base-64-strip (base-64-end-3 {a = a} {b = b} {c = c} {s₃ = s₃} {k = k} p q r v u) =
+        let x : Split m s₃ k (Pads 1) = equals-upto u refl in
+        record { letters = a ∷ b ∷ c ∷ x .letters; upto = char-upto p (char-upto q (char-upto r (x .upto))); means = three (letter-of p) (letter-of q) (letter-of r) v (x .means) }
+    base-64-strip (base-64-end-2 {a = a} {b = b} {s₂ = s₂} {k = k} p q v u) =
+        let x : Split m s₂ k (Pads 2) = equals-upto u refl in
+        record { letters = a ∷ b ∷ x .letters; upto = char-upto p (char-upto q (x .upto)); means = two (letter-of p) (letter-of q) v (x .means) }
 
 -- ---- to the rules
 
@@ -106,26 +107,27 @@ pads-equals (a-pad {n = n} {s = p} q) u =
     let i : After (f .rest) (λ r. Equals n r _) = pads-equals q (f .upto) in
     record { begin = 61 ∷ f .rest; whites = f .whites; means = Equals.equals (i .whites) (i .means) }
 
-pub strip-base-64 : {m : ℕ} {s l d k : List ℕ} → Base64 l d → Upto m s l k → After s (λ r. Base64Chars rules m r d k)
-strip-base-64 no-letter u = record { begin = _; whites = last-of u; means = closing-mark }
-strip-base-64 (four {a = a} {b = b} {c = c} {e = e} {s = l} {d = d} x y z w h) u =
-    let f₁ : First _ a _ (b ∷ c ∷ e ∷ l) _ = first-of u in
-    let f₂ : First _ b (f₁ .rest) (c ∷ e ∷ l) _ = first-of (f₁ .upto) in
-    let f₃ : First _ c (f₂ .rest) (e ∷ l) _ = first-of (f₂ .upto) in
-    let f₄ : First _ e (f₃ .rest) l _ = first-of (f₃ .upto) in
-    let i : After (f₄ .rest) (λ r. Base64Chars rules _ r d _) = strip-base-64 h (f₄ .upto) in
-    record { begin = a ∷ f₁ .rest; whites = f₁ .whites; means = base-64-chars (base-64-char x (f₂ .whites)) (base-64-char y (f₃ .whites)) (base-64-char z (f₄ .whites)) (base-64-char w (i .whites)) (i .means) }
-strip-base-64 (three {a = a} {b = b} {c = c} {p = p} x y z v q) u =
-    let f₁ : First _ a _ (b ∷ c ∷ p) _ = first-of u in
-    let f₂ : First _ b (f₁ .rest) (c ∷ p) _ = first-of (f₁ .upto) in
-    let f₃ : First _ c (f₂ .rest) p _ = first-of (f₂ .upto) in
-    let i : After (f₃ .rest) (λ r. Equals 1 r _) = pads-equals q (f₃ .upto) in
-    record { begin = a ∷ f₁ .rest; whites = f₁ .whites; means = base-64-end-3 (base-64-char x (f₂ .whites)) (base-64-char y (f₃ .whites)) (base-64-char z (i .whites)) v (i .means) }
-strip-base-64 (two {a = a} {b = b} {p = p} x y v q) u =
-    let f₁ : First _ a _ (b ∷ p) _ = first-of u in
-    let f₂ : First _ b (f₁ .rest) p _ = first-of (f₁ .upto) in
-    let i : After (f₂ .rest) (λ r. Equals 2 r _) = pads-equals q (f₂ .upto) in
-    record { begin = a ∷ f₁ .rest; whites = f₁ .whites; means = base-64-end-2 (base-64-char x (f₂ .whites)) (base-64-char y (i .whites)) v (i .means) }
+module _ {ρ : Rules} where
+  pub strip-base-64 : {m : ℕ} {s l d k : List ℕ} → Base64 ρ l d → Upto m s l k → After s (λ r. Base64Chars ρ m r d k)
+  strip-base-64 no-letter u = record { begin = _; whites = last-of u; means = closing-mark }
+  strip-base-64 (four {a = a} {b = b} {c = c} {e = e} {s = l} {d = d} x y z w h) u =
+      let f₁ : First _ a _ (b ∷ c ∷ e ∷ l) _ = first-of u in
+      let f₂ : First _ b (f₁ .rest) (c ∷ e ∷ l) _ = first-of (f₁ .upto) in
+      let f₃ : First _ c (f₂ .rest) (e ∷ l) _ = first-of (f₂ .upto) in
+      let f₄ : First _ e (f₃ .rest) l _ = first-of (f₃ .upto) in
+      let i : After (f₄ .rest) (λ r. Base64Chars ρ _ r d _) = strip-base-64 h (f₄ .upto) in
+      record { begin = a ∷ f₁ .rest; whites = f₁ .whites; means = base-64-chars (base-64-char x (f₂ .whites)) (base-64-char y (f₃ .whites)) (base-64-char z (f₄ .whites)) (base-64-char w (i .whites)) (i .means) }
+  strip-base-64 (three {a = a} {b = b} {c = c} {p = p} x y z v q) u =
+      let f₁ : First _ a _ (b ∷ c ∷ p) _ = first-of u in
+      let f₂ : First _ b (f₁ .rest) (c ∷ p) _ = first-of (f₁ .upto) in
+      let f₃ : First _ c (f₂ .rest) p _ = first-of (f₂ .upto) in
+      let i : After (f₃ .rest) (λ r. Equals 1 r _) = pads-equals q (f₃ .upto) in
+      record { begin = a ∷ f₁ .rest; whites = f₁ .whites; means = base-64-end-3 (base-64-char x (f₂ .whites)) (base-64-char y (f₃ .whites)) (base-64-char z (i .whites)) v (i .means) }
+  strip-base-64 (two {a = a} {b = b} {p = p} x y v q) u =
+      let f₁ : First _ a _ (b ∷ p) _ = first-of u in
+      let f₂ : First _ b (f₁ .rest) p _ = first-of (f₁ .upto) in
+      let i : After (f₂ .rest) (λ r. Equals 2 r _) = pads-equals q (f₂ .upto) in
+      record { begin = a ∷ f₁ .rest; whites = f₁ .whites; means = base-64-end-2 (base-64-char x (f₂ .whites)) (base-64-char y (i .whites)) v (i .means) }
 
 -- ---- decimal and verbatim
 
@@ -179,33 +181,34 @@ strip-verbatim d k = rw (verb-shape d k) (Verbatim.verbatim (strip-decimal (leng
 
 -- ---- simple strings
 
--- a string between marks, with the length that may stand before it
-with-length : {d s s₁ k : List ℕ} → Length d s s₁ → Marked s₁ d k → Simple s d k
-with-length no-length m = unmeasured m
-with-length (a-length {s = s} {k = s₁} x) m = rw (decimal-strip x) (measured m)
+module _ {ρ : Rules} where
+  -- a string between marks, with the length that may stand before it
+  with-length : {d s s₁ k : List ℕ} → Length d s s₁ → Marked ρ s₁ d k → Simple ρ s d k
+  with-length no-length m = unmeasured m
+  with-length (a-length {s = s} {k = s₁} x) m = rw (decimal-strip x) (measured m)
 
-pub simple-strip : {s d k : List ℕ} → SimpleString rules s d k → Simple s d k
-unfolding letter
-simple-strip (verbatim-string {d = d} {k = k} x) = rw (verbatim-strip x) (simple-verbatim d k)
-simple-strip (quoted-string l q) = with-length l (in-quotes q)
-simple-strip (token t r) = simple-token t r
-simple-strip (hexadecimal {s₂ = s₂} {d = d} {k = k} l w h) =
-    let x : Split 35 s₂ k (λ y. Hex y d) = hexadecimals-strip h in
-    with-length l (in-hashes (whites-upto w (x .upto)) (x .means))
-simple-strip (base-64 {s₂ = s₂} {d = d} {k = k} l w b) =
-    let x : Split 124 s₂ k (λ y. Base64 y d) = base-64-strip 124 refl (λ e. omega arith) b in
-    with-length l (in-bars (whites-upto w (x .upto)) (x .means))
+  pub simple-strip : {s d k : List ℕ} → SimpleString ρ s d k → Simple ρ s d k
+  unfolding letter
+  simple-strip (verbatim-string {d = d} {k = k} x) = rw (verbatim-strip x) (simple-verbatim d k)
+  simple-strip (quoted-string l q) = with-length l (in-quotes q)
+  simple-strip (token t r) = simple-token t r
+  simple-strip (hexadecimal {s₂ = s₂} {d = d} {k = k} l w h) =
+      let x : Split 35 s₂ k (λ y. Hex y d) = hexadecimals-strip h in
+      with-length l (in-hashes (whites-upto w (x .upto)) (x .means))
+  simple-strip (base-64 {s₂ = s₂} {d = d} {k = k} l w b) =
+      let x : Split 124 s₂ k (λ y. Base64 ρ y d) = base-64-strip 124 refl (λ e. omega arith) b in
+      with-length l (in-bars (whites-upto w (x .upto)) (x .means))
 
-strip-marked : {s t d k : List ℕ} → Length d t s → Marked s d k → SimpleString rules t d k
-strip-marked l (in-quotes q) = quoted-string l q
-strip-marked l (in-hashes {s = s} {d = d} {k = k} u h) = let x : After s (λ r. Hexadecimals r d k) = strip-hexadecimals h u in hexadecimal l (x .whites) (x .means)
-strip-marked l (in-bars {s = s} {d = d} {k = k} u b) = let x : After s (λ r. Base64Chars rules 124 r d k) = strip-base-64 b u in base-64 l (x .whites) (x .means)
+  strip-marked : {s t d k : List ℕ} → Length d t s → Marked ρ s d k → SimpleString ρ t d k
+  strip-marked l (in-quotes q) = quoted-string l q
+  strip-marked l (in-hashes {s = s} {d = d} {k = k} u h) = let x : After s (λ r. Hexadecimals r d k) = strip-hexadecimals h u in hexadecimal l (x .whites) (x .means)
+  strip-marked l (in-bars {s = s} {d = d} {k = k} u b) = let x : After s (λ r. Base64Chars ρ 124 r d k) = strip-base-64 b u in base-64 l (x .whites) (x .means)
 
-pub strip-simple : {s d k : List ℕ} → Simple s d k → SimpleString rules s d k
-strip-simple (simple-verbatim d k) = verbatim-string (strip-verbatim d k)
-strip-simple (simple-token t r) = token t r
-strip-simple (unmeasured m) = strip-marked no-length m
-strip-simple (measured {s = s} {d = d} m) = strip-marked (a-length (strip-decimal (length d) s)) m
+  pub strip-simple : {s d k : List ℕ} → Simple ρ s d k → SimpleString ρ s d k
+  strip-simple (simple-verbatim d k) = verbatim-string (strip-verbatim d k)
+  strip-simple (simple-token t r) = token t r
+  strip-simple (unmeasured m) = strip-marked no-length m
+  strip-simple (measured {s = s} {d = d} m) = strip-marked (a-length (strip-decimal (length d) s)) m
 
 -- ---- canonical forms
 

@@ -61,7 +61,7 @@ unfolding lettersOf pads
 pads-are no-pad = record { many = 0; is = refl }
 pads-are (a-pad {s = p} q) = let x : Spelt p [] = pads-are q in record { many = suc (x .many); is = ap (λ (s : List ℕ). 61 ∷ s) (x .is) }
 
-spelt : {l d : List ℕ} → Base64 l d → Spelt l d
+spelt : {l d : List ℕ} → Base64 rules l d → Spelt l d
 unfolding lettersOf pads
 spelt no-letter = record { many = 0; is = refl }
 spelt (four {a = a} {b = b} {c = c} {e = e} {s = s} {d = d} x y z w h) =
@@ -101,7 +101,7 @@ inside (upto-other {b = b} {s = s} {l = l} {k = k} t n u) =
     let x : Inside _ s l k = inside u in
     record { text = b ∷ x .text; whole = ap (λ (y : List ℕ). b ∷ y) (x .whole); bare = rw t (ap (λ (y : List ℕ). b ∷ y) (x .bare)) }
 
-split-spelt : (m : ℕ) (x d k : List ℕ) → Split m (x ++ m ∷ k) k (λ l. Base64 l d) → Spelt (unspaced x) d
+split-spelt : (m : ℕ) (x d k : List ℕ) → Split m (x ++ m ∷ k) k (λ l. Base64 rules l d) → Spelt (unspaced x) d
 split-spelt m x d k z =
     let i : Inside m (x ++ m ∷ k) (z .letters) k = inside (z .upto) in
     let e : x ≡ i .text = append-cancel-right x (i .text) (m ∷ k) (i .whole) in
@@ -112,13 +112,13 @@ same-letters : (x y d : List ℕ) → Spelt (unspaced x) d → Spelt (unspaced y
 same-letters x y d i j = record { letters = lettersOf d; p = i .many; q = j .many; one = i .is; other = j .is }
 
 -- texts in braces with one tree
-pub braces-differ : (x y : List ℕ) (t : Tree) → decode₂ (123 ∷ x ++ 125 ∷ []) ≡ some t → decode₂ (123 ∷ y ++ 125 ∷ []) ≡ some t → Spelling x y
+pub braces-differ : (x y : List ℕ) (t : Tree) → decode₂ rules (123 ∷ x ++ 125 ∷ []) ≡ some t → decode₂ rules (123 ∷ y ++ 125 ∷ []) ≡ some t → Spelling x y
 braces-differ x y t g h = same-letters x y (canon t) (split-spelt 125 x (canon t) [] (braced _ t g)) (split-spelt 125 y (canon t) [] (braced _ t h))
 
 module _ (m : ℕ) (no : letter m ≡ 64) (other : 61 ≡ m → ⊥) where
   spelling-of : (x d k s : List ℕ) → Whitespaces (x ++ m ∷ k) s → Base64Chars rules m s d k → Spelt (unspaced x) d
   spelling-of x d k s w h =
-      let z : Split m s k (λ l. Base64 l d) = base-64-strip m no other h in
+      let z : Split m s k (λ l. Base64 rules l d) = base-64-strip m no other h in
       split-spelt m x d k (record { letters = z .letters; upto = whites-upto w (z .upto); means = z .means })
 
   pub spellings-differ : (x y d k l s s′ : List ℕ) → Whitespaces (x ++ m ∷ k) s → Base64Chars rules m s d k → Whitespaces (y ++ m ∷ l) s′ → Base64Chars rules m s′ d l → Spelling x y

@@ -6,7 +6,7 @@ use mathlib.Core.Option.{Option, none, some}
 use mathlib.Core.List.{List, [], _∷_, _++_, append-assoc, append-nil}
 use borrow.Author.Tests.{lt-ltb, le-ltb, eq-eqb, ne-eqb}
 use Rattle.base.proofs.Cases.{picked, unpicked}
-use Rattle.model.specs.Grammar.{octet₁, octet₂, octet₃}
+use Rattle.model.specs.Grammar.{octet₁, octet₂, octet₃, rules}
 use Rattle.model.specs.Octets.{isWhitespace, hexval, letter}
 use Rattle.model.specs.Strings.{Read, got, refused, bind, upto, also, unhex, joined, unbase, decoded}
 use Rattle.model.proofs.Marks.{four-complete}
@@ -68,8 +68,8 @@ hex-bad₂ m a b s h k = after-bad m unhex (a ∷ b ∷ []) [] s (λ l. picked _
 
 -- four letters taken together give three octets
 pub base-group : (m a b c e : ℕ) (s : List ℕ) → letter a < 64 → letter b < 64 → letter c < 64 → letter e < 64 → (e ≡ 61 → ⊥)
-    → between m unbase (a ∷ b ∷ c ∷ e ∷ []) s ≡ bind (between m unbase [] s) (λ d k. got (octet₁ a b ∷ octet₂ b c ∷ octet₃ c e ∷ d) k)
+    → between m (unbase rules) (a ∷ b ∷ c ∷ e ∷ []) s ≡ bind (between m (unbase rules) [] s) (λ d k. got (octet₁ a b ∷ octet₂ b c ∷ octet₃ c e ∷ d) k)
 unfolding unbase joined
 base-group m a b c e s h i j k n =
-    after-group m unbase (a ∷ b ∷ c ∷ e ∷ []) (octet₁ a b ∷ octet₂ b c ∷ octet₃ c e ∷ []) s
-    (λ l. unpicked _ _ (ne-eqb e 61 n) ∙ ap (λ (o : Option (List ℕ)). joined o (unbase l)) (four-complete a b c e h i j k))
+    after-group m (unbase rules) (a ∷ b ∷ c ∷ e ∷ []) (octet₁ a b ∷ octet₂ b c ∷ octet₃ c e ∷ []) s
+    (λ l. unpicked _ _ (ne-eqb e 61 n) ∙ ap (λ (o : Option (List ℕ)). joined o (unbase rules l)) (four-complete a b c e h i j k))

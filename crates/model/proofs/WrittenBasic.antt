@@ -10,7 +10,7 @@ use borrow.Author.Tests.{eqb-true}
 use Rattle.base.specs.Choice.{member, chain}
 use Rattle.base.proofs.Below.{below, below-at}
 use Rattle.model.specs.Decode.{unbrace, decode₂}
-use Rattle.model.specs.Grammar.{octet₁, octet₂, octet₃}
+use Rattle.model.specs.Grammar.{octet₁, octet₂, octet₃, rules}
 use Rattle.model.specs.Octets.{isWhitespace, letter, leftover}
 use Rattle.model.specs.Strings.{lastly}
 use Rattle.model.specs.Tree.{Tree, canon, Bytes, no-byte, a-byte}
@@ -58,20 +58,20 @@ no-leftover = refl
 leftover-zero : (n : ℕ) → n ≡ 0 → leftover n ≡ true
 leftover-zero n e = ap leftover e ∙ no-leftover
 
-base-shown : (d : List ℕ) → Bytes d → Base64 (baseAll d) d
+base-shown : (d : List ℕ) → Bytes d → Base64 rules (baseAll d) d
 unfolding baseAll
 base-shown [] no-byte = no-letter
 base-shown (a ∷ []) (a-byte h no-byte) =
     let p : letter (letterOf (a / 4)) ≡ a / 4 = value-of (a / 4) (omega arith) in
     let q : letter (letterOf (a % 4 * 16)) ≡ a % 4 * 16 = value-of (a % 4 * 16) (omega arith) in
-    subst (λ (x : ℕ). Base64 (letterOf (a / 4) ∷ letterOf (a % 4 * 16) ∷ 61 ∷ 61 ∷ []) (x ∷ [])) (omega arith) (two (omega arith) (omega arith) (leftover-zero _ (omega arith)) (a-pad (a-pad no-pad)))
+    subst (λ (x : ℕ). Base64 rules (letterOf (a / 4) ∷ letterOf (a % 4 * 16) ∷ 61 ∷ 61 ∷ []) (x ∷ [])) (omega arith) (two (omega arith) (omega arith) (leftover-zero _ (omega arith)) (a-pad (a-pad no-pad)))
 base-shown (a ∷ b ∷ []) (a-byte h (a-byte i no-byte)) =
     let p : letter (letterOf (a / 4)) ≡ a / 4 = value-of (a / 4) (omega arith) in
     let q : letter (letterOf (a % 4 * 16 + b / 16)) ≡ a % 4 * 16 + b / 16 = value-of (a % 4 * 16 + b / 16) (omega arith) in
     let r : letter (letterOf (b % 16 * 4)) ≡ b % 16 * 4 = value-of (b % 16 * 4) (omega arith) in
     let u : octet₁ (letterOf (a / 4)) (letterOf (a % 4 * 16 + b / 16)) ≡ a = omega arith in
     let v : octet₂ (letterOf (a % 4 * 16 + b / 16)) (letterOf (b % 16 * 4)) ≡ b = omega arith in
-    subst (Base64 _) (ap₂ (λ (x y : ℕ). x ∷ y ∷ []) u v) (three (omega arith) (omega arith) (omega arith) (leftover-zero _ (omega arith)) (a-pad no-pad))
+    subst (Base64 rules _) (ap₂ (λ (x y : ℕ). x ∷ y ∷ []) u v) (three (omega arith) (omega arith) (omega arith) (leftover-zero _ (omega arith)) (a-pad no-pad))
 base-shown (a ∷ b ∷ c ∷ d) (a-byte h (a-byte i (a-byte j x))) =
     let p : letter (letterOf (a / 4)) ≡ a / 4 = value-of (a / 4) (omega arith) in
     let q : letter (letterOf (a % 4 * 16 + b / 16)) ≡ a % 4 * 16 + b / 16 = value-of (a % 4 * 16 + b / 16) (omega arith) in
@@ -80,9 +80,9 @@ base-shown (a ∷ b ∷ c ∷ d) (a-byte h (a-byte i (a-byte j x))) =
     let u : octet₁ (letterOf (a / 4)) (letterOf (a % 4 * 16 + b / 16)) ≡ a = omega arith in
     let v : octet₂ (letterOf (a % 4 * 16 + b / 16)) (letterOf (b % 16 * 4 + c / 64)) ≡ b = omega arith in
     let w : octet₃ (letterOf (b % 16 * 4 + c / 64)) (letterOf (c % 64)) ≡ c = omega arith in
-    subst (Base64 _) (ap (λ (x : ℕ). x ∷ b ∷ c ∷ d) u)
-    (subst (Base64 _) (ap₂ (λ (x y : ℕ). octet₁ (letterOf (a / 4)) (letterOf (a % 4 * 16 + b / 16)) ∷ x ∷ y ∷ d) v w) (four (omega arith) (omega arith) (omega arith) (omega arith) (base-shown d x)))
+    subst (Base64 rules _) (ap (λ (x : ℕ). x ∷ b ∷ c ∷ d) u)
+    (subst (Base64 rules _) (ap₂ (λ (x y : ℕ). octet₁ (letterOf (a / 4)) (letterOf (a % 4 * 16 + b / 16)) ∷ x ∷ y ∷ d) v w) (four (omega arith) (omega arith) (omega arith) (omega arith) (base-shown d x)))
 
-pub round-trip₂ : (t : Tree) → Bytes (canon t) → decode₂ (basic t) ≡ some t
+pub round-trip₂ : (t : Tree) → Bytes (canon t) → decode₂ rules (basic t) ≡ some t
 unfolding basic decode₂ unbrace chain lastly isWhitespace member
 round-trip₂ t x = rw (upto-complete 125 refl (base-upto (canon t) x), base-complete (base-shown (canon t) x)) (canon-complete t)

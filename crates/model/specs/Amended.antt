@@ -1,17 +1,24 @@
 -- Rules beside those in force: which languages hold at least the same texts, and what two spellings of base-64 have in common.
-use Prim.Native.Nat.{ℕ, zero, suc, _<_}
+use Prim.Native.Nat.{ℕ, zero, suc, _<_, _≤_}
 use mathlib.Core.Path.{_≡_}
 use mathlib.Core.Bool.{Bool, true}
 use mathlib.Core.List.{List, [], _∷_, _++_}
 use Rattle.base.specs.Choice.{pick}
 use Rattle.model.specs.Grammar.{Rules}
-use Rattle.model.specs.Octets.{isWhitespace, leftover, find}
+use Rattle.model.specs.Octets.{isWhitespace, octval, leftover, find}
 
 -- 02, "This amends 01's …", "texts accepted before keep their octets": what ρ lets stand, σ lets stand, and what ρ gives a meaning has
 -- that meaning in σ
 pub record Wider (ρ σ : Rules) : Type 0 where
   pub leftovers : (n : ℕ) → ρ .leftover n ≡ true → σ .leftover n ≡ true
   pub escapes : (e : ℕ) → ρ .escape e < 256 → σ .escape e ≡ ρ .escape e
+
+-- what no request may make ambiguous: an octet that means something else after a backslash (an octal digit, "x", CR, LF) is not listed
+pub record Apart (ρ : Rules) : Type 0 where
+  pub octal : (e : ℕ) → octval e < 8 → 256 ≤ ρ .escape e
+  pub hex : 256 ≤ ρ .escape 120
+  pub cr : 256 ≤ ρ .escape 13
+  pub lf : 256 ≤ ρ .escape 10
 
 -- 01, "Leftover low bits are ignored": whatever the escapes are, the rules with 01's sentence
 abbrev pub ignoring : (ℕ → ℕ) → Rules

@@ -5,6 +5,7 @@ use mathlib.Core.Option.{Option, none, some}
 use mathlib.Core.List.{List, [], _∷_}
 use lib.ListN.{length}
 use lib.Dec.{eqb}
+use Rattle.model.specs.Grammar.{Rules}
 use Rattle.model.specs.Strings.{Read, got, refused, bind, skip, simple, verbatimOf}
 
 pub data Lexeme : Type 0 where
@@ -18,20 +19,20 @@ pub data Lexeme : Type 0 where
 -- ---- form 3
 
 -- after a hint: *whitespace was skipped, then "]" *whitespace simple-string
-unfoldable pub closeHint : List ℕ → List ℕ → Read Lexeme
-closeHint h [] = refused
-closeHint h (b ∷ s) = elim (eqb b 93) [ true ↦ bind (simple (skip s)) (λ d k. got (hinting h d) k) | false ↦ refused ]
+unfoldable pub closeHint : Rules → List ℕ → List ℕ → Read Lexeme
+closeHint ρ h [] = refused
+closeHint ρ h (b ∷ s) = elim (eqb b 93) [ true ↦ bind (simple ρ (skip s)) (λ d k. got (hinting h d) k) | false ↦ refused ]
 
-unfoldable pub lexeme : List ℕ → Read Lexeme
-lexeme [] = refused
-lexeme (b ∷ s) =
+unfoldable pub lexeme : Rules → List ℕ → Read Lexeme
+lexeme ρ [] = refused
+lexeme ρ (b ∷ s) =
     elim (eqb b 40) [
       | true ↦ got opening s
       | false ↦
           elim (eqb b 41) [
             | true ↦ got closing s
             | false ↦
-                elim (eqb b 91) [ true ↦ bind (simple (skip s)) (λ h k. closeHint h (skip k)) | false ↦ bind (simple (b ∷ s)) (λ d k. got (atom d) k) ]
+                elim (eqb b 91) [ true ↦ bind (simple ρ (skip s)) (λ h k. closeHint ρ h (skip k)) | false ↦ bind (simple ρ (b ∷ s)) (λ d k. got (atom d) k) ]
           ]
     ]
 
@@ -66,9 +67,6 @@ before l (some ls) = some (l ∷ ls)
 unfoldable pub lexemesBy : (List ℕ → List ℕ) → (List ℕ → Read Lexeme) → ℕ → List ℕ → Option (List Lexeme)
 lexemesBy over lex zero s = none
 lexemesBy over lex (suc f) s = elim (over s) [ [] ↦ some [] | b ∷ r ↦ elim (lex (b ∷ r)) [ got l k ↦ before l (lexemesBy over lex f k) | refused ↦ none ] ]
-
-unfoldable pub lexemes : List ℕ → Option (List Lexeme)
-lexemes s = lexemesBy skip lexeme (suc (length s)) s
 
 unfoldable pub strictLexemes : List ℕ → Option (List Lexeme)
 strictLexemes s = lexemesBy stay strictLexeme (suc (length s)) s

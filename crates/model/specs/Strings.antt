@@ -1,14 +1,14 @@
 -- Simple strings decoded. Each function reads what the grammar's rule of its kind names; the laws (proofs/Exact) say that
--- the two agree.
-use Prim.Native.Nat.{ℕ, zero, suc, _+_, _*_, _-_}
+-- the two agree. Like the grammar's, they are over what requests change about strings.
+use Prim.Native.Nat.{ℕ, zero, suc, _+_, _*_, _-_, _%_}
 use mathlib.Core.Bool.{true, false}
 use mathlib.Core.Option.{Option, none, some}
 use mathlib.Core.List.{List, [], _∷_, _++_}
 use lib.ListN.{length, take, drop}
 use lib.Dec.{leb, ltb, eqb}
 use Rattle.base.specs.Choice.{pick}
-use Rattle.model.specs.Octets.{isWhitespace, isDigit, isTokenStart, isTokenOctet, isPrintable, hexval, octval, letter, escape}
-use Rattle.model.specs.Grammar.{octet₁, octet₂, octet₃, leftover₂, leftover₃}
+use Rattle.model.specs.Octets.{isWhitespace, isDigit, isTokenStart, isTokenOctet, isPrintable, hexval, octval, letter}
+use Rattle.model.specs.Grammar.{Rules, octet₁, octet₂, octet₃}
 
 -- what was read, and the rest; or it is not in the language
 pub data Read (A : Type 0) : Type 0 where
@@ -69,24 +69,24 @@ octalOf a (b ∷ []) = refused
 octalOf a (b ∷ c ∷ s) = octalBy (octval a) (octval b) (octval c) s
 
 -- what stands after a backslash
-unfoldable pub escaped : List ℕ → Read (List ℕ)
-escaped [] = refused
-escaped (e ∷ s) =
-    pick (ltb (escape e) 256) (got (escape e ∷ []) s)
+unfoldable pub escaped : Rules → List ℕ → Read (List ℕ)
+escaped ρ [] = refused
+escaped ρ (e ∷ s) =
+    pick (ltb (ρ .escape e) 256) (got (ρ .escape e ∷ []) s)
     (pick (eqb e 120) (hexOf s)
     (pick (eqb e 13) (got [] (past 10 s))
     (pick (eqb e 10) (got [] (past 13 s)) (octalOf e s))))
 
 -- printable / escaped
-unfoldable pub pieceOf : List ℕ → Read (List ℕ)
-pieceOf [] = refused
-pieceOf (b ∷ s) = pick (eqb b 92) (escaped s) (pick (isPrintable b) (got (b ∷ []) s) refused)
+unfoldable pub pieceOf : Rules → List ℕ → Read (List ℕ)
+pieceOf ρ [] = refused
+pieceOf ρ (b ∷ s) = pick (eqb b 92) (escaped ρ s) (pick (isPrintable b) (got (b ∷ []) s) refused)
 
 -- up to the closing quotation mark; the first number bounds how many pieces are read
-unfoldable pub quotedBy : ℕ → List ℕ → Read (List ℕ)
-quotedBy zero s = refused
-quotedBy (suc f) [] = refused
-quotedBy (suc f) (b ∷ s) = elim (eqb b 34) [ true ↦ got [] s | false ↦ bind (pieceOf (b ∷ s)) (λ p r. bind (quotedBy f r) (λ d k. got (p ++ d) k)) ]
+unfoldable pub quotedBy : Rules → ℕ → List ℕ → Read (List ℕ)
+quotedBy ρ zero s = refused
+quotedBy ρ (suc f) [] = refused
+quotedBy ρ (suc f) (b ∷ s) = elim (eqb b 34) [ true ↦ got [] s | false ↦ bind (pieceOf ρ (b ∷ s)) (λ p r. bind (quotedBy ρ f r) (λ d k. got (p ++ d) k)) ]
 
 -- ---- hexadecimal and base-64: first what stands before the closing mark, whitespace left out; then its meaning
 
@@ -104,14 +104,14 @@ unhex (a ∷ []) = none
 unhex (a ∷ b ∷ s) = elim (ltb (hexval a) 16) [ true ↦ elim (ltb (hexval b) 16) [ true ↦ also ((hexval a * 16 + hexval b) ∷ []) (unhex s) | false ↦ none ] | false ↦ none ]
 
 -- two letters at the end
-unfoldable pub twoOf : ℕ → ℕ → Option (List ℕ)
-twoOf a b = pick (ltb (letter a) 64) (pick (ltb (letter b) 64) (pick (leftover₂ b) (some (octet₁ a b ∷ [])) none) none) none
+unfoldable pub twoOf : Rules → ℕ → ℕ → Option (List ℕ)
+twoOf ρ a b = pick (ltb (letter a) 64) (pick (ltb (letter b) 64) (pick (ρ .leftover (letter b % 16)) (some (octet₁ a b ∷ [])) none) none) none
 
 -- at the end, two letters and a pad, or three letters
-unfoldable pub threeOf : ℕ → ℕ → ℕ → Option (List ℕ)
-threeOf a b c =
-    pick (eqb c 61) (twoOf a b)
-    (pick (ltb (letter a) 64) (pick (ltb (letter b) 64) (pick (ltb (letter c) 64) (pick (leftover₃ c) (some (octet₁ a b ∷ octet₂ b c ∷ [])) none) none) none) none)
+unfoldable pub threeOf : Rules → ℕ → ℕ → ℕ → Option (List ℕ)
+threeOf ρ a b c =
+    pick (eqb c 61) (twoOf ρ a b)
+    (pick (ltb (letter a) 64) (pick (ltb (letter b) 64) (pick (ltb (letter c) 64) (pick (ρ .leftover (letter c % 4)) (some (octet₁ a b ∷ octet₂ b c ∷ [])) none) none) none) none)
 
 -- a meaning, where nothing is left
 unfoldable pub lastly : Option (List ℕ) → List ℕ → Option (List ℕ)
@@ -128,12 +128,12 @@ unfoldable pub joined : Option (List ℕ) → Option (List ℕ) → Option (List
 joined none o = none
 joined (some d) o = also d o
 
-unfoldable pub unbase : List ℕ → Option (List ℕ)
-unbase [] = some []
-unbase (a ∷ []) = none
-unbase (a ∷ b ∷ []) = twoOf a b
-unbase (a ∷ b ∷ c ∷ []) = threeOf a b c
-unbase (a ∷ b ∷ c ∷ e ∷ s) = elim (eqb e 61) [ true ↦ lastly (threeOf a b c) s | false ↦ joined (fourOf a b c e) (unbase s) ]
+unfoldable pub unbase : Rules → List ℕ → Option (List ℕ)
+unbase ρ [] = some []
+unbase ρ (a ∷ []) = none
+unbase ρ (a ∷ b ∷ []) = twoOf ρ a b
+unbase ρ (a ∷ b ∷ c ∷ []) = threeOf ρ a b c
+unbase ρ (a ∷ b ∷ c ∷ e ∷ s) = elim (eqb e 61) [ true ↦ lastly (threeOf ρ a b c) s | false ↦ joined (fourOf a b c e) (unbase ρ s) ]
 
 unfoldable pub decoded : Option (List ℕ) → List ℕ → Read (List ℕ)
 decoded none k = refused
@@ -142,15 +142,15 @@ decoded (some d) k = got d k
 -- ---- simple strings
 
 -- after the opening mark m: quoted, hexadecimal or base-64
-unfoldable pub marked : ℕ → List ℕ → Read (List ℕ)
-marked m s =
+unfoldable pub marked : Rules → ℕ → List ℕ → Read (List ℕ)
+marked ρ m s =
     elim (eqb m 34) [
-      | true ↦ quotedBy (length s) s
+      | true ↦ quotedBy ρ (length s) s
       | false ↦
           elim (eqb m 35) [
             | true ↦ bind (upto 35 s) (λ l k. decoded (unhex l) k)
             | false ↦
-                elim (eqb m 124) [ true ↦ bind (upto 124 s) (λ l k. decoded (unbase l) k) | false ↦ refused ]
+                elim (eqb m 124) [ true ↦ bind (upto 124 s) (λ l k. decoded (unbase ρ l) k) | false ↦ refused ]
           ]
     ]
 
@@ -159,18 +159,18 @@ unfoldable pub sized : ℕ → List ℕ → List ℕ → Read (List ℕ)
 sized n d k = pick (eqb (length d) n) (got d k) refused
 
 -- after a decimal
-unfoldable pub afterNumber : ℕ → List ℕ → Read (List ℕ)
-afterNumber n [] = refused
-afterNumber n (b ∷ s) = elim (eqb b 58) [ true ↦ first n s | false ↦ bind (marked b s) (sized n) ]
+unfoldable pub afterNumber : Rules → ℕ → List ℕ → Read (List ℕ)
+afterNumber ρ n [] = refused
+afterNumber ρ n (b ∷ s) = elim (eqb b 58) [ true ↦ first n s | false ↦ bind (marked ρ b s) (sized n) ]
 
 -- simple-string
-unfoldable pub simple : List ℕ → Read (List ℕ)
-simple [] = refused
-simple (b ∷ s) =
+unfoldable pub simple : Rules → List ℕ → Read (List ℕ)
+simple ρ [] = refused
+simple ρ (b ∷ s) =
     elim (isDigit b) [
-      | true ↦ bind (decimal b s) afterNumber
+      | true ↦ bind (decimal b s) (afterNumber ρ)
       | false ↦
-          elim (isTokenStart b) [ true ↦ bind (run s) (λ d k. got (b ∷ d) k) | false ↦ marked b s ]
+          elim (isTokenStart b) [ true ↦ bind (run s) (λ d k. got (b ∷ d) k) | false ↦ marked ρ b s ]
     ]
 
 -- ---- the strings of form 1: verbatim only

@@ -10,6 +10,7 @@ use borrow.Author.Tests.{lt-ltb, le-ltb, le-leb, lt-leb, eq-eqb, ne-eqb}
 use Rattle.base.specs.Choice.{pick}
 use Rattle.base.proofs.Cases.{picked, unpicked}
 use Rattle.model.specs.Octets.{hexval, octval, escape}
+use Rattle.model.specs.Grammar.{rules}
 use Rattle.model.specs.Strings.{Read, got, refused, past, hexOf, octalBy, octalOf, escaped}
 use Rattle.scan.proofs.Places.{one-here, two-here}
 use Rattle.quoted.specs.Pieces.{Escapes}
@@ -117,15 +118,15 @@ module _ (src : List ℕ) (at : ℕ) where
     line-one h e = record { on = omega arith; within = omega arith; reads = ap (got []) (ap (past other) (one-here src at h) ∙ unpicked _ _ (ne-eqb _ _ e) ∙ sym (one-here src at h)) }
 
   -- ---- after a backslash
-  pub escaped-end : length src ≤ at → Escapes src (escaped (drop at src)) at NoPiece
+  pub escaped-end : length src ≤ at → Escapes src (escaped rules (drop at src)) at NoPiece
   unfolding Escapes escaped
-  escaped-end h = ap escaped (drop-of-length-le src h)
+  escaped-end h = ap (escaped rules) (drop-of-length-le src h)
 
   module _ (h : at < length src) (v : ℕ) (x : v ≡ escape (getD src at 0)) where
-    pub escaped-named : v < 256 → Escapes src (escaped (drop at src)) at (One v (at + 1))
+    pub escaped-named : v < 256 → Escapes src (escaped rules (drop at src)) at (One v (at + 1))
     unfolding Escapes escaped
     escaped-named k =
-        record { on = omega arith; within = omega arith; reads = ap escaped (one-here src at h) ∙ picked _ _ (lt-ltb (escape (getD src at 0)) 256 (omega arith)) ∙ rw x }
+        record { on = omega arith; within = omega arith; reads = ap (escaped rules) (one-here src at h) ∙ picked _ _ (lt-ltb (escape (getD src at 0)) 256 (omega arith)) ∙ rw x }
 
     module _ (k : 256 ≤ v) where
       unnamed : ltb (escape (getD src at 0)) 256 ≡ false
@@ -139,22 +140,22 @@ module _ (src : List ℕ) (at : ℕ) where
       moved y z to (Quote n) i e p = p
       moved y z to NoPiece i e p = e ∙ p
 
-      pub escaped-hex : getD src at 0 ≡ 120 → (r : Piece) → Escapes src (hexOf (drop (at + 1) src)) (at + 1) r → Escapes src (escaped (drop at src)) at r
+      pub escaped-hex : getD src at 0 ≡ 120 → (r : Piece) → Escapes src (hexOf (drop (at + 1) src)) (at + 1) r → Escapes src (escaped rules (drop at src)) at r
       unfolding escaped
-      escaped-hex e r p = moved _ _ (at + 1) r (omega arith) (ap escaped (one-here src at h) ∙ unpicked _ _ unnamed ∙ picked _ _ (eq-eqb _ _ e)) p
+      escaped-hex e r p = moved _ _ (at + 1) r (omega arith) (ap (escaped rules) (one-here src at h) ∙ unpicked _ _ unnamed ∙ picked _ _ (eq-eqb _ _ e)) p
 
       module _ (n : getD src at 0 ≡ 120 → ⊥) where
-        pub escaped-cr : getD src at 0 ≡ 13 → (r : Piece) → Escapes src (got [] (past 10 (drop (at + 1) src))) (at + 1) r → Escapes src (escaped (drop at src)) at r
+        pub escaped-cr : getD src at 0 ≡ 13 → (r : Piece) → Escapes src (got [] (past 10 (drop (at + 1) src))) (at + 1) r → Escapes src (escaped rules (drop at src)) at r
         unfolding escaped
-        escaped-cr e r p = moved _ _ (at + 1) r (omega arith) (ap escaped (one-here src at h) ∙ unpicked _ _ unnamed ∙ unpicked _ _ (ne-eqb _ _ n) ∙ picked _ _ (eq-eqb _ _ e)) p
+        escaped-cr e r p = moved _ _ (at + 1) r (omega arith) (ap (escaped rules) (one-here src at h) ∙ unpicked _ _ unnamed ∙ unpicked _ _ (ne-eqb _ _ n) ∙ picked _ _ (eq-eqb _ _ e)) p
 
         module _ (m : getD src at 0 ≡ 13 → ⊥) where
-          pub escaped-lf : getD src at 0 ≡ 10 → (r : Piece) → Escapes src (got [] (past 13 (drop (at + 1) src))) (at + 1) r → Escapes src (escaped (drop at src)) at r
+          pub escaped-lf : getD src at 0 ≡ 10 → (r : Piece) → Escapes src (got [] (past 13 (drop (at + 1) src))) (at + 1) r → Escapes src (escaped rules (drop at src)) at r
           unfolding escaped
           escaped-lf e r p =
-              moved _ _ (at + 1) r (omega arith) (ap escaped (one-here src at h) ∙ unpicked _ _ unnamed ∙ unpicked _ _ (ne-eqb _ _ n) ∙ unpicked _ _ (ne-eqb _ _ m) ∙ picked _ _ (eq-eqb _ _ e)) p
+              moved _ _ (at + 1) r (omega arith) (ap (escaped rules) (one-here src at h) ∙ unpicked _ _ unnamed ∙ unpicked _ _ (ne-eqb _ _ n) ∙ unpicked _ _ (ne-eqb _ _ m) ∙ picked _ _ (eq-eqb _ _ e)) p
 
-          pub escaped-octal : (getD src at 0 ≡ 10 → ⊥) → (r : Piece) → Escapes src (octalOf (getD src at 0) (drop (at + 1) src)) at r → Escapes src (escaped (drop at src)) at r
+          pub escaped-octal : (getD src at 0 ≡ 10 → ⊥) → (r : Piece) → Escapes src (octalOf (getD src at 0) (drop (at + 1) src)) at r → Escapes src (escaped rules (drop at src)) at r
           unfolding escaped
           escaped-octal e r p =
-              moved _ _ at r (omega arith) (ap escaped (one-here src at h) ∙ unpicked _ _ unnamed ∙ unpicked _ _ (ne-eqb _ _ n) ∙ unpicked _ _ (ne-eqb _ _ m) ∙ unpicked _ _ (ne-eqb _ _ e)) p
+              moved _ _ at r (omega arith) (ap (escaped rules) (one-here src at h) ∙ unpicked _ _ unnamed ∙ unpicked _ _ (ne-eqb _ _ n) ∙ unpicked _ _ (ne-eqb _ _ m) ∙ unpicked _ _ (ne-eqb _ _ e)) p

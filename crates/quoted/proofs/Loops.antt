@@ -4,17 +4,18 @@ use native.Mathlib.Omega.{arith}
 use mathlib.Core.Path.{_≡_, ap, _∙_}
 use mathlib.Core.List.{List, [], append-nil}
 use lib.ListN.{length, take, drop, getD}
+use Rattle.model.specs.Grammar.{rules}
 use Rattle.model.specs.Strings.{got, bind, marked}
 use Rattle.scan.specs.Marks.{Stretch, Last}
 use Rattle.quoted.specs.Pieces.{Quotes, Unescaped}
 use Rattle.quoted.proofs.PieceSteps.{piece-quote}
 
-module _ (src : List ℕ) (at j : ℕ) (s : Stretch (marked 34) src at (take (j - at) (drop at src)) j) where
+module _ (src : List ℕ) (at j : ℕ) (s : Stretch (marked rules 34) src at (take (j - at) (drop at src)) j) where
   pub unescaped-whole : j < length src → getD src j 0 ≡ 34 → Unescaped src at (j + 1)
   unfolding bind Quotes
   unescaped-whole h e =
       let z : j + 1 - at - 1 ≡ j - at = omega (arith, s .on) in
-      let c : Last (marked 34) src j [] (j + 1) = piece-quote src j h e in
+      let c : Last (marked rules 34) src j [] (j + 1) = piece-quote src j h e in
       record {
         from = omega (arith, s .on);
         within = omega arith;

@@ -3,6 +3,7 @@ use Prim.Native.Nat.{ℕ, _-_, _≤_, _<_}
 use mathlib.Core.Path.{_≡_}
 use mathlib.Core.List.{List, [], _∷_}
 use lib.ListN.{length, take, drop}
+use Rattle.model.specs.Grammar.{rules}
 use Rattle.model.specs.Strings.{Read, got, refused, marked}
 use Rattle.scan.specs.Marks.{Chunk, Last}
 use Rattle.quoted.specs.declared.escapes.Piece.{Piece}
@@ -22,13 +23,13 @@ Escapes src y at (Quote next) = ⊥
 Escapes src y at NoPiece = y ≡ refused
 
 unfoldable pub Quotes : List ℕ → ℕ → Piece → Type 0
-Quotes src at (One o next) = Chunk (marked 34) src at (o ∷ []) next
-Quotes src at (Gone next) = Chunk (marked 34) src at [] next
-Quotes src at (Quote next) = Last (marked 34) src at [] next
-Quotes src at NoPiece = marked 34 (drop at src) ≡ refused
+Quotes src at (One o next) = Chunk (marked rules 34) src at (o ∷ []) next
+Quotes src at (Gone next) = Chunk (marked rules 34) src at [] next
+Quotes src at (Quote next) = Last (marked rules 34) src at [] next
+Quotes src at NoPiece = marked rules 34 (drop at src) ≡ refused
 
 -- the string whose octets begin at a place has nothing escaped and ends at r, its mark included; or it is another
 pub record Unescaped (src : List ℕ) (at r : ℕ) : Type 0 where
   pub from : at ≤ r
   pub within : r ≤ length src
-  pub is : at < r → marked 34 (drop at src) ≡ got (take (r - at - 1) (drop at src)) (drop r src)
+  pub is : at < r → marked rules 34 (drop at src) ≡ got (take (r - at - 1) (drop at src)) (drop r src)

@@ -2,6 +2,7 @@
 ghost use Prim.Native.Nat.{_+_, _≤_, _<_};
 ghost use mathlib.Core.List.{[]};
 ghost use lib.ListN.{length, drop, getD};
+ghost use Rattle.model.specs.Grammar.{rules};
 ghost use Rattle.model.specs.Strings.{got, past, hexOf, octalOf, escaped};
 ghost use Rattle.octets.specs.Classes.{Classed};
 ghost use Rattle.quoted.specs.Pieces.{Escapes};
@@ -88,7 +89,7 @@ fn line_escape(src: &[u8], at: usize, other: u8) -> Piece
 pub fn escape_at(classes: &[u8; 256], src: &[u8], at: usize) -> Piece
     requires { ⌜ Classed (now classes) ⌝ }
     requires { ⌜ at ≤ length (now src) ⌝ }
-    ensures { λ r. ⌜ Escapes (now (src .entry)) (escaped (drop at (now (src .entry)))) at r ⌝ }
+    ensures { λ r. ⌜ Escapes (now (src .entry)) (escaped rules (drop at (now (src .entry)))) at r ⌝ }
 {
     if at >= src.len() {
         return Piece::NoPiece;

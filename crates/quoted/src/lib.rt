@@ -1,6 +1,7 @@
 // Quoted strings, from after their opening mark: a piece at a place, and runs of octets that stand for themselves.
 ghost use Prim.Native.Nat.{_-_, _≤_};
 ghost use lib.ListN.{length, take, drop};
+ghost use Rattle.model.specs.Grammar.{rules};
 ghost use Rattle.model.specs.Strings.{marked};
 ghost use Rattle.octets.specs.Classes.{Classed};
 ghost use Rattle.scan.specs.Marks.{Stretch};
@@ -41,7 +42,7 @@ pub fn piece_at(classes: &[u8; 256], src: &[u8], at: usize) -> Piece
 pub fn plain_end(classes: &[u8; 256], src: &[u8], at: usize) -> usize
     requires { ⌜ Classed (now classes) ⌝ }
     requires { ⌜ at ≤ length (now src) ⌝ }
-    ensures { λ r. ⌜ Stretch (marked 34) (now (src .entry)) at (take (r - at) (drop at (now (src .entry)))) r ⌝ }
+    ensures { λ r. ⌜ Stretch (marked rules 34) (now (src .entry)) at (take (r - at) (drop at (now (src .entry)))) r ⌝ }
 {
     class_end(classes, src, at, src.len(), 4)
 }

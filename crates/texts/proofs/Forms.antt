@@ -9,6 +9,7 @@ use lib.ListN.{length, getD}
 use borrow.Author.Tests.{ne-eqb}
 use Rattle.base.specs.Choice.{chain}
 use Rattle.base.proofs.Cases.{by-eq, unpicked, differ}
+use Rattle.model.specs.Grammar.{rules}
 use Rattle.model.specs.Decode.{nestings, onlyTree, onlyIn, nest, decode₁, decode₂, decode₃, decode}
 use Rattle.model.specs.Lexemes.{lexemesBy, strictLexemes}
 use Rattle.model.specs.Tree.{Tree, canon}
@@ -19,18 +20,18 @@ use Rattle.texts.proofs.Taking.{converted}
 
 -- ---- form 2 with a brace, or another text
 
-empty-bare : (s : List ℕ) → length s ≡ 0 → decode₂ s ≡ decode₁ s
+empty-bare : (s : List ℕ) → length s ≡ 0 → decode₂ rules s ≡ decode₁ s
 unfolding decode₂ decode₁ chain strictLexemes lexemesBy nest nestings onlyIn onlyTree
 empty-bare [] h = refl
 empty-bare (b ∷ s) h = absurd (omega arith)
 
-other-bare : (s : List ℕ) → (length s ≡ 0 → ⊥) → (getD s 0 0 ≡ 123 → ⊥) → decode₂ s ≡ decode₁ s
+other-bare : (s : List ℕ) → (length s ≡ 0 → ⊥) → (getD s 0 0 ≡ 123 → ⊥) → decode₂ rules s ≡ decode₁ s
 unfolding decode₂
 other-bare [] n e = absurd (omega arith)
 other-bare (b ∷ s) n e = unpicked _ _ (ne-eqb b 123 e)
 
 module _ (form : ℕ) (text : List ℕ) where
-  bare : decode₂ text ≡ decode₁ text → 1 ≤ form → form ≤ 2 → decode form text ≡ decode₁ text
+  bare : decode₂ rules text ≡ decode₁ text → 1 ≤ form → form ≤ 2 → decode form text ≡ decode₁ text
   unfolding decode
   bare e lo hi = by-eq form 1 (λ a. rw a) (λ a. let b : form ≡ 2 = omega arith in rw b e)
 
@@ -66,11 +67,15 @@ module _ (form : ℕ) (text : List ℕ) (room : ℕ) (g : Takeable form (length 
     as-form : (y : Option Tree) → decode form text ≡ y → Taken y scratch notes notes′ r → Taken (decode form text) scratch notes notes′ r
     as-form y e t = rw e t
 
-    pub form-advanced : form ≡ 3 → Converts (decode₃ text) scratch notes notes′ r → Taken (decode form text) scratch notes notes′ r
+    pub form-advanced : form ≡ 3 → Converts false (decode₃ rules false text) scratch notes notes′ r → Taken (decode form text) scratch notes notes′ r
     unfolding decode
-    form-advanced e t = as-form (decode₃ text) (rw e) (converted (decode₃ text) scratch notes notes′ r t)
+    form-advanced e t = as-form (decode₃ rules false text) (rw e) (converted (decode₃ rules false text) scratch notes notes′ r t)
 
-  module _ (n : form ≡ 3 → ⊥) (b : Bool) (o : Opens form text b) where
+    pub form-terminal : form ≡ 4 → Taken (decode₃ rules true text) scratch notes notes′ r → Taken (decode form text) scratch notes notes′ r
+    unfolding decode
+    form-terminal e t = as-form (decode₃ rules true text) (rw e) t
+
+  module _ (n : form ≡ 3 → ⊥) (m : form ≡ 4 → ⊥) (b : Bool) (o : Opens form text b) where
     enclosed : b ≡ true → Enclosed form text
     unfolding Opens
     enclosed e = subst (Opens form text) e o
@@ -79,8 +84,8 @@ module _ (form : ℕ) (text : List ℕ) (room : ℕ) (g : Takeable form (length 
     form-brace e = enclosed e .braced
 
     module _ (scratch notes notes′ : List ℕ) (r : Extent) where
-      pub form-braced : b ≡ true → Taken (decode₂ text) scratch notes notes′ r → Taken (decode form text) scratch notes notes′ r
-      form-braced e t = as-form scratch notes notes′ r (decode₂ text) (enclosed e .is) t
+      pub form-braced : b ≡ true → Taken (decode₂ rules text) scratch notes notes′ r → Taken (decode form text) scratch notes notes′ r
+      form-braced e t = as-form scratch notes notes′ r (decode₂ rules text) (enclosed e .is) t
 
       pub form-canonical : b ≡ false → Taken (decode₁ text) scratch notes notes′ r → Taken (decode form text) scratch notes notes′ r
       unfolding Opens

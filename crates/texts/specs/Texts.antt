@@ -9,6 +9,7 @@ use lib.ListN.{length, take, getD}
 use lib.Dec.{ltb}
 use Rattle.base.specs.Choice.{pick}
 use Rattle.model.specs.Tree.{Tree, canon, nodes, depth}
+use Rattle.model.specs.Grammar.{rules}
 use Rattle.model.specs.Decode.{decode₁, decode₂, decode}
 use Rattle.model.specs.Limits.{maxSource, maxCanonical, maxDepth, Accepted, Form, SourceSize}
 use Rattle.model.specs.Answers.{noForm}
@@ -26,13 +27,13 @@ textVerdict form len = pick (noForm form) Form (pick (ltb maxSource len) SourceS
 -- a text that rows 1 and 2 don't apply to, and scratch for it
 pub record Takeable (form n room : ℕ) : Type 0 where
   pub low : 1 ≤ form
-  pub high : form ≤ 3
+  pub high : form ≤ 4
   pub lent : Lent n room
 
 -- a text of n octets, no more than a bound, to which rows 1 and 2 don't apply
 pub record Formed (form n bound : ℕ) : Type 0 where
   pub low : 1 ≤ form
-  pub high : form ≤ 3
+  pub high : form ≤ 4
   pub short : n ≤ bound
 
 -- a text that begins with a brace
@@ -43,7 +44,7 @@ pub record Braced (text : List ℕ) : Type 0 where
 -- how a text of form 1 or 2 is to be taken
 pub record Enclosed (form : ℕ) (text : List ℕ) : Type 0 where
   pub braced : Braced text
-  pub is : decode form text ≡ decode₂ text
+  pub is : decode form text ≡ decode₂ rules text
 
 unfoldable pub Opens : ℕ → List ℕ → Bool → Type 0
 Opens form text true = Enclosed form text
