@@ -16,7 +16,7 @@ use Rattle.base.proofs.Cases.{differ, both-true, picked, unpicked, none-some, c
 use Rattle.model.specs.Grammar.{rules}
 use Rattle.model.specs.Decode.{nest, braces, lexemeIn, lexemes, decode₃}
 use Rattle.model.specs.Lexemes.{Lexeme, opening, closing, lexeme, before}
-use Rattle.model.specs.Limits.{maxCanonical, maxDepth}
+use Rattle.model.specs.Limits.{maxSource, maxCanonical, maxDepth}
 use Rattle.model.specs.Strings.{Read, got, refused, skip}
 use Rattle.model.specs.Tree.{Tree, canon, depth}
 use Rattle.model.proofs.Apart.{rules-apart}
@@ -180,6 +180,9 @@ module _ (β : Bool) (src out₀ notes₀ out starts nodeNos notes : List ℕ) (
   pub convert-long : length out ≡ length out₀
   convert-long = w .long
 
+  pub convert-low : r ≤ maxSource
+  convert-low = omega (arith, w .low)
+
   pub convert-notes : length notes ≡ length notes₀
   convert-notes = w .notesLong
 
@@ -295,7 +298,7 @@ module _ (β : Bool) (src out₀ notes₀ out starts nodeNos notes : List ℕ) (
 
         opens : getD src i 0 ≡ 40 → lexemeIn rules β (drop i src) ≡ got opening (drop (i + 1) src)
         unfolding lexeme
-        opens e = ap (lexemeIn rules β) (one-here src i h) ∙ lexeme-in-other rules β _ _ (unbrace-test β _ (λ z. omega arith)) ∙ picked _ _ (eq-eqb _ _ e)
+        opens e = ap (lexemeIn rules β) (one-here src i h) ∙ lexeme-in-other rules β (getD src i 0) (drop (i + 1) src) (unbrace-test β (getD src i 0) (λ z. omega (arith, z, e))) ∙ picked _ _ (eq-eqb _ _ e)
 
         pub open-on : getD src i 0 ≡ 40 → (m : ℕ) → m ≡ max d (o + 1) → (r′ : ℕ) → Wrapped (r + 1) r′ → (starts′ nodeNos′ : List ℕ) → Entered o r n starts nodeNos starts′ nodeNos′
             → Converting β src out₀ notes₀ (set out r 40) starts′ nodeNos′ notes (i + 1) (len + 1) r′ (o + 1) m (n + 1)
@@ -308,7 +311,7 @@ module _ (β : Bool) (src out₀ notes₀ out starts nodeNos notes : List ℕ) (
         module _ (a : getD src i 0 ≡ 40 → ⊥) (e : getD src i 0 ≡ 41) where
           closes : lexemeIn rules β (drop i src) ≡ got closing (drop (i + 1) src)
           unfolding lexeme
-          closes = ap (lexemeIn rules β) (one-here src i h) ∙ lexeme-in-other rules β _ _ (unbrace-test β _ (λ z. omega arith)) ∙ unpicked _ _ (ne-eqb _ _ a) ∙ picked _ _ (eq-eqb _ _ e)
+          closes = ap (lexemeIn rules β) (one-here src i h) ∙ lexeme-in-other rules β (getD src i 0) (drop (i + 1) src) (unbrace-test β (getD src i 0) (λ z. omega (arith, z, e))) ∙ unpicked _ _ (ne-eqb _ _ a) ∙ picked _ _ (eq-eqb _ _ e)
 
           pub close-none : o ≡ 0 → Converts β (decode₃ rules β src) out notes₀ notes Refused
           unfolding step
@@ -339,68 +342,65 @@ module _ (β : Bool) (src out₀ notes₀ out starts nodeNos notes : List ℕ) (
           here = p .reads ∙ one-here src i h ∙ ap (λ (b : ℕ). b ∷ drop (i + 1) src) (eqb-true _ _ (pair .1))
 
           module _ (out₁ : List ℕ) (v : Inside) (s : Holds src i r out out₁ v) where
+            not-held : v ≡ NoTree → braces rules (drop (i + 1) src) ≡ refused
+            unfolding Holds
+            not-held e = subst (Holds src i r out out₁) e s
+
             pub held-refused : v ≡ NoTree → (b : List ℕ) → Converts β (decode₃ rules β src) b notes₀ notes Refused
             unfolding chain
             held-refused e b =
                 refusal β src b notes₀ notes (w .same ∙ ap (λ (v : Option (List Lexeme)). walking v (count o d n))
                 (held-none rules-apart β (pair .0) (drop at src) (drop (i + 1) src) here (not-held e)))
-              where
-                not-held : v ≡ NoTree → braces rules (drop (i + 1) src) ≡ refused
-                unfolding Holds
-                not-held e = subst (Holds src i r out out₁) e s
 
             module _ (next k c m : ℕ) (e : v ≡ inside.Held next k c m) where
-              it : TreeAt src i r out out₁ next k c m
+              at-tree : TreeAt src i r out out₁ next k c m
               unfolding Holds
-              it = subst (Holds src i r out out₁) e s
-
-              t : Tree
-              t = it .tree
+              at-tree = subst (Holds src i r out out₁) e s
 
               small : (2 * c ≤ k) × (m ≤ c)
-              small = (omega (arith, nodes-half (it .tree), it .long, it .counted), omega (arith, depth-within (it .tree), it .counted, it .deepest))
+              small = (omega (arith, nodes-half (at-tree .tree), at-tree .long, at-tree .counted), omega (arith, depth-within (at-tree .tree), at-tree .counted, at-tree .deepest))
 
               pub held-less : length src - next < length src - at
-              held-less = omega (arith, p .from, it .few, it .within)
+              held-less = omega (arith, p .from, at-tree .few, at-tree .within)
 
               pub held-deep : Fits w64 (o + m)
-              held-deep = omega (arith, w .few, w .lent .short, w .inside, it .few, it .within, p .from, small)
+              held-deep = omega (arith, w .few, w .lent .short, w .inside, at-tree .few, at-tree .within, p .from, small)
 
               pub held-many : Fits w64 (n + c)
-              held-many = omega (arith, w .few, w .lent .short, w .inside, it .few, it .within, p .from, small)
+              held-many = omega (arith, w .few, w .lent .short, w .inside, at-tree .few, at-tree .within, p .from, small)
 
               pub held-long : Fits w64 (len + k)
-              held-long = omega (arith, w .few, w .lent .short, w .inside, it .few, it .within, p .from)
+              held-long = omega (arith, w .few, w .lent .short, w .inside, at-tree .few, at-tree .within, p .from)
 
               pub held-end : Fits w64 (r + k)
-              held-end = omega (arith, w .low, w .lent .short, it .few, it .within)
+              held-end = omega (arith, w .low, w .lent .short, at-tree .few, at-tree .within)
 
-              passes-tree : lexemes rules β (drop at src) ≡ unnesting (it .tree) (lexemes rules β (drop next src))
-              passes-tree = held-lexemes rules-apart β (pair .0) (drop at src) (drop (i + 1) src) (drop next src) (it .tree) here (held-of (it .reads))
+              passes-tree : lexemes rules β (drop at src) ≡ unnesting (at-tree .tree) (lexemes rules β (drop next src))
+              passes-tree = held-lexemes rules-apart β (pair .0) (drop at src) (drop (i + 1) src) (drop next src) (at-tree .tree) here (held-of (at-tree .reads))
 
               pub held-on : (d′ : ℕ) → d′ ≡ max d (o + m) → (r′ : ℕ) → Wrapped (r + k) r′ → Converting β src out₀ notes₀ out₁ starts nodeNos notes next (len + k) r′ o d′ (n + c)
               held-on d′ g r′ u =
-                  let z : octetsOfLexemes (w .passed ++ unnest (it .tree) []) ≡ octetsOfLexemes (w .passed) ++ canon (it .tree) =
-                  octets-both (w .passed) (unnest (it .tree) []) ∙ ap (λ (x : List ℕ). octetsOfLexemes (w .passed) ++ x) (unnest-canon (it .tree)) in
+                  let z : octetsOfLexemes (w .passed ++ unnest (at-tree .tree) []) ≡ octetsOfLexemes (w .passed) ++ canon (at-tree .tree) =
+                  octets-both (w .passed) (unnest (at-tree .tree) []) ∙ ap (λ (x : List ℕ). octetsOfLexemes (w .passed) ++ x) (unnest-canon (at-tree .tree)) in
                   record {
-                    inside = it .within;
+                    inside = at-tree .within;
                     lent = w .lent;
-                    long = it .front .long ∙ w .long;
+                    long = at-tree .front .long ∙ w .long;
                     low = u .low;
-                    treble = omega (arith, u .less, w .treble, p .from, it .few);
-                    few = (omega (arith, w .few, p .from, it .few), omega (arith, w .few, p .from, it .few, small, g), omega (arith, w .few, p .from, it .few, small), omega (arith, w .few, p .from, it .few));
+                    treble = omega (arith, u .less, w .treble, p .from, at-tree .few);
+                    few = (omega (arith, w .few, p .from, at-tree .few), omega (arith, w .few, p .from, at-tree .few, small, g), omega (arith, w .few, p .from, at-tree .few, small), omega (arith, w .few, p .from, at-tree .few));
                     level = omega (arith, w .level, g);
-                    passed = w .passed ++ unnest (it .tree) [];
-                    all = w .all ∙ ap (prefixed (w .passed)) passes-tree ∙ prefixed-tree (w .passed) (it .tree) (lexemes rules β (drop next src));
+                    passed = w .passed ++ unnest (at-tree .tree) [];
+                    all = w .all ∙ ap (prefixed (w .passed)) passes-tree ∙ prefixed-tree (w .passed) (at-tree .tree) (lexemes rules β (drop next src));
                     same = w .same ∙ ap (λ (v : Option (List Lexeme)). walking v (count o d n)) passes-tree
-                    ∙ walking-tree (it .tree) (lexemes rules β (drop next src)) (count o d n) not-shut (w .level)
-                    ∙ ap₂ (λ (x y : ℕ). walking (lexemes rules β (drop next src)) (count o x y)) (rw (g, it .deepest)) (rw (it .counted));
-                    size = ap length z ∙ length-append (octetsOfLexemes (w .passed)) (canon (it .tree)) ∙ omega (arith, w .size, it .long);
+                        ∙ walking-tree (at-tree .tree) (lexemes rules β (drop next src)) (count o d n) not-shut (w .level)
+                        ∙ ap₂ (λ (x y : ℕ). walking (lexemes rules β (drop next src)) (count o x y)) (sym (g ∙ ap (λ (x : ℕ). max d (o + x)) (at-tree .deepest))) (ap (λ (x : ℕ). n + x) (sym (at-tree .counted)));
+                    size = ap length z ∙ length-append (octetsOfLexemes (w .passed)) (canon (at-tree .tree)) ∙ omega (arith, w .size, at-tree .long);
                     place = λ m. omega (arith, w .place (omega arith), u .on (omega (arith, w .place (omega arith))));
                     front = λ m.
                         let f : r ≡ len = w .place (omega arith) in
                         subst (λ (x : List ℕ). Front x 0 out₀ out₁ (len + k)) (sym z)
-                        (front-both (octetsOfLexemes (w .passed)) (canon (it .tree)) 0 len (len + k) out₀ out out₁ (w .front (omega arith)) (subst (λ (x : ℕ). Front (canon (it .tree)) x out out₁ (x + k)) f (it .front)));
+                        (front-both (octetsOfLexemes (w .passed)) (canon (at-tree .tree)) 0 len (len + k) out₀ out out₁ (w .front (omega arith)) (subst (λ (x : ℕ). Front (canon (at-tree .tree)) x out out₁ (x + k)) f (at-tree .front)));
                     notesLong = w .notesLong;
                     stacked = stacked-on starts nodeNos (maxCanonical + 1) o n (w .stacked) (maxCanonical + 1) o (n + c) (omega arith) (omega arith) (omega arith);
                     coming = λ b g. differ (pair .0) b;

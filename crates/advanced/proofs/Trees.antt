@@ -4,15 +4,20 @@ use mir.Val.{Fits}
 use Prim.Native.Nat.{ℕ, _+_, _-_, _≤_, _<_}
 use native.Mathlib.Omega.{arith}
 use mathlib.Core.Path.{_≡_, refl, sym, ap, _∙_, subst}
+use mathlib.Core.Bool.{Bool, true, false}
 use mathlib.Core.Option.{Option, none, some}
 use mathlib.Core.List.{List, [], _∷_, _++_}
 use lib.ListN.{length, take, drop, length-drop}
 use lib.Seq.{length-take-le, drop-at, take-add}
+use lib.Dec.{eqb}
+use borrow.Author.Tests.{eq-eqb}
+use Rattle.base.specs.Choice.{both}
 use Rattle.model.specs.Decode.{decode₁, canonicalOf, braces}
 use Rattle.model.specs.Grammar.{rules}
 use Rattle.model.specs.Limits.{maxSource}
 use Rattle.model.specs.Strings.{Read, got, refused, bind, upto, unbase, decoded}
 use Rattle.model.specs.Tree.{Tree, canon, nodes, depth}
+use Rattle.model.proofs.Braces.{unbrace-test}
 use Rattle.model.proofs.Canonical.{canon-sound}
 use Rattle.model.proofs.Held.{Held, braces-sound, held-size}
 use Rattle.model.proofs.Marks.{upto-sound, base-sound}
@@ -50,7 +55,15 @@ canonical-none : (d k : List ℕ) → decode₁ d ≡ none → canonicalOf d k �
 unfolding canonicalOf
 canonical-none d k e = rw (canonicalOf, e)
 
-module _ (src out : List ℕ) (at pos : ℕ) (g : (at < length src) × Spare src at pos (length out)) where
+-- whether an octet opens braces
+pub opens-other : (β : Bool) (b : ℕ) → (b ≡ 123 → ⊥) → false ≡ both β (eqb b 123)
+opens-other β b n = sym (unbrace-test β b n)
+
+pub opens-brace : (β : Bool) (b : ℕ) → b ≡ 123 → β ≡ both β (eqb b 123)
+opens-brace true b e = sym (eq-eqb b 123 e)
+opens-brace false b e = refl
+
+module _ (src out : List ℕ) (at pos : ℕ) (g : (at < length src) × Spare src at pos (length out) × (pos ≤ maxSource)) where
   pub tree-space : Spacious src (at + 1) pos (length out)
   tree-space = record { inside = omega (arith, g .0); space = omega (arith, g .0, g .1 .space) }
 
@@ -70,7 +83,7 @@ module _ (src out : List ℕ) (at pos : ℕ) (g : (at < length src) × Spare src
       fits = omega (arith, letters-short (drop (at + 1) src) (told .reads), length-drop (at + 1) src, length-drop next src, told .within, many, g .0)
 
       pub tree-end : Fits w64 (pos + n)
-      tree-end = omega (arith, told .front .place, told .front .fits)
+      tree-end = omega (arith, fits, told .within, g .1 .short, g .2)
 
       pub tree-within : pos + n ≤ length out′
       tree-within = omega (arith, told .front .fits, told .front .long)
@@ -82,7 +95,7 @@ module _ (src out : List ℕ) (at pos : ℕ) (g : (at < length src) × Spare src
       abbrev part : List ℕ
       part = take (pos + n - pos) (drop pos out′)
 
-      pub part-is : part ≡ told .octets
+      part-is : part ≡ told .octets
       part-is =
           let z : pos + n - pos ≡ n = omega arith in
           ap (λ (k : ℕ). take k (drop pos out′)) z

@@ -1,9 +1,10 @@
 // A tree in braces, which form 4 has where a value may stand.
 ghost use mathlib.Core.Path.{_≡_};
-ghost use Prim.Native.Nat.{_<_};
+ghost use Prim.Native.Nat.{_≤_, _<_};
 ghost use lib.ListN.{length};
 ghost use lib.Dec.{eqb};
 ghost use Rattle.base.specs.Choice.{both};
+ghost use Rattle.model.specs.Limits.{maxSource};
 ghost use Rattle.octets.specs.Classes.{Classed, Lettered};
 ghost use Rattle.advanced.specs.Nodes.{Spare};
 ghost use Rattle.advanced.specs.Braced.{Holds};
@@ -24,10 +25,10 @@ pub enum Inside {
 pub fn opens(braces: bool, b: u8) -> bool
     ensures { λ r. ⌜ r ≡ both braces (eqb b 123) ⌝ }
 {
-    if braces {
-        return b == b'{';
+    if b != b'{' {
+        return false;
     }
-    false
+    braces
 }
 
 // A tree in braces, decoded where its octets go and measured there.
@@ -41,7 +42,7 @@ pub fn tree_at(
 ) -> Inside
     requires { ⌜ Classed (now classes) ⌝ }
     requires { ⌜ Lettered (now letters) ⌝ }
-    requires { ⌜ (at < length (now src)) × Spare (now src) at pos (length (now out)) ⌝ }
+    requires { ⌜ (at < length (now src)) × Spare (now src) at pos (length (now out)) × (pos ≤ maxSource) ⌝ }
     ensures { λ r. ⌜ Holds (now (src .entry)) at pos (now (out .entry)) (now (out .exit)) r ⌝ }
 {
     let mut n: usize = 0;
