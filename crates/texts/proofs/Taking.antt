@@ -5,7 +5,7 @@ use mathlib.Core.Path.{_≡_, refl, sym, ap, _∙_, subst}
 use mathlib.Core.Bool.{true, false}
 use mathlib.Core.Option.{Option, none, some}
 use mathlib.Core.List.{List}
-use lib.ListN.{length, take, drop}
+use lib.ListN.{length, take, drop, length-take}
 use lib.Seq.{take-length, take-at}
 use Rattle.base.proofs.Cases.{none-some}
 use Rattle.base.proofs.Stores.{sets-all}
@@ -82,36 +82,40 @@ converted o scratch notes notes′ r c =
     }
 
 -- ---- text with braces: sizes are told, and the canonical octets are noted afterwards
-module _ (o : Option Tree) (scratch notes notes′ : List ℕ) (len n d : ℕ) (c : Converts true o scratch notes notes′ (Whole len n d)) where
-  whole : Wholly o len n d
+module _ (o : Option Tree) (scratch notes notes′ : List ℕ) (x : Extent) (c : Converts true o scratch notes notes′ x) where
+  pub terminal-none : x ≡ Refused → Taken o scratch notes notes′ Refused
   unfolding Measures
-  whole = c .measures
+  terminal-none e = taken-none o scratch notes notes′ (subst (Measures o) e (c .measures))
 
-  pub terminal-long : maxCanonical < len → Taken o scratch notes notes′ (Whole len n d)
-  unfolding Measures
-  terminal-long h =
-      record {
-        measures = c .measures;
-        octets = c .octets;
-        noted = λ t z k e f. let q : t ≡ whole .tree = cc (z, whole .is) in absurd (omega (arith, whole .long, ap (λ (x : Tree). length (canon x)) q));
-      }
+  module _ (len n d : ℕ) (e : x ≡ Whole len n d) where
+    whole : Wholly o len n d
+    unfolding Measures
+    whole = subst (Measures o) e (c .measures)
 
-  module _ (h : len ≤ maxCanonical) where
-    front-is : take len scratch ≡ canon (whole .tree)
-    front-is = ap (λ (k : ℕ). take k scratch) (whole .long) ∙ c .octets (whole .tree) (whole .is) (omega (arith, whole .long))
+    pub terminal-long : maxCanonical < len → Taken o scratch notes notes′ (Whole len n d)
+    unfolding Measures
+    terminal-long h =
+        record {
+          measures = whole;
+          octets = c .octets;
+          noted = λ t z k e f. let q : t ≡ whole .tree = cc (z, whole .is) in absurd (omega (arith, whole .long, ap (λ (x : Tree). length (canon x)) q));
+        }
 
-    pub terminal-part : len ≡ length (take len scratch)
-    terminal-part = whole .long ∙ sym (ap length front-is)
+    module _ (h : len ≤ maxCanonical) where
+      front-is : take len scratch ≡ canon (whole .tree)
+      front-is = ap (λ (k : ℕ). take k scratch) (whole .long) ∙ c .octets (whole .tree) (whole .is) (omega (arith, whole .long))
 
-    pub terminal-short : length (take len scratch) ≤ maxSource
-    terminal-short = omega (arith, terminal-part)
+      pub terminal-part : len ≡ length (take len scratch)
+      terminal-part = whole .long ∙ sym (ap length front-is)
 
-    pub terminal-noted : (notes₂ : List ℕ) (r : Extent) → Noted (take len scratch) notes′ notes₂ r → length notes′ ≡ length notes → Taken o scratch notes notes₂ r
-    terminal-noted notes₂ r v k =
-        let e : o ≡ decode₁ (take len scratch) = whole .is ∙ sym (ap decode₁ front-is ∙ canon-complete (whole .tree)) in
-        let t : Taken o scratch notes′ notes₂ r = through o (take len scratch) scratch notes′ notes₂ r v terminal-short e (λ _. ap (λ (k : ℕ). take k scratch) (sym terminal-part)) in
-        record { measures = t .measures; octets = t .octets; noted = λ u z x y w. t .noted u z x y (omega arith) }
+      pub terminal-lent : len ≤ length scratch
+      terminal-lent = omega (arith, terminal-part, length-take len scratch)
 
-pub terminal-none : (o : Option Tree) (scratch notes notes′ : List ℕ) → Converts true o scratch notes notes′ Refused → Taken o scratch notes notes′ Refused
-unfolding Measures
-terminal-none o scratch notes notes′ c = taken-none o scratch notes notes′ (c .measures)
+      pub terminal-short : length (take len scratch) ≤ maxSource
+      terminal-short = omega (arith, terminal-part)
+
+      pub terminal-noted : length notes′ ≡ length notes → (notes₂ : List ℕ) (r : Extent) → Noted (take len scratch) notes′ notes₂ r → Taken o scratch notes notes₂ r
+      terminal-noted k notes₂ r v =
+          let e : o ≡ decode₁ (take len scratch) = whole .is ∙ sym (ap decode₁ front-is ∙ canon-complete (whole .tree)) in
+          let t : Taken o scratch notes′ notes₂ r = through o (take len scratch) scratch notes′ notes₂ r v terminal-short e (λ _. ap (λ (k : ℕ). take k scratch) (sym terminal-part)) in
+          record { measures = t .measures; octets = t .octets; noted = λ u z x y w. t .noted u z x y (omega arith) }
