@@ -110,12 +110,12 @@ class Installed(unittest.TestCase):
     def test_what_is_there_and_goes_again(self) -> None:
         self.assertTrue(os.access(self.prefix / "bin/etglavino", os.X_OK))
         with tempfile.TemporaryDirectory() as stage:
-            make("install", PREFIX="/opt/etg", DESTDIR=stage)
-            there = Path(stage, "opt/etg")
-            self.assertIn("prefix=/opt/etg\n", (there / "lib/pkgconfig/etglavino.pc").read_text())
+            make("install", PREFIX="/usr/etg", DESTDIR=stage)
+            there = Path(stage, "usr/etg")
+            self.assertIn("prefix=/usr/etg\n", (there / "lib/pkgconfig/etglavino.pc").read_text())
             for name in ("share/man/man1/etglavino.1", "share/bash-completion/completions/etglavino"):
                 self.assertTrue((there / name).is_file(), name)
-            make("uninstall", PREFIX="/opt/etg", DESTDIR=stage)
+            make("uninstall", PREFIX="/usr/etg", DESTDIR=stage)
             left = [path for path in there.rglob("*") if not path.is_dir()]
             self.assertEqual(left, [])
 
