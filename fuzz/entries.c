@@ -8,8 +8,9 @@
  *
  * What an entry says is compared with what others say, and a difference ends the
  * run: a refusal leaves what is lent; flat tables and records agree; what is
- * written reads back; a node replaced is the corrected sheet read afresh; an
- * extract of an extract is the same; a spool shows what was added.
+ * written reads back; a node replaced is the corrected sheet read afresh; reading
+ * and replacing tell one place of a refused text; an extract of an extract is
+ * the same; a spool shows what was added.
  *
  * The library has no counters for libFuzzer. So inputs are kept by what they make
  * it answer, counted in `seen`, besides by what this file's code does. */
@@ -203,6 +204,22 @@ static void replaced(struct sheet *sheet, uint32_t form, const uint8_t *text, si
     HOLDS(alike(sheet, &afresh));
 }
 
+/* A correction by a refused text is refused alike and tells the same place; the octets before it, read alone, are a sheet or tell it again. */
+static void refused(struct sheet *sheet, uint32_t form, const uint8_t *text, size_t size, uint32_t number, size_t told, int at_end)
+{
+    struct sheet before;
+    size_t length, nodes, place;
+    uint32_t answer = etg_replace(form, text, size, sheet->octets, ETG_MOST_CANONICAL, sheet->table, TABLE_ROOM,
+                                  sheet->length, sheet->nodes, 0, &length, &nodes, &place);
+
+    HOLDS(answer == number && length == 0 && nodes == 0 && place == told);
+    if (told > 0) {
+        answer = read_to(&before, OTHER, OTHER_TABLE, form, text, told, at_end);
+        HOLDS(answer != ETG_FORM && answer != ETG_SOURCE_SIZE);
+        HOLDS(before.place == (answer == ETG_SYNTAX ? told : 0));
+    }
+}
+
 /* The octets as a spool's area, to which the sheet is added. */
 static void spooled(const struct sheet *sheet, const uint8_t *octets, size_t size, int at_end)
 {
@@ -228,6 +245,7 @@ int LLVMFuzzerTestOneInput(const uint8_t *data, size_t size)
 {
     struct sheet sheet;
     uint32_t form, answer;
+    size_t place;
     uint8_t *text;
     int at_end;
 
@@ -245,7 +263,9 @@ int LLVMFuzzerTestOneInput(const uint8_t *data, size_t size)
     HOLDS((answer == ETG_FORM) == (form < ETG_CANONICAL || form > ETG_ADVANCED));
     if (answer != ETG_ACCEPTED) {
         HOLDS(sheet.length == 0 && sheet.nodes == 0 && untouched(sheet.octets, ETG_MOST_CANONICAL));
+        place = sheet.place;
         HOLDS(read_to(&sheet, SHEET, TABLE, ETG_CANONICAL, (const uint8_t *)"2:ok", 4, at_end) == ETG_ACCEPTED);
+        refused(&sheet, form, text, size, answer, place, at_end);
         spooled(&sheet, text, size, at_end);
         return 0;
     }

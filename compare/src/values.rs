@@ -46,6 +46,9 @@ pub fn compare(seed: u64, count: u64) -> Tally {
     for tree in fixed() {
         sheet(&mut tally, &tree, &mut rng);
     }
+    for nodes in MAX_NODES - 2..=MAX_NODES {
+        full(&mut tally, nodes);
+    }
     for _ in 0..count {
         let tree = random(&mut rng);
         sheet(&mut tally, &tree, &mut rng);
@@ -83,6 +86,26 @@ fn sheet(tally: &mut Tally, tree: &Tree, rng: &mut Rng) {
     foreign[place] ^= 1 << rng.below(32);
     let table = &foreign;
     ask(tally, second::Lent { table, ..lent }, nodes - 1);
+}
+
+/// A list of empty strings with so many nodes: the first, some in the middle and
+/// the last, with its own records, one more and one fewer, which is none.
+fn full(tally: &mut Tally, nodes: usize) {
+    let layout = Tree::List(vec![Tree::text(b""); nodes - 1]).layout();
+    let numbers = layout.records.as_flattened();
+    let lent = second::Lent {
+        canonical: &layout.octets,
+        length: layout.octets.len(),
+        table: numbers,
+        nodes,
+    };
+    let more = [numbers, &[7; RECORD]].concat();
+    let fewer = &numbers[..numbers.len() - RECORD];
+    for table in [numbers, &more, fewer] {
+        for node in [0, 1, nodes / 2, nodes - 1, nodes] {
+            ask(tally, second::Lent { table, ..lent }, node);
+        }
+    }
 }
 
 /// A node as a value, a line and a week. Each buffer is a heap block of just its

@@ -1,5 +1,6 @@
 /* Reads a text, shows a node, replaces it and writes the result in form 3, whole
- * and as a foreman may see it:
+ * and as a foreman may see it; a word put into the list and struck out again
+ * leaves nothing behind:
  *
  *     correct TEXT NODE REPLACEMENT
  *
@@ -61,6 +62,30 @@ static int foreman(size_t length, size_t nodes)
     return 0;
 }
 
+/* A word as the list's first element, and the list without it again. */
+static int marked(size_t *length, size_t *nodes)
+{
+    static const uint8_t word[] = "checked";
+    size_t place;
+    uint32_t number;
+
+    number = etg_insert(ETG_ADVANCED, word, sizeof word - 1,
+                        canonical, sizeof canonical,
+                        table, sizeof table / sizeof *table,
+                        *length, *nodes, 0, 0, length, nodes, &place);
+    if (number != ETG_ACCEPTED)
+        return refused("insert", number);
+    show("marked", canonical, *length);
+
+    number = etg_remove(canonical, sizeof canonical,
+                        table, sizeof table / sizeof *table,
+                        *length, *nodes, 1, length, nodes);
+    if (number != ETG_ACCEPTED)
+        return refused("remove", number);
+    show("struck out", canonical, *length);
+    return 0;
+}
+
 int main(int argc, char **argv)
 {
     size_t length, nodes, place, node, start, end, written;
@@ -96,5 +121,5 @@ int main(int argc, char **argv)
     if (number != ETG_ACCEPTED)
         return refused("write", number);
     show("written", out, written);
-    return foreman(length, nodes);
+    return marked(&length, &nodes) || foreman(length, nodes);
 }

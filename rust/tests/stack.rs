@@ -11,7 +11,8 @@ use std::process::Command;
 use std::thread;
 
 use common::{empties, nested, padded, verbatim, NUMBER, OCTET};
-use etglavino::{Adding, Extent, Record, Refusal, MAX_CANONICAL, MAX_NODES, MAX_SOURCE, RECORD};
+use etglavino::{Adding, Extent, Record, Refusal, Slot};
+use etglavino::{MAX_CANONICAL, MAX_NODES, MAX_SOURCE, RECORD};
 
 /// What a thread has: enough for any entry, and for the thread itself.
 const STACK: usize = 192 * 1024;
@@ -369,6 +370,75 @@ fn replacing<T: Table>(replace: Replace<T>) {
 
 type Look<T> = fn(&[u8], &[T], Extent, usize) -> Option<(usize, usize)>;
 
+type Insert<T> = fn(u32, &[u8], &mut [u8], &mut [T], Extent, Slot) -> Result<Extent, Refusal>;
+
+/// Texts put into a list that is else empty, and into a full sheet.
+fn inserting<T: Table>(insert: Insert<T>) {
+    let inserted = |sheet: &mut Sheet<T>, form, text: &[u8], slot: Slot| {
+        let (canonical, table, extent) = (&mut sheet.canonical, &mut sheet.table, sheet.extent);
+        let case = case(&format!("insert {slot:?}"), form, text);
+        tight(&case, || insert(form, text, canonical, table, extent, slot))
+    };
+    let empty = Sheet::<T>::of(b"()");
+    let full = Sheet::<T>::of(&FULL.canonical());
+    let (first, last) = (
+        Slot { node: 0, k: 0 },
+        Slot {
+            node: 127,
+            k: 4_016,
+        },
+    );
+    for tree in TREES {
+        for (form, text) in tree.texts() {
+            let mut sheet = empty.clone();
+            let answer = inserted(&mut sheet, form, &text, first);
+            let Extent { length, nodes } = tree.extent();
+            if tree.lists < FULL.lists {
+                let (length, nodes) = (length + 2, nodes + 1);
+                assert_eq!(answer, Ok(Extent { length, nodes }));
+                assert!(sheet.canonical[1..length - 1] == tree.canonical());
+            } else {
+                assert_eq!(answer, Err(Refusal::Depth));
+            }
+            let refused = inserted(&mut full.clone(), form, &text, last);
+            assert_eq!(refused, Err(Refusal::Depth));
+            let past = Slot {
+                k: last.k + 1,
+                ..last
+            };
+            let refused = inserted(&mut full.clone(), form, &text, past);
+            assert_eq!(refused, Err(Refusal::NoPlace));
+        }
+    }
+    for (form, text, refusal) in bad_texts() {
+        let refused = inserted(&mut empty.clone(), form, &text, first);
+        assert_eq!(refused, Err(refusal), "{}", case("insert", form, &text));
+    }
+}
+
+type Remove<T> = fn(&mut [u8], &mut [T], Extent, usize) -> Result<Extent, Refusal>;
+
+/// Nodes of the fullest sheets, from the first to the last.
+fn removing<T: Table>(remove: Remove<T>) {
+    for octets in [FULL.canonical(), empties(8_191), b"(0:)".to_vec()] {
+        let full = Sheet::<T>::of(&octets);
+        let count = full.extent.nodes;
+        for (node, refusal) in [
+            (0, Some(Refusal::NoPlace)),
+            (1, None),
+            (count / 2, None),
+            (count - 1, None),
+            (count, Some(Refusal::NoNode)),
+        ] {
+            let mut sheet = full.clone();
+            let (canonical, table, extent) = (&mut sheet.canonical, &mut sheet.table, full.extent);
+            let case = format!("remove {node} of {count}");
+            let answer = tight(&case, || remove(canonical, table, extent, node));
+            assert_eq!(answer.err(), refusal, "{case}");
+        }
+    }
+}
+
 /// A list as long as can be in which half of the strings have hints, the last
 /// one too.
 fn hinted() -> Vec<u8> {
@@ -592,6 +662,28 @@ fn etg_replace_records() {
     alone("etg_replace_records", || {
         replacing(etglavino::replace_records_form)
     });
+}
+
+#[test]
+fn etg_insert() {
+    alone("etg_insert", || inserting(etglavino::insert_form));
+}
+
+#[test]
+fn etg_insert_records() {
+    alone("etg_insert_records", || {
+        inserting(etglavino::insert_records_form)
+    });
+}
+
+#[test]
+fn etg_remove() {
+    alone("etg_remove", || removing(etglavino::remove));
+}
+
+#[test]
+fn etg_remove_records() {
+    alone("etg_remove_records", || removing(etglavino::remove_records));
 }
 
 #[test]

@@ -1,9 +1,10 @@
 //! Elements put into lists and nodes removed, by the library over numbers and
 //! over records and by the reference program: at every place of every list of
-//! random sheets, with room just enough and one short, and with two reasons to
-//! refuse at once.
+//! random sheets, with room just enough and one short, at each limit and one past
+//! it, and with two reasons to refuse at once.
 
 mod call;
+mod limits;
 
 use std::collections::BTreeMap;
 
@@ -14,7 +15,7 @@ use reference::corpus::trees::{small, tree};
 use reference::limits::{ADVANCED, BASIC, CANONICAL, MAX_DEPTH, MAX_SOURCE, RECORD};
 use reference::tree::{Layout, Tree, KIND_LIST};
 
-use call::{answers, expected, Asked, Call, NUMBER, OCTET};
+use call::{answers, expected, Asked, Call};
 
 /// Differences shown whole; the rest are only counted.
 const SHOWN: u64 = 5;
@@ -39,6 +40,9 @@ pub fn compare(seed: u64, count: u64) -> Tally {
     for nodes in [1, 2, 40, 300] {
         let sheet = tree(&mut rng, nodes, 6);
         everywhere(&mut rng, &sheet, &mut tally);
+    }
+    for call in limits::calls() {
+        check(&call, &mut tally);
     }
     in_pairs(&mut rng, &mut tally);
     for _ in 0..count / TO_A_SHEET {
@@ -171,14 +175,18 @@ fn drawn(rng: &mut Rng, sheet: &Tree) -> Call {
 }
 
 /// Every one and every two of the reasons to refuse, of an insertion into a list
-/// in a list and of a removal.
+/// in a list and of a removal. Without them the room is just enough.
 fn in_pairs(rng: &mut Rng, tally: &mut Tally) {
     let sheet = Tree::List(vec![small(rng), Tree::List(vec![small(rng)]), small(rng)]);
     let layout = sheet.layout();
     let list = 1 + layout.records[1][3] as usize;
     for one in 0..FAULTS {
         for other in one..FAULTS {
-            let (element, form, text) = text(rng);
+            let (element, form, text) = if one == DEEP {
+                deep_text(rng)
+            } else {
+                text(rng)
+            };
             let more = element.layout();
             let asked = Asked::Insert { node: list, k: 1 };
             let mut call = Call {
@@ -198,25 +206,32 @@ fn in_pairs(rng: &mut Rng, tally: &mut Tally) {
     }
 }
 
-/// One reason to refuse: the form, the text's length, the text, the depth, the
-/// records, the room, the table, the node and the place, in two ways.
+/// A tree that fits alone, and not in two lists; and a text of it.
+fn deep_text(rng: &mut Rng) -> (Tree, u32, Vec<u8>) {
+    let depth = MAX_DEPTH - rng.below(2);
+    let tree = (1..depth).fold(Tree::List(vec![]), |tree, _| Tree::List(vec![tree]));
+    let octets = tree.layout().octets;
+    (tree, CANONICAL, octets)
+}
+
+/// The fault that the text has from the start: in the list it is too deep.
+const DEEP: usize = 0;
+
+/// One reason to refuse: the depth, the form, the text's length, the text, the
+/// records, the room, the table, the place, in two ways, and the node. None takes
+/// another away: what a fault changes, a later one leaves or makes worse.
 fn fault(which: usize, call: &mut Call) {
     match which {
-        0 => call.form = 0,
-        1 => call.text = vec![b' '; MAX_SOURCE + 1],
-        2 => call.text.push(b')'),
-        3 => {
-            call.form = CANONICAL;
-            call.text = [vec![b'('; MAX_DEPTH], vec![b')'; MAX_DEPTH]].concat();
-            call.canonical.extend([OCTET; 2 * MAX_DEPTH]);
-            call.table.extend([NUMBER; RECORD * MAX_DEPTH]);
-        }
+        DEEP => {}
+        1 => call.form = 0,
+        2 => call.text.resize(MAX_SOURCE + 1, b' '),
+        3 => call.text.push(b')'),
         4 => call.table.truncate(call.table.len() - RECORD),
         5 => call.canonical.truncate(call.canonical.len() - 1),
         6 => call.table[3] ^= 1,
-        7 => call.asked = call.asked.of_node(call.nodes),
-        8 => call.asked = call.asked.of_node(0).at(4),
-        _ => call.asked = call.asked.of_node(call.nodes - 1).at(9),
+        7 => call.asked = call.asked.of_node(0).at(4),
+        8 => call.asked = call.asked.of_node(call.nodes - 1).at(9),
+        _ => call.asked = call.asked.of_node(call.nodes),
     }
 }
 

@@ -37,6 +37,9 @@ pub fn compare(seed: u64, count: u64) -> Tally {
         let tree = canonical::parse(sheet).expect("a canonical form");
         calls(&mut rng, &tree, sheet, &mut tally);
     }
+    for tree in sheets::full() {
+        calls(&mut rng, &tree, &tree.layout().octets, &mut tally);
+    }
     for pair in sheets::pairs_at_limits() {
         alike(&pair, &[(0, 0), (1, 0), (0, 1)], &mut tally);
     }

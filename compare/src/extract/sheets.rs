@@ -3,7 +3,7 @@
 
 use reference::corpus::rng::Rng;
 use reference::corpus::trees;
-use reference::limits::MAX_CANONICAL;
+use reference::limits::{MAX_CANONICAL, MAX_NODES};
 use reference::tree::Tree;
 
 /// The word that makes a list private.
@@ -29,6 +29,11 @@ pub const FIXED: &[&[u8]] = &[
     b"(0:(7:private0:))",
     b"()",
 ];
+
+/// Lists of empty strings with 8,190 to 8,192 nodes.
+pub fn full() -> impl Iterator<Item = Tree> {
+    (MAX_NODES - 2..=MAX_NODES).map(|nodes| Tree::List(vec![Tree::text(b""); nodes - 1]))
+}
 
 /// Pairs at the limits: nothing behind the word, against one string that fills
 /// the largest canonical form, and against 4,000 nodes.

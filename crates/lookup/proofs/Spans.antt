@@ -1,12 +1,12 @@
 -- Two strings without hints, side by side.
-use Prim.Native.Nat.{ℕ, _-_, _<_, _≤_}
+use Prim.Native.Nat.{ℕ, _-_, _<_}
 use native.Mathlib.Omega.{arith}
 use mathlib.Core.Path.{_≡_, refl, sym, ap, _∙_}
 use mathlib.Core.Bool.{Bool, true, false}
 use mathlib.Core.List.{List}
 use lib.ListN.{length}
-use lib.Dec.{leb}
-use borrow.Author.Tests.{leb-true}
+use lib.Dec.{ltb}
+use borrow.Author.Tests.{ltb-true}
 use Rattle.base.specs.Choice.{both, equal}
 use Rattle.base.proofs.Cases.{untrue}
 use Rattle.base.proofs.Lists.{equal-same}
@@ -15,7 +15,7 @@ use Rattle.model.specs.Compare.{same}
 use Rattle.model.specs.Decode.{decode₁}
 use Rattle.model.specs.Lexemes.{atom}
 use Rattle.canonical.specs.declared.Item.the-variants.{Plain}
-use Rattle.sheets.specs.Places.{shift, startOf, endOf, StringAt}
+use Rattle.sheets.specs.Places.{startOf, endOf, StringAt}
 use Rattle.sheets.proofs.Items.{string-item}
 use Rattle.lookup.specs.Alike.{kindOf, hintOr, dataOf, matches}
 use Rattle.lookup.specs.Strings.{Both, Span, spanned}
@@ -27,8 +27,8 @@ use Rattle.lookup.specs.declared.alike.Token.{Token}
 pub both-none : (left right : ℕ) → Both left right false
 both-none left right = record { left = λ e. untrue e; right = λ e. untrue e }
 
-pub both-some : (left right : ℕ) → shift ≤ left → Both left right (leb shift right)
-both-some left right n = record { left = λ e. n; right = λ e. leb-true shift right e }
+pub both-some : (left right : ℕ) → (left ≡ 0 → ⊥) → Both left right (ltb 0 right)
+both-some left right n = record { left = λ e. omega arith; right = λ e. ltb-true 0 right e }
 
 pub spans-equal : (a b : List ℕ) (r q s e f l : ℕ) → s ≡ startOf r → e ≡ endOf r → f ≡ startOf q → l ≡ endOf q → (t : Bool) → t ≡ equal (partOf a s e) (partOf b f l) → t ≡ equal (spanned a r) (spanned b q)
 spans-equal a b r q s e f l x y z w t k = rw (sym x, sym y, sym z, sym w) k

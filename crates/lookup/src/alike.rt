@@ -10,7 +10,6 @@ ghost use Rattle.lookup.specs.Tokens.{mark, lexemeOf, hintIn, partOf, Li
 ghost use Rattle.lookup.specs.Strings.{Both, Span, spanned};
 use super::parts::parts_equal;
 use canonical::Item;
-use sheets::places::SHIFT;
 use sheets::places::end_of;
 use sheets::places::start_of;
 use sheets::places::string_at;
@@ -142,7 +141,7 @@ fn tokens_match(a: &[u8], left: Token, b: &[u8], right: Token, default_hint: &[u
 fn both_there(left: usize, right: usize) -> bool
     ensures { λ r. ⌜ Both left right r ⌝ }
 {
-    if left < SHIFT { false } else { right >= SHIFT }
+    if left == 0 { false } else { right > 0 }
 }
 
 // Whether two strings without hints have the same octets.

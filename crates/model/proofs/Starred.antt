@@ -1,11 +1,13 @@
--- The starred cases of 01, shown of the definitions that every promise cites, as one list: what is answered, what is wanted.
+-- The starred cases of 01, and cases that requests name, shown of the definitions that every promise cites, as one list: what is answered, what is wanted.
 use Prim.Native.Nat.{ℕ}
 use mathlib.Core.Path.{_≡_, refl}
 use mathlib.Core.Bool.{true}
 use mathlib.Core.List.{List, [], _∷_, _++_, map}
 use lib.ListN.{length, drop, replicate}
 use Rattle.base.specs.Choice.{member, every, equal, chain, isNone}
-use Rattle.model.specs.Answers.{verdict, judged, noForm, the, roomChecks, textChecks, settled, fits, fitting, sheetTree, owns, ownTree, Outcome, unchanged, braced, placeOf, telling, filled, readingChecks, reading, replaced, replacingChecks, replacing, Output, written, writingChecks, writing}
+use Rattle.model.specs.Answers.{verdict, judged, noForm, the, roomChecks, textChecks, settled, fits, fitting, sheetTree, owns, ownTree, Outcome, unchangedAt, unchanged, braced, placeOf, telling, filled, readingChecks, reading, replaced, replacingChecks, replacing, Output, written, writingChecks, writing}
+use Rattle.model.specs.Automaton.{ended, coming, stepAt, run as goes, place as begun}
+use Rattle.model.specs.Count.{shutBy}
 use Rattle.model.specs.Decode.{onto, enclose, place, placeIn, nestings, onlyTree, onlyIn, nest, decode₁, unbrace, decode₂, decode₃, decode}
 use Rattle.model.specs.Edit.{join, within, replace}
 use Rattle.model.specs.Lexemes.{closeHint, lexeme, closeStrict, strictLexeme, before, lexemesBy, lexemes, strictLexemes}
@@ -66,6 +68,12 @@ cases =
     ∷ (outcome (reading 3 (124 ∷ 89 ∷ 87 ∷ 74 ∷ 106 ∷ 90 ∷ 65 ∷ 124 ∷ []) sheet table), outcome (accepted 6 1 (52 ∷ 58 ∷ 97 ∷ 98 ∷ 99 ∷ 100 ∷ []) (0 ∷ 0 ∷ 6 ∷ 1 ∷ 0 ∷ 0 ∷ 2 ∷ 6 ∷ [])))
     -- 03:abc
     ∷ (outcome (reading 3 (48 ∷ 51 ∷ 58 ∷ 97 ∷ 98 ∷ 99 ∷ []) sheet table), outcome (unchanged 3 sheet table))
+    -- Ask 7: 3:abcX, 03: and a text cut short; another form tells no place
+    ∷ (outcome (reading 1 (51 ∷ 58 ∷ 97 ∷ 98 ∷ 99 ∷ 88 ∷ []) sheet table), outcome (unchangedAt 3 5 sheet table))
+    ∷ (outcome (reading 1 (48 ∷ 51 ∷ 58 ∷ []) sheet table), outcome (unchangedAt 3 1 sheet table))
+    ∷ (outcome (reading 2 (40 ∷ 51 ∷ 58 ∷ 97 ∷ 98 ∷ []) sheet table), outcome (unchangedAt 3 5 sheet table))
+    ∷ (outcome (reading 3 (51 ∷ 58 ∷ 97 ∷ 98 ∷ 99 ∷ 88 ∷ []) sheet table), outcome (unchangedAt 3 0 sheet table))
+    ∷ (outcome (replacing 1 (48 ∷ 51 ∷ 58 ∷ []) (lent sheet (40 ∷ 41 ∷ [])) (lent table (2 ∷ 0 ∷ 2 ∷ 1 ∷ 0 ∷ 0 ∷ 1 ∷ 1 ∷ [])) 2 1 0), outcome (unchangedAt 3 1 (lent sheet (40 ∷ 41 ∷ [])) (lent table (2 ∷ 0 ∷ 2 ∷ 1 ∷ 0 ∷ 0 ∷ 1 ∷ 1 ∷ []))))
     -- 3"ab"
     ∷ (outcome (reading 3 (51 ∷ 34 ∷ 97 ∷ 98 ∷ 34 ∷ []) sheet table), outcome (unchanged 3 sheet table))
     -- #616#
@@ -87,5 +95,5 @@ wanted : List Answer
 wanted = map (λ c. c .1) cases
 
 starred : answers ≡ wanted
-unfolding answers wanted cases member every equal chain isNone digitsUpTo digits verbatim canon nodes depth flat tableOf rows isWhitespace isAlpha isSimplePunc isTokenStart isTokenOctet isPrintable hexval octval letter leftover find escape bind skip number decimal first run past hexOf octalBy octalOf escaped pieceOf quotedBy upto also unhex twoOf threeOf lastly fourOf joined unbase decoded marked sized afterNumber simple afterLength verbatimOf closeHint lexeme closeStrict strictLexeme before lexemesBy lexemes strictLexemes onto enclose place placeIn nestings onlyTree onlyIn nest decode₁ unbrace decode₂ decode₃ decode isToken quoteOne quoteAll hexDigit hexAll shown letterOf baseAll basic encode advanced join replace within verdict judged noForm the roomChecks textChecks settled fits fitting sheetTree owns ownTree braced placeOf telling filled readingChecks reading replaced replacingChecks replacing written writingChecks writing
+unfolding answers wanted cases begun goes stepAt coming ended shutBy member every equal chain isNone digitsUpTo digits verbatim canon nodes depth flat tableOf rows isWhitespace isAlpha isSimplePunc isTokenStart isTokenOctet isPrintable hexval octval letter leftover find escape bind skip number decimal first run past hexOf octalBy octalOf escaped pieceOf quotedBy upto also unhex twoOf threeOf lastly fourOf joined unbase decoded marked sized afterNumber simple afterLength verbatimOf closeHint lexeme closeStrict strictLexeme before lexemesBy lexemes strictLexemes onto enclose place placeIn nestings onlyTree onlyIn nest decode₁ unbrace decode₂ decode₃ decode isToken quoteOne quoteAll hexDigit hexAll shown letterOf baseAll basic encode advanced join replace within verdict judged noForm the roomChecks textChecks settled fits fitting sheetTree owns ownTree braced placeOf telling filled readingChecks reading replaced replacingChecks replacing written writingChecks writing
 starred = refl

@@ -13,7 +13,7 @@ use Rattle.blocks.specs.Fronts.{Front}
 use Rattle.blocks.proofs.Laws.{front-one}
 use Rattle.canonical.specs.Lexed.{ItemAt}
 use Rattle.canonical.proofs.Lexing.{lex-open, lex-close}
-use Rattle.sheets.specs.Places.{shift, startOf, endOf, StringAt}
+use Rattle.sheets.specs.Places.{startOf, endOf, StringAt}
 use Rattle.sheets.proofs.Items.{string-item}
 use Rattle.spelling.specs.Spelled.{cut}
 use Rattle.spelling.proofs.Filling.{Filling, fill-start, fill-room, fill-on, fill-done}
@@ -56,7 +56,7 @@ module _ (src : List ℕ) (at : ℕ) (due : Bool) (out₀ out : List ℕ) (o : �
 
   module _ (h : at < length src) where
     -- the string at a place is asked for first
-    module _ (r : ℕ) (v : StringAt src at r) (p : shift ≤ r) (s e : ℕ) (x : s ≡ startOf r) (y : e ≡ endOf r) where
+    module _ (r : ℕ) (v : StringAt src at r) (p : 0 < r) (s e : ℕ) (x : s ≡ startOf r) (y : e ≡ endOf r) where
       string : ItemAt src at (Plain s e)
       string = rw (x, y) (string-item src at h r v p)
 
@@ -99,10 +99,10 @@ module _ (src : List ℕ) (at : ℕ) (due : Bool) (out₀ out : List ℕ) (o : �
       close-written = write-by closing (at + 1) closes (set out o 41) (o + 1) (front-one out o 41 close-room)
 
     module _ (x d : ℕ) (v : HintAt src at x d) where
-      pub no-data : d < shift → Front (advanced (the (decode₁ src))) 0 out₀ out o
+      pub no-data : d ≡ 0 → Front (advanced (the (decode₁ src))) 0 out₀ out o
       no-data z = left-never src at due (w .rest) (w .left) h (other-none src at (v .none z))
 
-      module _ (m : shift ≤ d) (from to s e : ℕ) (f : from ≡ startOf x) (q : to ≡ endOf x) (g : s ≡ startOf d) (k : e ≡ endOf d) where
+      module _ (m : d ≡ 0 → ⊥) (from to s e : ℕ) (f : from ≡ startOf x) (q : to ≡ endOf x) (g : s ≡ startOf d) (k : e ≡ endOf d) where
         hinted : ItemAt src at (Hinted from to s e)
         hinted = rw (f, q, g, k) (v .some m)
 

@@ -11,7 +11,6 @@ ghost use Rattle.spelling.specs.Spelled.{cut};
 ghost use Rattle.writer.specs.Sheets.{Sheet, Strings};
 ghost use Rattle.writer.specs.Elements.{gap, bracketed, spelledOne};
 ghost use Rattle.writer.specs.Hints.{Unplain, HintAt};
-use sheets::places::SHIFT;
 use sheets::places::after_hint;
 use sheets::places::end_of;
 use sheets::places::start_of;
@@ -98,7 +97,7 @@ fn put_hinted(
     put_spelled(classes, src, start, end, out, p)
 }
 
-// The spans of a hint and of the string that it belongs to; less than SHIFT where there are none.
+// The spans of a hint and of the string that it belongs to; 0 where there are none.
 fn hint_at(src: &[u8], at: usize) -> [usize; 2]
     requires { ⌜ Unplain (now src) at ⌝ }
     ensures { λ r. ⌜ HintAt (now (src .entry)) at (getD r 0 0) (getD r 1 0) ⌝ }
@@ -107,7 +106,7 @@ fn hint_at(src: &[u8], at: usize) -> [usize; 2]
         return [0, 0];
     }
     let hint = string_at(src, at + 1);
-    if hint < SHIFT {
+    if hint == 0 {
         return [0, 0];
     }
     [hint, after_hint(src, end_of(hint))]
@@ -125,7 +124,7 @@ pub fn put_advanced(classes: &[u8; 256], src: &[u8], out: &mut [u8]) -> usize
     let mut due = false;
     while at < src.len() {
         let span = string_at(src, at);
-        if span >= SHIFT {
+        if span > 0 {
             let end = end_of(span);
             o = put_plain(classes, src, due, start_of(span), end, out, o);
             due = true;
@@ -150,7 +149,7 @@ pub fn put_advanced(classes: &[u8; 256], src: &[u8], out: &mut [u8]) -> usize
         let hint = spans[0];
         let data = spans[1];
         // A sheet has no other lexeme, so that this never comes.
-        if data < SHIFT {
+        if data == 0 {
             return o;
         }
         let end = end_of(data);

@@ -1,10 +1,11 @@
 use Prim.Native.Nat.{_-_}
 use lib.ListN.{length}
-use Rattle.sheets.proofs.Packing.{further, Far, far-start, far-end, far-colon, far-low, far-high, far-on}
+use Rattle.sheets.proofs.Packing.{further}
+use Rattle.sheets.proofs.Beginnings.{Far, far-start, far-end, far-colon, far-low, far-high, far-on}
 use native.Mathlib.Omega.{arith}
 use borrow.Author.Needs.{needs}
-use Rattle.sheets.proofs.places.far.Statement.{statement}
-use Rattle.sheets.proofs.places.far.Tie as tie
+use Rattle.sheets.proofs.begins.digits_on.Statement.{statement}
+use Rattle.sheets.proofs.begins.digits_on.Tie as tie
 
 abbrev Inv-loop : tie.InvT-loop
 Inv-loop src at i₀ i = Far src at i
@@ -33,8 +34,8 @@ loop-again c = search (far-on, arith)
 returns-4 : tie.Need-returns-4 Inv-loop μ-loop
 returns-4 c = search (far-end, arith)
 
-pub far-spec : {M : Type 1} → statement M
-far-spec =
+pub digits-on-spec : {M : Type 1} → statement M
+digits-on-spec =
     tie.close
     (tie.spec
     Inv-loop

@@ -1,0 +1,63 @@
+// How far octets begin a string that is not there: only a text that is refused is asked for it (02, Ask 7).
+ghost use mathlib.Core.Path.{_≡_};
+ghost use Prim.Native.Nat.{_≤_};
+ghost use lib.ListN.{length};
+ghost use Rattle.model.specs.Limits.{maxSource};
+ghost use Rattle.sheets.specs.Begins.{DigitsOn, StringBegins, HintBegins};
+
+// Past digits, however many there are; past all that is left where a colon follows them.
+fn digits_on(src: &[u8], at: usize) -> usize
+    requires { ⌜ (at ≤ length (now src)) × (length (now src) ≤ maxSource) ⌝ }
+    ensures { λ r. ⌜ DigitsOn (now (src .entry)) at r ⌝ }
+{
+    let mut i = at;
+    while i < src.len() {
+        let b = src[i];
+        if b == 58 {
+            return src.len();
+        }
+        if b < 48 {
+            return i;
+        }
+        if b > 57 {
+            return i;
+        }
+        i += 1;
+    }
+    i
+}
+
+// At a place where no verbatim string stands.
+pub fn string_begins(src: &[u8], at: usize) -> usize
+    requires { ⌜ (at ≤ length (now src)) × (length (now src) ≤ maxSource) ⌝ }
+    ensures { λ r. ⌜ StringBegins (now (src .entry)) at r ⌝ }
+{
+    if at >= src.len() {
+        return at;
+    }
+    let b = src[at];
+    if b < 48 {
+        return at;
+    }
+    if b > 57 {
+        return at;
+    }
+    if b == 48 {
+        return at + 1;
+    }
+    digits_on(src, at + 1)
+}
+
+// Where a hint's octets end, and no string follows them.
+pub fn hint_begins(src: &[u8], to: usize) -> usize
+    requires { ⌜ (to ≤ length (now src)) × (length (now src) ≤ maxSource) ⌝ }
+    ensures { λ r. ⌜ HintBegins (now (src .entry)) to r ⌝ }
+{
+    if to >= src.len() {
+        return to;
+    }
+    if src[to] != 93 {
+        return to;
+    }
+    string_begins(src, to + 1)
+}
