@@ -94,6 +94,14 @@ impl<O: Room<u8>, R: Room<Record>> Pieces<O, R> {
     }
 }
 
+impl<O: Room<u8>, R: Room<Record>, P: AsRef<[u8]>> Extend<P> for Pieces<O, R> {
+    fn extend<I: IntoIterator<Item = P>>(&mut self, pieces: I) {
+        for piece in pieces {
+            self.feed(piece.as_ref());
+        }
+    }
+}
+
 #[cfg(feature = "std")]
 mod owned {
     use std::io::{self, ErrorKind, Read, Write};
@@ -123,14 +131,6 @@ mod owned {
 
         fn flush(&mut self) -> io::Result<()> {
             Ok(())
-        }
-    }
-
-    impl<O: Room<u8>, R: Room<Record>, P: AsRef<[u8]>> Extend<P> for Pieces<O, R> {
-        fn extend<I: IntoIterator<Item = P>>(&mut self, pieces: I) {
-            for piece in pieces {
-                self.feed(piece.as_ref());
-            }
         }
     }
 

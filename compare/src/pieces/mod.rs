@@ -124,35 +124,23 @@ impl Tally {
 
     /// One cutting, from the start to the end.
     fn follow(&mut self, question: &mut Question, cuts: &[usize]) {
-        let size = question.table.size();
-        let numbers = question.table_after.len();
-        let mut expected = Pieces::start(&question.first, numbers);
-        let mut expected_now = question.first.to_vec();
+        self.cuttings += 1;
         let mut now = question.first.clone();
-        let mut state = raw::start(now.len(), size);
-        let (mut fed, mut seen) = (0, Vec::new());
-        let mut wrong: Option<String> = None;
-        for piece in question.cut(cuts) {
-            self.pieces += 1;
-            // A heap block of just its size, too.
-            let piece: Box<[u8]> = piece.into();
-            fed += piece.len();
-            let told = raw::feed(&mut state, &piece, &mut now, size);
-            let taken = expected.feed(&piece, &mut expected_now, numbers);
-            if Ok(told.1) != taken || told.0 != 0 || now[..] != expected_now[..] {
-                wrong.get_or_insert(format!("after {fed} octets: told {told:?}, not {taken:?}"));
-            }
-            seen.push((fed, state));
-        }
-        for (fed, state) in seen {
+        let mut wrong = None;
+        let after = self.fed(question, cuts, &mut now, &mut wrong);
+        let (mut state, mut table) = (
+            raw::start(now.len(), question.table.size()),
+            question.table.clone(),
+        );
+        for (fed, handed) in after {
+            state = handed;
             let known = *question.states.entry(fed).or_insert(state);
             if known != state {
                 wrong.get_or_insert(format!("after {fed} octets: {state:?}, not {known:?}"));
             }
         }
-        let (mut table, before) = (question.table.clone(), state);
+        let before = state;
         let answer = raw::end(&state, &now, &mut table);
-        self.cuttings += 1;
         *self.ends.entry(question.answer.number).or_default() += 1;
         if answer != question.answer {
             wrong.get_or_insert(format!("the end: {answer:?}, not {:?}", question.answer));
@@ -165,6 +153,35 @@ impl Tally {
         }
         let what = wrong.as_deref().unwrap_or_default();
         self.hold(wrong.is_none(), question, cuts, what);
+    }
+
+    /// Feeds the pieces of a cutting to both: the library's state after each, by the
+    /// octets fed.
+    fn fed(
+        &mut self,
+        question: &Question,
+        cuts: &[usize],
+        now: &mut [u8],
+        wrong: &mut Option<String>,
+    ) -> Vec<(usize, State)> {
+        let (size, numbers) = (question.table.size(), question.table_after.len());
+        let mut expected = Pieces::start(&question.first, numbers);
+        let mut expected_now = question.first.to_vec();
+        let (mut state, mut fed) = (raw::start(now.len(), size), 0);
+        let mut after = Vec::new();
+        for piece in question.cut(cuts) {
+            self.pieces += 1;
+            // A heap block of just its size, too.
+            let piece: Box<[u8]> = piece.into();
+            fed += piece.len();
+            let told = raw::feed(&mut state, &piece, now, size);
+            let taken = expected.feed(&piece, &mut expected_now, numbers);
+            if Ok(told.1) != taken || told.0 != 0 || now[..] != expected_now[..] {
+                wrong.get_or_insert(format!("after {fed} octets: told {told:?}, not {taken:?}"));
+            }
+            after.push((fed, state));
+        }
+        after
     }
 
     /// One cutting, with pieces and ends of other sizes before each piece and before
