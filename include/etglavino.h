@@ -346,6 +346,32 @@ uint32_t etg_spool_add(uint8_t *area, size_t area_size,
  * What is then left, if anything, begins no sheet. */
 size_t etg_split(const uint8_t *run, size_t len);
 
+/* A canonical text that comes in pieces. The numbers are the library's own
+ * business; any may stand there. */
+struct etg_pieces_state {
+    uint64_t opaque[10];
+};
+
+/* `table_size` counts numbers of a flat table, or records. */
+void etg_pieces_start(struct etg_pieces_state *state, size_t canonical_size, size_t table_size);
+
+/* Refusal: 7 where a size is not the start's; nothing changes then. */
+uint32_t etg_pieces_feed(struct etg_pieces_state *state,
+                         const uint8_t *piece, size_t piece_size,
+                         uint8_t *canonical, size_t canonical_size, size_t table_size,
+                         size_t *taken);
+
+/* Refusals: 7, 2, 3, 4, 5, 6. */
+uint32_t etg_pieces_end(const struct etg_pieces_state *state,
+                        const uint8_t *canonical, size_t canonical_size,
+                        uint32_t *table, size_t table_size,
+                        size_t *length, size_t *nodes, size_t *place);
+
+uint32_t etg_pieces_end_records(const struct etg_pieces_state *state,
+                                const uint8_t *canonical, size_t canonical_size,
+                                struct etg_record *records, size_t record_count,
+                                size_t *length, size_t *nodes, size_t *place);
+
 /* Values with a type, and hours */
 
 /* A node's value, by its hint. `*kind` tells what it is; `*single`, `*number64`
