@@ -11,10 +11,12 @@ use Rattle.answers.specs.declared.Reading.{Reading}
 use Rattle.pieces.specs.Coded.{stateIn, stateNumbers}
 use Rattle.pieces.specs.Ending.{inSheet, End}
 use Rattle.pieces.specs.Feeding.{stateAfter, InTurn, Piece}
+use Rattle.pieces.proofs.Coding.{comes-back}
+use Rattle.pieces.proofs.Turns.{turn-start}
 use Rattle.pieces.specs.declared.state.State.{State}
 use Rattle.pieces.specs.declared.state.Fed.{Fed}
 use Rattle.etglavino_c.specs.Pointers.{HandsPlaced}
-use Rattle.etglavino_c.specs.Piecing.{pieceAt, PieceOut, EndOut}
+use Rattle.etglavino_c.specs.Piecing.{PieceAt, pieceAt, PieceOut, EndOut}
 
 pub start-handed : (room lent : ℕ) (x : State) → x ≡ stateAfter room lent [] → (s : List ℕ) → s ≡ stateNumbers x → s ≡ stateNumbers (stateAfter room lent [])
 start-handed room lent x e s f = f ∙ ap stateNumbers e
@@ -50,3 +52,14 @@ module _ (state sheet : List ℕ) (lent : ℕ) (table table′ : List ℕ) (r : 
 
   pub end-handed : (x : State) → x ≡ stateIn state → End x sheet lent table table′ r → EndOut (stateIn state) sheet lent table table′ n p len count
   end-handed x f e = ended-handed (subst (λ (y : State). End y sheet lent table table′ r) f e)
+
+-- ---- 02, "those handed back from it in turn": the numbers that a start and a piece hand out are such states
+
+pub start-in-turn : (first : List ℕ) (lent : ℕ) (state : List ℕ) → state ≡ stateNumbers (stateAfter (length first) lent []) → InTurn first lent [] (stateIn state) first
+start-in-turn first lent state e = turn-start first lent (stateIn state) (ap stateIn e ∙ comes-back (stateAfter (length first) lent []))
+
+pub piece-in-turn : {first s before piece sheet sheet′ after : List ℕ} {lent n octets : ℕ} → InTurn first lent s (stateIn before) sheet → PieceOut before piece sheet lent sheet′ after n octets
+    → InTurn first lent (s ++ piece) (stateIn after) sheet′
+piece-in-turn {first} {s} {piece = piece} {lent = lent} t p =
+    let e = p .goes-on first s t in
+    record { x-is = ap (λ (y : PieceAt). stateIn (y .state)) e ∙ comes-back (stateAfter (length first) lent (s ++ piece)); sheet-is = ap (λ (y : PieceAt). y .sheet) e }

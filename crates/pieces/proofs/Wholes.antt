@@ -36,7 +36,7 @@ use Rattle.pieces.proofs.Turns.{sheet-length, sheet-whole}
 
 -- ---- reading the whole in form 1
 
-read-long : (s first table : List ℕ) → maxSource < length s → reading 1 s first table ≡ unchanged SourceSize first table
+pub read-long : (s first table : List ℕ) → maxSource < length s → reading 1 s first table ≡ unchanged SourceSize first table
 unfolding reading readingChecks textChecks judged verdict noForm telling
 read-long s first table h = rw (lt-ltb maxSource (length s) h)
 

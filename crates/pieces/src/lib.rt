@@ -4,7 +4,7 @@
 // end reads it there. A text that does not fit there is refused in any case: from where it goes past, an automaton follows it octet
 // by octet, for the number that refuses it.
 mod coded; // coded.rt: a state as numbers
-pub mod ending; // ending.rt: the end
+mod ending; // ending.rt: the end
 mod numbers; // numbers.rt: numbers that stop one past the longest text
 mod state; // state.rt: the running state, and a piece fed to it
 mod track; // track.rt: how far a text has come, octet by octet

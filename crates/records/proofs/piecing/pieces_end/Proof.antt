@@ -61,10 +61,10 @@ use Rattle.records.proofs.Noted.{zeros, zeros-typed, zeroed, at-local, 
 use Rattle.records.proofs.Retelling.{Telling, to-tell, goes-tell, Told, TellLast}
 use Rattle.records.proofs.Tabling.{put-tells, put-told}
 use Rattle.records.proofs.Record as T
-use Rattle.pieces.proofs.ending.end_coded as core
-use Rattle.pieces.proofs.ending.end_coded.Symbol as core-def
-use Rattle.pieces.proofs.ending.end_coded.Symbol.{name as #core}
-use Rattle.pieces.proofs.ending.end_coded.Met as core-thm
+use Rattle.pieces.proofs.end_coded as core
+use Rattle.pieces.proofs.end_coded.Symbol as core-def
+use Rattle.pieces.proofs.end_coded.Symbol.{name as #core}
+use Rattle.pieces.proofs.end_coded.Met as core-thm
 use Rattle.records.proofs.tell.Symbol as tell-def
 use Rattle.records.proofs.tell.Symbol.{name as #tell}
 use Rattle.records.proofs.tell.Met as tell-thm
@@ -236,5 +236,5 @@ pieces-end-spec 𝓤 H 𝓜 𝓖 𝓡 =
     entered 𝓤 H (tripleOf 𝓤 H (𝓖 .A) entry.signature (entry.spec 𝓤 H (𝓖 .A) (𝓜 .mem) (𝓡 .run)))
     (tables 𝓤 H 𝓜 𝓡 code.env .C) (tables 𝓤 H 𝓜 𝓡 code.env .Λ) #entry code.function (code.unfolded 𝓤 H 𝓜 𝓡)
     (meets 𝓤 H (𝓖 .A) (givenOf 𝓤 H 𝓜 𝓖) (𝓜 .mem) (𝓡 .run) (tablesOf 𝓤 H 𝓜 (tables 𝓤 H 𝓜 𝓡 code.env))
-    (cited 𝓤 H (Core 𝓤 H (𝓖 .A) (𝓜 .mem) (𝓡 .run)) 𝓜 𝓡 code.env #core core-def.routine code.calls-pieces·ending·end-coded (core-thm.met 𝓤 H 𝓜 𝓖 𝓡))
+    (cited 𝓤 H (Core 𝓤 H (𝓖 .A) (𝓜 .mem) (𝓡 .run)) 𝓜 𝓡 code.env #core core-def.routine code.calls-pieces·end-coded (core-thm.met 𝓤 H 𝓜 𝓖 𝓡))
     (cited 𝓤 H (Telling 𝓤 H (𝓖 .A) (𝓜 .mem) (𝓡 .run)) 𝓜 𝓡 code.env #tell tell-def.routine code.calls-records·tell (tell-thm.met 𝓤 H 𝓜 𝓖 𝓡)))
