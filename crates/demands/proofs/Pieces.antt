@@ -1,6 +1,6 @@
 -- Ask 1, sheets in pieces, sentence by sentence: of the promises of a piece and of the end (`Piece` and `End` of crate pieces), over every
 -- way of cutting. A table that is lent as numbers has as many as are lent, one of records as many records; `lent` is either.
-use Prim.Native.Nat.{ℕ, _≤_, min}
+use Prim.Native.Nat.{ℕ, _≤_, _<_, min}
 use native.Mathlib.Omega.{arith}
 use mathlib.Core.Path.{_≡_, refl, sym, ap, _∙_, subst}
 use mathlib.Core.Bool.{true, false}
@@ -14,7 +14,9 @@ use Rattle.model.specs.Begins.{Largest}
 use Rattle.model.specs.Decode.{decode}
 use Rattle.model.specs.Limits.{SourceSize, Syntax, NotOwn}
 use Rattle.model.proofs.Judging.{judged-holds}
+use Rattle.model.proofs.Numbered.{reading-numbered}
 use Rattle.answers.specs.Cases.{outcome}
+use Rattle.answers.specs.declared.Refusal.{Refusal}
 use Rattle.answers.specs.declared.Reading.{Reading}
 use Rattle.answers.specs.declared.Reading.the-variants as answer
 use Rattle.pieces.specs.Feeding.{kept, sheetAfter, stateAfter, sameSizes, Piece}
@@ -24,6 +26,7 @@ use Rattle.pieces.specs.declared.state.State.{State}
 use Rattle.pieces.specs.declared.state.Fed.{Fed}
 use Rattle.pieces.proofs.Cutting.{in-turn, never-by-the-cutting, begins-with, whatever-the-cutting}
 use Rattle.pieces.proofs.Wholes.{read-long, accepted-sheet}
+use Rattle.demands.proofs.Numbers.{refusing}
 use Rattle.demands.proofs.Placed.{canonical-text, read-tells}
 
 -- ---- "a piece or end lent one of another size than the first time gets 7, with counts 0, before all else, and nothing changes, the state
@@ -114,3 +117,8 @@ module _ {first : List ℕ} {lent : ℕ} {s : List ℕ} {x : State} {sheet table
 pub any-two-cuttings : {first : List ℕ} {lent : ℕ} {s : List ℕ} {x y : State} {sheet sheet′ table table₁ table₂ : List ℕ} {r q : Reading} → Handed first lent s x sheet → Handed first lent s y sheet′
     → End x sheet lent table table₁ r → End y sheet′ lent table table₂ q → (x ≡ y) × (sheet ≡ sheet′) × (outcome r sheet table₁ ≡ outcome q sheet′ table₂)
 any-two-cuttings h k e f = let c = never-by-the-cutting h k in (c .0, c .1, whatever-the-cutting h e ∙ sym (whatever-the-cutting k f))
+
+-- no end of a state in turn is refused with number 0
+pub end-over : (f : Refusal) {first : List ℕ} {lent : ℕ} {s : List ℕ} {x : State} {sheet table table′ : List ℕ} → Handed first lent s x sheet → End x sheet lent table table′ (answer.Refused f) → 0 < f .number
+end-over f {first} {s = s} {sheet = sheet} {table} {table′} h e =
+    refusing f sheet table′ (inSheet (sheetAfter first s) (reading 1 s first table)) (reading-numbered 1 s first table) (whatever-the-cutting h e)

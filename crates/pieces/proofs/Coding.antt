@@ -5,14 +5,13 @@ use mathlib.Core.Bool.{Bool, true, false}
 use mathlib.Core.List.{List, [], _∷_}
 use lib.ListN.{getD}
 use lib.Dec.{eqb}
-use borrow.Author.Tests.{eq-eqb, ne-eqb}
+use borrow.Author.Tests.{ne-eqb}
 use Rattle.base.specs.Choice.{not}
-use Rattle.base.proofs.Cases.{picked, unpicked}
+use Rattle.base.proofs.Cases.{unpicked}
 use Rattle.pieces.specs.Coded.{bit, phaseIn, kindOf, hintOf, numberOf, stateIn, stateNumbers}
 use Rattle.pieces.specs.declared.state.State.{State}
 use Rattle.pieces.specs.declared.track.Phase.{Phase}
 use Rattle.pieces.specs.declared.track.Phase.the-variants.{Between, Sizing, Counting, Filling, Bracket, Dead}
-use Rattle.pieces.specs.declared.track.Track.{Track}
 
 back-bit : (t : Bool) → not (eqb (bit t) 0) ≡ t
 back-bit true = refl

@@ -1,15 +1,12 @@
 -- The laws of pieces, in the words of 02, Ask 1.
-use Prim.Native.Nat.{ℕ, _≤_, min}
-use native.Mathlib.Omega.{arith}
-use mathlib.Core.Path.{_≡_, refl, sym, ap, _∙_}
-use mathlib.Core.Bool.{true}
-use mathlib.Core.List.{List, [], _∷_, _++_}
-use lib.ListN.{length, take}
-use Rattle.model.specs.Answers.{Outcome, reading}
+use Prim.Native.Nat.{ℕ, min}
+use mathlib.Core.Path.{_≡_, sym, ap, _∙_}
+use mathlib.Core.List.{List, _++_}
+use lib.ListN.{length}
+use Rattle.model.specs.Answers.{reading}
 use Rattle.answers.specs.Cases.{outcome}
 use Rattle.answers.specs.declared.Reading.{Reading}
-use Rattle.pieces.specs.Capped.{cap}
-use Rattle.pieces.specs.Feeding.{space, kept, sheetAfter, stateAfter, InTurn, taken, Piece}
+use Rattle.pieces.specs.Feeding.{sheetAfter, stateAfter, InTurn, Piece}
 use Rattle.pieces.specs.Handed.{Handed, starts, fed}
 use Rattle.pieces.specs.Ending.{inSheet, End}
 use Rattle.pieces.specs.declared.state.State.{State}

@@ -2,7 +2,6 @@
 use Prim.Native.Nat.{ℕ, _+_, _≤_, _<_}
 use native.Mathlib.Omega.{arith}
 use mathlib.Core.Path.{_≡_, refl, sym, ap, _∙_, subst}
-use mathlib.Core.Bool.{false}
 use mathlib.Core.List.{List, _++_}
 use lib.ListN.{length, take, drop, take-append-drop}
 use lib.Seq.{sets, length-take-le}
@@ -10,20 +9,19 @@ use borrow.Author.Tests.{le-leb, lt-leb, lt-ltb, le-ltb, eq-eqb, ne-eqb}
 use Rattle.base.proofs.Cases.{by-le, picked, unpicked, true-both}
 use Rattle.base.proofs.Lists.{front-length}
 use Rattle.base.proofs.Stores.{sets-all}
-use Rattle.model.specs.Answers.{noForm, Outcome, unchangedAt, unchanged, placeOf, reading}
+use Rattle.model.specs.Answers.{noForm, Outcome, unchangedAt, placeOf, reading}
 use Rattle.model.specs.Automaton.{place}
 use Rattle.model.specs.Decode.{decode₁, decode}
-use Rattle.model.specs.Limits.{maxSource, maxCanonical}
+use Rattle.model.specs.Limits.{maxSource}
 use Rattle.model.specs.Table.{records}
 use Rattle.walk.specs.declared.Extent.{Extent}
 use Rattle.walk.specs.declared.Extent.the-variants.{Whole, Refused}
 use Rattle.scan.specs.Writes.{Wrote}
 use Rattle.sheets.specs.Notes.{Noted}
-use Rattle.sheets.specs.Places.{shift}
 use Rattle.texts.specs.Texts.{textVerdict, Taken}
 use Rattle.texts.proofs.Sizes.{long-takes}
 use Rattle.texts.proofs.Taking.{through}
-use Rattle.answers.specs.Cases.{outcome, RefusesAt, Refuses}
+use Rattle.answers.specs.Cases.{RefusesAt, Refuses}
 use Rattle.answers.specs.declared.Reading.{Reading}
 use Rattle.answers.specs.declared.Reading.the-variants as answer
 use Rattle.reader.specs.Stored.{roomVerdict, Noteable, Spaced, Puts}

@@ -9,7 +9,6 @@ use lib.ListN.{length, take, getD}
 use lib.Seq.{take-suc, take-all}
 use Rattle.base.proofs.Cases.{picked, unpicked}
 use Rattle.model.specs.Count.{shutBy}
-use Rattle.walk.specs.declared.Extent.{Extent}
 use Rattle.walk.specs.declared.Extent.the-variants.{Whole, Refused}
 use Rattle.model.specs.Automaton as automaton
 use Rattle.model.specs.Automaton.{step, run, rests}

@@ -18,7 +18,6 @@ use Rattle.model.specs.Tree.{Tree, plain, hinted, list, nodes}
 use Rattle.model.proofs.Exact.{canon-sound}
 use Rattle.model.proofs.Strict.{strict-all-complete}
 use Rattle.walk.specs.Extent.{Wholly, Measures}
-use Rattle.walk.specs.declared.Extent.{Extent}
 use Rattle.walk.specs.declared.Extent.the-variants.{Whole, Refused}
 use Rattle.walk.proofs.Chained.{decodes}
 use Rattle.automaton.proofs.Laws.{alive-begins, place-begins}
@@ -26,7 +25,7 @@ use Rattle.automaton.proofs.Through.{finished, tree-run}
 use Rattle.automaton.proofs.Reached.{Reached, walked-on, reached-start, reach-run}
 use Rattle.automaton.proofs.Completed.{shut-is}
 use Rattle.pieces.specs.Capped.{capped, whole, extent}
-use Rattle.pieces.proofs.Capped.{capped-taken, capped-whole, capped-extent}
+use Rattle.pieces.proofs.Capped.{capped-taken, capped-extent}
 
 -- ---- whole exactly where the octets are one canonical form, with its sizes
 

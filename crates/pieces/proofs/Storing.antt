@@ -1,14 +1,13 @@
 -- A piece stored and followed, whatever the state is.
 use Prim.Native.Nat.{ℕ, _+_, _-_, _≤_, _<_, min}
 use native.Mathlib.Omega.{arith}
-use mathlib.Core.Path.{_≡_, refl, sym, ap, _∙_}
+use mathlib.Core.Path.{_≡_, sym, ap, _∙_}
 use mathlib.Core.List.{List, [], _++_, append-nil}
-use lib.ListN.{length, take, drop, length-append}
+use lib.ListN.{length, take, drop}
 use lib.Seq.{sets, take-all, take-append-le, take-append-add}
 use borrow.Author.Tests.{le-leb, lt-leb}
 use Rattle.base.proofs.Cases.{by-le, picked, unpicked}
 use Rattle.base.proofs.Lists.{front-length}
-use Rattle.model.specs.Limits.{maxCanonical}
 use Rattle.scan.specs.Writes.{Wrote}
 use Rattle.model.specs.Automaton as automaton
 use Rattle.model.specs.Automaton.{start, run}

@@ -1,13 +1,12 @@
 -- A piece fed in turn: the state and the sheet that s led to become those that s and the piece lead to.
 use Prim.Native.Nat.{ℕ, _+_, _-_, _≤_, _<_, min}
 use native.Mathlib.Omega.{arith}
-use mathlib.Core.Path.{_≡_, refl, sym, ap, ap₂, _∙_}
+use mathlib.Core.Path.{_≡_, refl, sym, ap, _∙_}
 use mathlib.Core.List.{List, [], _++_, append-nil}
 use lib.ListN.{length, take, drop, length-append, length-take, length-drop}
 use lib.Seq.{sets, sets-eq, take-all, take-at, drop-append-add, drop-drop}
 use borrow.Author.Tests.{le-leb, lt-leb, eq-eqb}
 use Rattle.base.proofs.Cases.{by-le, picked, unpicked, true-both, differ}
-use Rattle.model.specs.Limits.{maxCanonical}
 use Rattle.model.specs.Automaton as automaton
 use Rattle.model.specs.Automaton.{start, run}
 use Rattle.automaton.proofs.Runs.{run-append}

@@ -2,21 +2,21 @@
 use Prim.Native.Nat.{ℕ, _+_, _≤_, _<_, min}
 use native.Mathlib.Omega.{arith}
 use mathlib.Core.Path.{_≡_, refl, sym, ap, _∙_, subst}
-use mathlib.Core.Bool.{true, false}
+use mathlib.Core.Bool.{true}
 use mathlib.Core.Option.{Option, none, some}
 use mathlib.Core.List.{List, _++_}
-use lib.ListN.{length, take, drop, length-append, length-drop}
-use lib.Seq.{sets, take-all, take-at, drop-append-seam}
+use lib.ListN.{length, take, drop, length-append}
+use lib.Seq.{take-all, take-at, drop-append-seam}
 use borrow.Author.Tests.{le-leb, lt-leb, lt-ltb, le-ltb, eq-eqb}
-use Rattle.base.proofs.Cases.{by-le, by-eq, picked, unpicked, true-both, differ}
+use Rattle.base.proofs.Cases.{by-le, picked, unpicked, true-both, differ}
 use Rattle.base.proofs.Stores.{sets-all}
 use Rattle.model.specs.Answers.{verdict, judged, noForm, textChecks, Outcome, settled, unchangedAt, unchanged, placeOf, telling, filled, readingChecks, reading}
 use Rattle.model.specs.Decode.{decode₁, decode}
-use Rattle.model.specs.Limits.{maxSource, maxCanonical, SourceSize, Syntax, NotOwn}
+use Rattle.model.specs.Limits.{maxSource, SourceSize, Syntax}
 use Rattle.model.specs.Table.{records}
 use Rattle.model.specs.Tree.{Tree, canon, nodes, depth}
 use Rattle.model.proofs.Exact.{canon-sound}
-use Rattle.walk.specs.Extent.{Wholly, Measures}
+use Rattle.walk.specs.Extent.{Measures}
 use Rattle.walk.specs.declared.Extent.{Extent}
 use Rattle.walk.specs.declared.Extent.the-variants.{Whole, Refused}
 use Rattle.answers.specs.Cases.{outcome}
@@ -26,8 +26,8 @@ use Rattle.reader.proofs.Rooms.{roomy, tree-none, tree-refused, tree-accepted, 
 use Rattle.model.specs.Automaton as automaton
 use Rattle.model.specs.Automaton.{start, run, place}
 use Rattle.pieces.specs.Capped.{cap, capped, extent}
-use Rattle.pieces.specs.Tracks.{meant, coded}
-use Rattle.pieces.specs.Feeding.{space, sheetAfter, trackAfter, stateAfter, InTurn, sameSizes}
+use Rattle.pieces.specs.Tracks.{meant}
+use Rattle.pieces.specs.Feeding.{space, sheetAfter, trackAfter, stateAfter, sameSizes}
 use Rattle.pieces.specs.Ending.{inSheet, End, pastRow, pastPlace, endedBy}
 use Rattle.pieces.specs.declared.state.State.{State}
 use Rattle.pieces.proofs.Measured.{capped-measures, capped-fails}

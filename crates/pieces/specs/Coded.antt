@@ -1,6 +1,6 @@
 -- A running state as ten numbers, for callers in other languages; any numbers are allowed.
 use Prim.Native.Nat.{ℕ}
-use mathlib.Core.Bool.{Bool, true, false}
+use mathlib.Core.Bool.{Bool, false}
 use mathlib.Core.List.{List, [], _∷_}
 use lib.ListN.{getD}
 use lib.Dec.{eqb}
@@ -8,7 +8,6 @@ use Rattle.base.specs.Choice.{pick, not}
 use Rattle.pieces.specs.declared.state.State.{State}
 use Rattle.pieces.specs.declared.track.Phase.{Phase}
 use Rattle.pieces.specs.declared.track.Phase.the-variants.{Between, Sizing, Counting, Filling, Bracket, Dead}
-use Rattle.pieces.specs.declared.track.Track.{Track}
 
 abbrev pub bit : Bool → ℕ
 bit t = pick t 1 0

@@ -4,7 +4,7 @@ use mathlib.Core.Path.{_≡_}
 use mathlib.Core.Bool.{false}
 use mathlib.Core.List.{List}
 use lib.ListN.{length, take}
-use lib.Dec.{leb, ltb, eqb}
+use lib.Dec.{leb, ltb}
 use Rattle.base.specs.Choice.{pick}
 use Rattle.model.specs.Answers.{Outcome, unchangedAt, unchanged, reading}
 use Rattle.model.specs.Limits.{maxSource, SourceSize, Syntax, Size, NotOwn}

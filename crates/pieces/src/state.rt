@@ -1,7 +1,6 @@
 // The reader's running state, and a piece of text fed to it.
 ghost use mathlib.Core.Path.{_≡_};
 ghost use mathlib.Core.List.{[]};
-ghost use lib.ListN.{length};
 ghost use Rattle.model.specs.Automaton.{run};
 ghost use Rattle.pieces.specs.Capped.{capped};
 ghost use Rattle.pieces.specs.Tracks.{meant};

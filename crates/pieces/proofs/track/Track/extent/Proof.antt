@@ -4,12 +4,6 @@ use borrow.Author.Needs.{needs}
 use Rattle.pieces.proofs.track.Track.extent.Statement.{statement}
 use Rattle.pieces.proofs.track.Track.extent.Tie as tie
 
-rests-requires : tie.Need-rests-requires
-rests-requires c κs = search needs
-
-closed-requires : tie.Need-closed-requires
-closed-requires c κs = search needs
-
 returns : tie.Need-returns
 returns c = search (extent-whole, arith)
 
@@ -20,4 +14,11 @@ returns-3 : tie.Need-returns-3
 returns-3 c = search (extent-other, arith)
 
 pub extent-spec : {M : Type 1} → statement M
-extent-spec = tie.close (tie.spec rests-requires closed-requires returns returns-2 returns-3)
+extent-spec =
+    tie.close
+    (tie.spec
+    (λ c κs. search needs)
+    (λ c κs. search needs)
+    returns
+    returns-2
+    returns-3)
