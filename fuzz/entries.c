@@ -10,7 +10,8 @@
  * run: a refusal leaves what is lent; flat tables and records agree; what is
  * written reads back; a node replaced is the corrected sheet read afresh; reading
  * and replacing tell one place of a refused text; an extract of an extract is
- * the same; a spool shows what was added.
+ * the same; a spool shows what was added; a text in pieces, cut where its own
+ * octets say, ends as the whole is read in form 1.
  *
  * The library has no counters for libFuzzer. So inputs are kept by what they make
  * it answer, counted in `seen`, besides by what this file's code does. */
@@ -114,6 +115,41 @@ static void read_small(uint32_t form, const uint8_t *text, size_t size, size_t o
     HOLDS(place <= size && (place == 0 || (answer == ETG_SYNTAX && form != ETG_ADVANCED)));
     HOLDS(untouched(canonical + length, octets - length));
     HOLDS(untouched(rows + nodes, (records - nodes) * sizeof *rows));
+}
+
+/* The text in pieces, in room that may be too small: it ends as reading the whole
+ * does. A piece's first octet says how long it is, up to 64 octets, and where it
+ * is odd an empty piece comes before. */
+static void in_pieces(const uint8_t *text, size_t size, size_t octets, size_t records, int at_end)
+{
+    uint8_t *whole = room(OTHER, octets, 1, at_end), *canonical = room(OUT, octets, 1, at_end);
+    struct etg_record *rows = room(RECORDS, records, sizeof *rows, at_end);
+    struct etg_record *fed = room(OTHER_TABLE, records, sizeof *fed, at_end);
+    struct etg_pieces_state state, before;
+    size_t at, step, taken = 0, length, nodes, place, told[3], begun;
+    uint32_t answer = etg_read_records(ETG_CANONICAL, text, size, whole, octets, rows, records, &length, &nodes, &place);
+
+    etg_pieces_start(&state, octets, records);
+    for (at = 0; at < size; at += step) {
+        step = text[at] % 64 + 1;
+        if (step > size - at)
+            step = size - at;
+        if (text[at] & 1)
+            HOLDS(etg_pieces_feed(&state, text + at, 0, canonical, octets, records, &taken) == ETG_ACCEPTED);
+        HOLDS(etg_pieces_feed(&state, text + at, step, canonical, octets, records, &taken) == ETG_ACCEPTED);
+        HOLDS(taken == (at + step > ETG_MOST_SOURCE ? ETG_MOST_SOURCE + 1 : at + step));
+    }
+    before = state;
+    HOLDS(etg_pieces_feed(&state, text, size, canonical, octets, records + 1, &taken) == ETG_NOT_OWN && taken == 0);
+    begun = size < octets ? size : octets;
+    begun = begun < ETG_MOST_CANONICAL ? begun : ETG_MOST_CANONICAL;
+    HOLDS(memcmp(canonical, text, begun) == 0 && untouched(canonical + begun, octets - begun));
+    HOLDS(etg_pieces_end_records(&state, canonical, octets, fed, records, &told[0], &told[1], &told[2]) == answer);
+    saw(10, answer, nodes);
+    HOLDS(told[0] == length && told[1] == nodes && told[2] == place);
+    HOLDS(memcmp(&state, &before, sizeof state) == 0);
+    HOLDS(memcmp(fed, rows, records * sizeof *fed) == 0);
+    HOLDS(answer != ETG_ACCEPTED || memcmp(canonical, whole, octets) == 0);
 }
 
 /* What is written reads back, in each form. */
@@ -258,6 +294,7 @@ int LLVMFuzzerTestOneInput(const uint8_t *data, size_t size)
     memcpy(text, data + 3, size);
 
     read_small(form, text, size, (size_t)data[2] * 8, data[2], at_end);
+    in_pieces(text, size, (size_t)data[2] * 8, data[2], at_end);
     answer = read_to(&sheet, SHEET, TABLE, form, text, size, at_end);
     saw(0, answer, sheet.nodes);
     HOLDS((answer == ETG_FORM) == (form < ETG_CANONICAL || form > ETG_ADVANCED));

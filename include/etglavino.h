@@ -28,44 +28,49 @@
  *
  * Stack that a call takes at most, in octets (x86-64), besides what the C
  * library's memset and memcpy take:
- *   etg_read                 120,856
- *   etg_read_records         120,040
- *   etg_write                 35,192
- *   etg_replace              120,664
- *   etg_replace_records      120,264
- *   etg_insert               120,664
- *   etg_insert_records       120,264
- *   etg_remove               120,680
- *   etg_remove_records       120,280
- *   etg_same                   2,520
- *   etg_hint                  67,976
- *   etg_hint_records          67,896
- *   etg_data                  67,976
- *   etg_data_records          67,896
- *   etg_spool_open             2,488
- *   etg_spool_add_start        2,552
+ *   etg_read                 120,776
+ *   etg_read_records         119,960
+ *   etg_write                 35,112
+ *   etg_replace              120,584
+ *   etg_replace_records      120,184
+ *   etg_insert               120,584
+ *   etg_insert_records       120,184
+ *   etg_remove               120,600
+ *   etg_remove_records       120,200
+ *   etg_same                   2,408
+ *   etg_hint                  67,896
+ *   etg_hint_records          67,816
+ *   etg_data                  67,896
+ *   etg_data_records          67,816
+ *   etg_spool_open             2,408
+ *   etg_spool_add_start        2,472
  *   etg_spool_add_step            32
  *   etg_spool_add_commits          8
- *   etg_spool_add              2,552
- *   etg_value                 67,928
- *   etg_value_records         67,912
+ *   etg_spool_add              2,472
+ *   etg_value                 67,848
+ *   etg_value_records         67,832
  *   etg_put_value                 24
- *   etg_line                  67,944
- *   etg_line_records          67,928
+ *   etg_line                  67,864
+ *   etg_line_records          67,848
  *   etg_total                     72
- *   etg_week                  67,928
- *   etg_week_records          67,912
- *   etg_extract              136,632
- *   etg_extract_own          136,632
- *   etg_extract_records      136,616
- *   etg_extract_own_records  136,616
+ *   etg_week                  67,848
+ *   etg_week_records          67,832
+ *   etg_extract              136,552
+ *   etg_extract_own          136,552
+ *   etg_extract_records      136,536
+ *   etg_extract_own_records  136,536
  *   etg_split                    184
+ *   etg_pieces_start               8
+ *   etg_pieces_feed              328
+ *   etg_pieces_end            67,880
+ *   etg_pieces_end_records    67,832
  *
  * Refusals. Every function but those that find a hint or data, that split a
  * run of sheets, or that go on with an addition to a spool, returns one of
- * these numbers. In a refusal the values given out are 0, but for `*place` with
- * 3, for `*bad` of etg_week with 12 and for the state of a refused start, and
- * every lent buffer holds what it held.
+ * these numbers; the start of a text in pieces returns nothing. In a refusal the
+ * values given out are 0, but for `*place` with 3, for `*bad` of etg_week with 12
+ * and for the state of a refused start, and every lent buffer holds what it held,
+ * but for the sheet that a text in pieces went to.
  */
 #ifndef ETGLAVINO_H
 #define ETGLAVINO_H
@@ -95,7 +100,9 @@ enum {
     ETG_NOT_OWN = 7,    /* not the canonical form of one tree that fits, or the
                            table is not its own, or a length or count is
                            beyond what is lent; a raw value to be written
-                           whose place is no part of the octets lent */
+                           whose place is no part of the octets lent; a sheet
+                           or a table of another size than at the start of a
+                           text in pieces */
     ETG_NO_NODE = 8,    /* there is no node of that number */
     ETG_NO_PLACE = 9,   /* the node isn't a list, the list has no such place, or
                            node 0 is to be removed */
@@ -345,6 +352,60 @@ uint32_t etg_spool_add(uint8_t *area, size_t area_size,
  *
  * What is then left, if anything, begins no sheet. */
 size_t etg_split(const uint8_t *run, size_t len);
+
+/* Texts in pieces */
+
+/* A reading of canonical text that comes in pieces. The numbers are the
+ * library's own business; any may stand there. They may be copied, and kept
+ * between calls anywhere. */
+struct etg_pieces_state {
+    uint64_t opaque[10];
+};
+
+/* Starts a reading into a sheet with room for `canonical_size` octets and a
+ * table of `table_size`: numbers of a flat table, or records. The table is not
+ * touched before an accepted end, so that the start and the pieces take its
+ * size alone. */
+void etg_pieces_start(struct etg_pieces_state *state,
+                      size_t canonical_size, size_t table_size);
+
+/* The next piece of the text. It may be empty, and may be cut anywhere. Sheet
+ * and table are the same each time, and left alone between.
+ *
+ * `*taken` tells the octets taken so far, up to 32,769: the text is then too
+ * long, whatever comes. The sheet begins with them, as far as its room and
+ * 16,384 go; past them it is as it was. Whether the text is one is told by the
+ * end alone. After the same octets, however they were cut, state and sheet are
+ * the same.
+ *
+ * Refusal: 7 where a size is not that of the start. `*taken` is 0 then, and
+ * nothing changes, nor does the state. With other numbers in the state, or a
+ * sheet that was changed between, a call still makes this check, and keeps
+ * inside what is lent. */
+uint32_t etg_pieces_feed(struct etg_pieces_state *state,
+                         const uint8_t *piece, size_t piece_size,
+                         uint8_t *canonical, size_t canonical_size, size_t table_size,
+                         size_t *taken);
+
+/* The end of the text: the answer of etg_read in form 1 on all octets fed, with
+ * length, node count and place. On acceptance sheet and table are what etg_read
+ * leaves. A refusal restores nothing: the sheet stays as the pieces left it, and
+ * the table as it was.
+ *
+ * Refusals, the first that applies: 7 where a size is not that of the start, 2,
+ * 3, 4, 5, 6. With other numbers in the state, or a sheet that was changed
+ * between, a call still makes the first check, and keeps inside what is lent. */
+uint32_t etg_pieces_end(const struct etg_pieces_state *state,
+                        const uint8_t *canonical, size_t canonical_size,
+                        uint32_t *table, size_t table_size,
+                        size_t *length, size_t *nodes, size_t *place);
+
+/* The same with the table lent as records; `record_count` counts records, and
+ * is the table's size at the start. */
+uint32_t etg_pieces_end_records(const struct etg_pieces_state *state,
+                                const uint8_t *canonical, size_t canonical_size,
+                                struct etg_record *records, size_t record_count,
+                                size_t *length, size_t *nodes, size_t *place);
 
 /* Values with a type, and hours */
 

@@ -4,12 +4,13 @@
 //! `bench READER TEXT TIMES` only reads, for a profiler: READER is `library` or
 //! `plain`, TEXT a name of the first table. `bench beside OBJECT` times reading
 //! beside another build's shared object, `bench lengths` two ways to write a
-//! length, `bench runs` only the splitting of runs, and `bench spool` only the
-//! spool.
+//! length, `bench runs` only the splitting of runs, `bench pieces` only texts in
+//! pieces, and `bench spool` only the spool.
 
 mod beside;
 mod entries;
 mod lengths;
+mod pieces;
 mod readers;
 mod records;
 mod runs;
@@ -36,6 +37,10 @@ fn main() -> ExitCode {
             runs::table();
             true
         }
+        [word] if word == "pieces" => {
+            pieces::table();
+            true
+        }
         [word] if word == "spool" => {
             spool::table();
             true
@@ -46,7 +51,7 @@ fn main() -> ExitCode {
     };
     if !done {
         eprintln!(
-            "usage: bench [library|plain TEXT TIMES | beside OBJECT | lengths | runs | spool]"
+            "usage: bench [library|plain TEXT TIMES | beside OBJECT | lengths | pieces | runs | spool]"
         );
     }
     ExitCode::from(if done { 0 } else { 2 })
@@ -63,6 +68,7 @@ fn tables() {
     readers::table(gcrypt.as_ref());
     entries::table();
     records::table();
+    pieces::table();
     spool::table();
     runs::table();
 }

@@ -1,18 +1,19 @@
 //! `compare SEED COUNT`: the fixed cases, COUNT random ones of the seed and the
 //! largest sheets, each answered by the library and by the reference program; then
 //! elements put into lists and nodes removed, and extracts, about as many random
-//! ones again of each; then the places of texts that are refused; then spools; then
-//! runs of sheets and pairs of corrections in either order, a tenth as many each;
-//! then the fixed sheets of values and hours, and a tenth as many random ones, node
-//! by node. Answers and all lent buffers must be the same. Of what differs the first
-//! five of each part are shown, the rest counted; the exit status is 1 where anything
-//! does.
+//! ones again of each; then the places of texts that are refused; then texts in
+//! pieces, a tenth as many random ones; then spools; then runs of sheets and pairs of
+//! corrections in either order, a tenth as many each; then the fixed sheets of values
+//! and hours, and a tenth as many random ones, node by node. Answers and all lent
+//! buffers must be the same. Of what differs the first five of each part are shown,
+//! the rest counted; the exit status is 1 where anything does.
 
 mod clerks;
 mod corrections;
 mod extract;
 mod larger;
 mod library;
+mod pieces;
 mod place;
 mod runs;
 mod spool;
@@ -72,6 +73,7 @@ fn compare(seed: u64, count: u64) -> ExitCode {
         tally.values().sum::<u64>()
     );
     differences += place::compare();
+    differences += pieces::compare(seed, count.div_ceil(10));
     differences += spool::compare(seed, count);
     differences += runs::compare(seed, count.div_ceil(10));
     differences += clerks::compare(seed, count.div_ceil(10));

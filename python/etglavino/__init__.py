@@ -15,6 +15,13 @@ of a tree, with a record for each of its nodes.
     >>> sheet.insert(Form.ADVANCED, b"(d e)", 0, 1).remove(1).canonical
     b'((1:d1:e)[1:x]0:)'
 
+A canonical text that comes in scraps, from a slow line, is fed to `Pieces` as
+it comes, or read by `read_pieces`.
+
+    >>> from etglavino import read_pieces
+    >>> read_pieces([b"(3:a", b"", b"bc)"]).data(1)
+    b'abc'
+
 Sheets wait in a spool, which stands a power cut: `SpoolFile` keeps one in a
 file, and `spool_open`, `spool_add` and `Adding` work in octets of the caller's.
 
@@ -35,6 +42,7 @@ from ._entries import MAX_CANONICAL, MAX_DEPTH, MAX_NODES, MAX_SOURCE
 from ._entries import Form, Octets, Refusal
 from ._extract import extract
 from ._library import LibraryMissing
+from ._pieces import Pieces, read_pieces
 from ._run import Run, split
 from ._sheet import Node, Sheet, insert, read, remove, replace, same, write
 from ._spool import Adding, Opened, spool_add, spool_open, spool_sheets, spool_shown
@@ -55,6 +63,7 @@ __all__ = [
     "Node",
     "Octets",
     "Opened",
+    "Pieces",
     "Refusal",
     "Run",
     "Sheet",
@@ -63,6 +72,7 @@ __all__ = [
     "extract",
     "insert",
     "read",
+    "read_pieces",
     "remove",
     "replace",
     "same",

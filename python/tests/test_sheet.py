@@ -171,7 +171,7 @@ class Words(Case):
 
     def test_the_documentations_examples(self) -> None:
         tried = doctest.testmod(etglavino)
-        self.assertEqual((tried.failed, tried.attempted), (0, 10))
+        self.assertEqual((tried.failed, tried.attempted), (0, 12))
 
 
 if __name__ == "__main__":

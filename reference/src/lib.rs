@@ -19,6 +19,7 @@ pub mod extract;
 pub mod lexeme;
 pub mod limits;
 pub mod output;
+pub mod pieces;
 pub mod place;
 pub mod run;
 pub mod spool;

@@ -47,6 +47,18 @@ pub type Look<T> = unsafe extern "C" fn(
     end: *mut usize,
 ) -> u32;
 
+/// What `etg_pieces_end` is, over a table of `T`.
+pub type PiecesEnd<T> = unsafe extern "C" fn(
+    state: *const [u64; 10],
+    canonical: *const u8,
+    canonical_size: usize,
+    table: *mut T,
+    table_size: usize,
+    length: *mut usize,
+    nodes: *mut usize,
+    place: *mut usize,
+) -> u32;
+
 extern "C" {
     pub fn etg_read(
         form: u32,
@@ -216,5 +228,39 @@ extern "C" {
         sheet: *const u8,
         sheet_size: usize,
         length: usize,
+    ) -> u32;
+
+    pub fn etg_pieces_start(state: *mut [u64; 10], canonical_size: usize, table_size: usize);
+
+    pub fn etg_pieces_feed(
+        state: *mut [u64; 10],
+        piece: *const u8,
+        piece_size: usize,
+        canonical: *mut u8,
+        canonical_size: usize,
+        table_size: usize,
+        taken: *mut usize,
+    ) -> u32;
+
+    pub fn etg_pieces_end(
+        state: *const [u64; 10],
+        canonical: *const u8,
+        canonical_size: usize,
+        table: *mut u32,
+        table_size: usize,
+        length: *mut usize,
+        nodes: *mut usize,
+        place: *mut usize,
+    ) -> u32;
+
+    pub fn etg_pieces_end_records(
+        state: *const [u64; 10],
+        canonical: *const u8,
+        canonical_size: usize,
+        records: *mut Record,
+        record_count: usize,
+        length: *mut usize,
+        nodes: *mut usize,
+        place: *mut usize,
     ) -> u32;
 }

@@ -5,7 +5,7 @@
 //! in lent space, with their length, are a *sheet*; its node table has eight
 //! numbers to a node, lent flat or as [`Record`]s. Everything goes into slices
 //! that the caller lends; nothing is allocated. After an `Err` every lent slice
-//! holds what it held.
+//! holds what it held, but for the octets of [`Pieces`].
 //!
 //! ```
 //! use etglavino::Form;
@@ -22,7 +22,8 @@
 //! ```
 //!
 //! A [`Sheet`] keeps octets, records and counts together, in lent space or in
-//! vectors, and has iterators over its nodes. Without the feature `std`, which
+//! vectors, and has iterators over its nodes. [`Pieces`] make one of a canonical
+//! text that comes in scraps. Without the feature `std`, which
 //! is on by default, the crate needs no standard library: what is owned, and
 //! the spool in a file, are missing then.
 #![cfg_attr(not(feature = "std"), no_std)]
@@ -32,6 +33,7 @@ mod extract;
 mod ffi;
 mod form;
 mod node;
+mod pieces;
 mod records;
 mod refusal;
 mod room;
@@ -51,6 +53,9 @@ pub use corrections::{
 pub use extract::{extract, extract_own, extract_own_records, extract_records};
 pub use form::Form;
 pub use node::{Children, Kind, Node, Nodes};
+#[cfg(feature = "std")]
+pub use pieces::OwnedPieces;
+pub use pieces::{LentPieces, Pieces, PiecesState};
 pub use records::{
     data_records, data_records_part, hint_records, hint_records_part, read_records,
     read_records_form, replace_records, replace_records_form, Record,

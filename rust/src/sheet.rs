@@ -231,7 +231,7 @@ impl<O: Room<u8>, R: Room<Record>> Sheet<O, R> {
         edited.map(drop)
     }
 
-    fn settled(mut octets: O, mut records: R, extent: Extent) -> Sheet<O, R> {
+    pub(crate) fn settled(mut octets: O, mut records: R, extent: Extent) -> Sheet<O, R> {
         octets.settle(extent.length);
         records.settle(extent.nodes);
         Sheet {
@@ -278,7 +278,7 @@ where
 
 /// Room for any tree that fits and takes at most so many octets, two of which
 /// make a node at most.
-fn make_room(octets: &mut impl Room<u8>, records: &mut impl Room<Record>, most: usize) {
+pub(crate) fn make_room(octets: &mut impl Room<u8>, records: &mut impl Room<Record>, most: usize) {
     let fitting = most.min(MAX_CANONICAL);
     octets.make(fitting);
     records.make((fitting / 2).min(MAX_NODES));

@@ -11,7 +11,7 @@ use std::process::Command;
 use std::thread;
 
 use common::{empties, nested, padded, verbatim, NUMBER, OCTET};
-use etglavino::{Adding, Extent, Record, Refusal, Slot};
+use etglavino::{Adding, Extent, PiecesState, Record, Refusal, Slot};
 use etglavino::{MAX_CANONICAL, MAX_NODES, MAX_SOURCE, RECORD};
 
 /// What a thread has: enough for any entry, and for the thread itself.
@@ -757,4 +757,53 @@ fn spooling() {
 #[test]
 fn etg_spool() {
     alone("etg_spool", spooling);
+}
+
+type End<T> = fn(&PiecesState, &[u8], &mut [T]) -> Result<Extent, Refusal>;
+
+/// A canonical text fed in pieces of a size, and its end.
+fn in_pieces<T: Table>(end: End<T>, text: &[u8], size: usize) -> Result<Extent, Refusal> {
+    let mut lent = Sheet::<T>::empty();
+    let (canonical, table) = (&mut lent.canonical, &mut lent.table);
+    let case = case(&format!("pieces of {size}"), 1, text);
+    let answer = tight(&case, || {
+        let mut state = PiecesState::start(canonical.len(), table.len());
+        for piece in text.chunks(size) {
+            let taken = state.feed(piece, canonical, table.len());
+            assert!(taken.is_ok(), "{case}");
+        }
+        end(&state, canonical, table)
+    });
+    let octets = text.len().min(MAX_CANONICAL);
+    assert!(lent.canonical[..octets] == text[..octets], "{case}");
+    answer
+}
+
+fn pieces<T: Table>(end: End<T>) {
+    let trees = TREES.map(|tree| (tree.canonical(), tree.extent()));
+    let full = |nodes| Extent {
+        length: MAX_CANONICAL,
+        nodes,
+    };
+    let most = [(hinted(), full(4_096)), (empties(8_191), full(8_192))];
+    let good = trees.into_iter().chain(most);
+    let good = good.map(|(text, extent)| (text, Ok(extent)));
+    let bad = bad_texts().into_iter().filter(|(form, ..)| *form == 1);
+    let bad = bad.map(|(_, text, refusal)| (text, Err(refusal)));
+    let long = [(vec![b'('; MAX_SOURCE + 1], Err(Refusal::SourceSize))];
+    for (text, answer) in good.chain(bad).chain(long) {
+        for size in [1, 512, MAX_SOURCE + 1] {
+            assert_eq!(in_pieces(end, &text, size), answer);
+        }
+    }
+}
+
+#[test]
+fn etg_pieces() {
+    alone("etg_pieces", || pieces(PiecesState::end));
+}
+
+#[test]
+fn etg_pieces_records() {
+    alone("etg_pieces_records", || pieces(PiecesState::end_records));
 }

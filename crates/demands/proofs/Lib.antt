@@ -30,3 +30,4 @@ pub mod Weekly
 pub mod Summed
 pub mod Totals
 pub mod Extracts
+pub mod Pieces

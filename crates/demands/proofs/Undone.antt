@@ -2,21 +2,24 @@
 -- place; another tree inserted there; and that removed space is used again.
 use Prim.Native.Nat.{ℕ, _*_, _-_, _≤_, _<_, max}
 use native.Mathlib.Omega.{arith}
-use mathlib.Core.Path.{_≡_, sym, ap, ap₂, _∙_}
+use mathlib.Core.Path.{_≡_, sym, ap, ap₂, subst, _∙_}
 use mathlib.Core.Bool.{true, false}
 use mathlib.Core.Option.{some}
 use mathlib.Core.List.{List}
 use lib.ListN.{length, take, take-append-drop}
+use Rattle.base.specs.Choice.{isNone}
+use Rattle.base.proofs.Cases.{some-same, not-false}
 use Rattle.model.specs.Answers.{noForm, settled, Outcome, filled, replacing}
 use Rattle.model.specs.Corrections.{inserting, removing}
 use Rattle.model.specs.Decode.{decode}
 use Rattle.model.specs.Edit.{insert, remove, replace}
 use Rattle.model.specs.Limits.{maxSource, maxDepth}
-use Rattle.model.specs.Node.{nodeAt}
+use Rattle.model.specs.Node.{nodeAt, hasPlace}
 use Rattle.model.specs.Table.{width, rowOf, tableOf}
 use Rattle.model.specs.Tree.{Tree, nil, canon, nodes, depth}
 use Rattle.edits.specs.Element.{placed, Element}
 use Rattle.edits.specs.Node.{holds}
+use Rattle.edits.proofs.Changes.{placed-exact}
 use Rattle.edits.proofs.Find.{nodes-pos}
 use Rattle.edits.proofs.Elements.{place-after, place-left, within-tree, remove-inserted, insert-removed, replace-is}
 use Rattle.edits.proofs.Inserted.{insert-in, insert-length, insert-nodes, remove-length, remove-nodes}
@@ -141,6 +144,25 @@ module _ (canonical table : List ℕ) (len count j : ℕ) (c : Removable canonic
       let f = remove-length (c .old) j (remove-inside canonical table len count j c) (c .inner) in
       room-left (record { shallow = deep; recorded = omega (arith, r .recorded); small = omega (arith, r .small); roomy = omega (arith, r .roomy) })
 
+  -- so that such a text is taken, whatever its form, if the tree is not too deep
+  pub used-by : (n k i : ℕ) → n < nodes (remove (c .old) j) → placed (rowOf (remove (c .old) j)) n k ≡ some i → (form : ℕ) (text : List ℕ) (u : Tree) → noForm form ≡ false → length text ≤ maxSource → decode form text ≡ some u
+      → nodes u ≤ rowOf (c .old) j .count → length (canon u) ≤ rowOf (c .old) j .end - rowOf (c .old) j .start → depth (insert (remove (c .old) j) n k u) ≤ maxDepth
+      → inserting form text (left .canonical) (left .table) (left .octets) (left .count) n k ≡ filled (insert (remove (c .old) j) n k u) (left .octets) (left .count) (left .canonical) (left .table)
+  unfolding isNone
+  used-by n k i h e form text u known short valid few small deep =
+      insert-accepted form text (left .canonical) (left .table) (left .octets) (left .count) n k
+      (record {
+        new = u;
+        old = remove (c .old) j;
+        known = known;
+        short = short;
+        valid = valid;
+        own = own-again gone;
+        present = omega (arith, corrected-count gone);
+        place = not-false {t = hasPlace (nodeAt (remove (c .old) j) n) k} (sym (placed-exact (remove (c .old) j) n h k) ∙ ap isNone e);
+        room = used-again n h k i e u few small deep;
+      })
+
   module _ (n k : ℕ) (e : Element (c .old) n k j) (form : ℕ) (text : List ℕ) (u : Tree) (known : noForm form ≡ false) (short : length text ≤ maxSource) (valid : decode form text ≡ some u)
       (r : Room (replace (c .old) j u) canonical table) where
     abbrev back : Outcome
@@ -168,6 +190,17 @@ module _ (canonical table : List ℕ) (len count j : ℕ) (c : Removable canonic
         ∙ ap (λ (o : Outcome). filled (replace (c .old) j u) (o .octets) (o .count) (o .canonical) (o .table)) (gone .is)
         ∙ filled-twice canonical table len count (remove (c .old) j) (replace (c .old) j u) (owned .sheet .lent) (own-lent canonical len table count (c .old) owned) (gone .room) r
         ∙ ap₂ (λ (a b : ℕ). filled (replace (c .old) j u) a b canonical table) x y
+
+  -- where both are accepted, so is the replacing, and it leaves what they leave
+  pub in-one : (n k : ℕ) → Element (c .old) n k j → (form : ℕ) (text : List ℕ) → Insertable form text (left .canonical) (left .table) (left .octets) (left .count) n k
+      → replacing form text canonical table len count j ≡ inserting form text (left .canonical) (left .table) (left .octets) (left .count) n k
+  in-one n k e form text i =
+      let o : insert (i .old) n k (i .new) ≡ replace (c .old) j (i .new)
+      = some-same (λ (t : Tree). insert t n k (i .new) ≡ replace (c .old) j (i .new)) (sym (own-again gone) ∙ i .own) (replace-is (c .old) n k j e (i .new)) in
+      let r = room-as (left .canonical) (left .table) canonical table (sym (canonical-long gone)) (sym (table-long gone)) (subst (λ (t : Tree). Room t (left .canonical) (left .table)) o (i .room)) in
+      accepted form text canonical table len count j
+      (record { new = i .new; old = c .old; known = i .known; short = i .short; valid = i .valid; own = c .own; present = c .present; room = r })
+      ∙ sym (put-there n k e form text (i .new) (i .known) (i .short) (i .valid) r)
 
   -- ---- inserting what was removed, in its place: sheet, table and counts as they were, and all lent space
   pub restored : (n k : ℕ) → Element (c .old) n k j → (form : ℕ) (text : List ℕ) → noForm form ≡ false → length text ≤ maxSource → decode form text ≡ some (nodeAt (c .old) j)

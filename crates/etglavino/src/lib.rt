@@ -1,9 +1,10 @@
 // The library's entries: nothing else is a user's business. Each answers and ends whatever it is given, and each promise is an
-// equation with one definition, of crate model or, of what requests brought, of spools, typed, extracts or batch: it settles the
-// answer and every lent octet and number afterwards.
+// equation with one definition, of crate model or, of what requests brought, of spools, typed, extracts, batch or pieces: it
+// settles the answer and every lent octet and number afterwards.
 mod batching; // batching.rt: sheets written back to back
 mod corrections; // corrections.rt: elements put into lists, and nodes removed
 mod foremen; // foremen.rt: extracts
+mod piecing; // piecing.rt: texts in pieces
 mod spooling; // spooling.rt: a spool of sheets
 mod typing; // typing.rt: values with a type, and hours
 
@@ -20,6 +21,9 @@ pub use corrections::insert;
 pub use corrections::remove;
 pub use foremen::extract;
 pub use foremen::extract_own;
+pub use piecing::pieces_end;
+pub use piecing::pieces_feed;
+pub use piecing::pieces_start;
 pub use spooling::spool_add;
 pub use spooling::spool_add_commits;
 pub use spooling::spool_add_start;

@@ -7,3 +7,4 @@ pub mod PlacedHanding
 pub mod Spooled
 pub mod ValueHanded
 pub mod ExtractHanded
+pub mod Pieced

@@ -1,3 +1,4 @@
 pub mod Pointers
 pub mod Spooling
 pub mod Values
+pub mod Piecing

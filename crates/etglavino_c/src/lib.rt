@@ -3,6 +3,7 @@
 mod batching; // batching.rt: sheets written back to back
 mod corrections; // corrections.rt: elements put into lists, and nodes removed
 mod extract; // extract.rt: extracts for foremen
+mod piecing; // piecing.rt: texts in pieces
 mod spooling; // spooling.rt: the spool
 mod values; // values.rt: values with a type, and hours
 

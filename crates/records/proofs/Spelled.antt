@@ -44,3 +44,10 @@ notesTy = tyArray word mostNodes
 
 abbrev pub toNotes : Lifetime → Mutability → Ty
 toNotes ℓ μ = tyRef ℓ μ notesTy
+
+-- a state of a text in pieces
+abbrev pub Ten : RattleType
+Ten = Array usize 10
+
+abbrev pub toTen : Lifetime → Mutability → Ty
+toTen ℓ μ = tyRef ℓ μ (tyArray word 10)

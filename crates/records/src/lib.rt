@@ -2,6 +2,7 @@
 // records are few and thin.
 mod corrections; // corrections.rt: elements put into lists, and nodes removed
 mod foremen; // foremen.rt: extracts
+mod piecing; // piecing.rt: texts in pieces
 mod told; // told.rt: the record that a note tells
 
 ghost use mathlib.Core.Path.{_≡_};
@@ -19,6 +20,7 @@ pub use corrections::insert;
 pub use corrections::remove;
 pub use foremen::extract;
 pub use foremen::extract_own;
+pub use piecing::pieces_end;
 
 // A node's record: its eight numbers, in document 01's order.
 #[repr(C)]

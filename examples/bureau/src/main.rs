@@ -12,6 +12,7 @@ mod made;
 mod night;
 mod rng;
 mod spell;
+mod terminal;
 
 use std::path::PathBuf;
 use std::process::ExitCode;

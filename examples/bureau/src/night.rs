@@ -11,6 +11,7 @@ use etglavino::{Form, Node, OwnedSheet, Refusal, SpoolError, SpoolFile};
 use crate::made::{line, made, Fate, Made};
 use crate::rng::Rng;
 use crate::spell::canonical;
+use crate::terminal::Terminal;
 
 /// Lines and quarters of a worker of a factory.
 type Hours = BTreeMap<(usize, String), (usize, u32)>;
@@ -197,12 +198,17 @@ impl<'a> Night<'a> {
     }
 }
 
-/// Reads every text in its form. What is damaged is refused as it was made to be.
+/// Reads every text in its form, a canonical one as the line brings it. What is
+/// damaged is refused as it was made to be.
 fn take(made: &[Vec<Made>]) -> Result<(Vec<(usize, OwnedSheet)>, usize), String> {
     let (mut taken, mut refused) = (Vec::new(), 0);
     for (factory, made) in made.iter().enumerate() {
+        let mut terminal = Terminal::new(factory as u64);
         for (number, made) in made.iter().enumerate() {
-            let answer = OwnedSheet::of_text(made.form, &made.text);
+            let answer = match made.form {
+                Form::Canonical => terminal.sheet(&made.text),
+                form => OwnedSheet::of_text(form, &made.text),
+            };
             let fate = match &answer {
                 Err(refusal) => Fate::Refused(refusal.number()),
                 Ok(_) if made.fate == Fate::TooLong => Fate::TooLong,

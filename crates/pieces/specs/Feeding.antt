@@ -1,0 +1,93 @@
+-- Text in pieces (02, Ask 1): what state and sheet are after the octets fed so far, and what a piece does.
+use Prim.Native.Nat.{ℕ, _+_, _-_, min}
+use mathlib.Core.Path.{_≡_}
+use mathlib.Core.Bool.{Bool, false}
+use mathlib.Core.List.{List, _++_}
+use lib.ListN.{length, take, drop}
+use lib.Seq.{sets}
+use lib.Dec.{leb, eqb}
+use Rattle.base.specs.Choice.{pick, both}
+use Rattle.model.specs.Limits.{Accepted, NotOwn, maxCanonical}
+use Rattle.model.specs.Automaton.{start, run}
+use Rattle.pieces.specs.Capped.{cap, capped}
+use Rattle.pieces.specs.Tracks.{meant, coded}
+use Rattle.pieces.specs.declared.state.State.{State}
+use Rattle.pieces.specs.declared.state.Fed.{Fed}
+use Rattle.pieces.specs.declared.track.Track.{Track}
+
+-- ---- what is promised
+
+-- 02, "as far as its room and 16,384 go"
+abbrev pub space : ℕ → ℕ
+space room = min room maxCanonical
+
+-- 02, "the sheet already begins with them"
+unfoldable pub kept : List ℕ → List ℕ → List ℕ
+kept first s = take (space (length first)) s
+
+unfoldable pub sheetAfter : List ℕ → List ℕ → List ℕ
+sheetAfter first s = kept first s ++ drop (length (kept first s)) first
+
+-- while the sheet holds all of the text, nothing else is known of it; from then on the automaton has gone over it
+unfoldable pub trackAfter : ℕ → List ℕ → Track
+trackAfter room s = pick (leb (length s) (space room)) (coded start) (coded (run capped start (take cap s)))
+
+-- 02, "fixed by the octets fed and the buffers' first contents, never by the cutting": of the buffers, by their sizes.
+-- "the count stops at 32,769": octets past it are not looked at
+unfoldable pub stateAfter : ℕ → ℕ → List ℕ → State
+stateAfter room lent s = record { track = trackAfter room s; fed = min (length s) cap; room = room; lent = lent }
+
+-- 02, "the starting state and .. those handed back from it in turn", with the sheet "left alone between":
+-- the octets s were fed, and the sheet first held `first`
+pub record InTurn (first : List ℕ) (lent : ℕ) (s : List ℕ) (x : State) (sheet : List ℕ) : Type 0 where
+  pub x-is : x ≡ stateAfter (length first) lent s
+  pub sheet-is : sheet ≡ sheetAfter first s
+
+-- 02, "lent one of another size than the first time": the sheet's octets, and the table's numbers or records
+unfoldable pub sameSizes : State → ℕ → ℕ → Bool
+sameSizes x room lent = both (eqb room (x .room)) (eqb lent (x .lent))
+
+-- 02, "gets 7, with counts 0"
+abbrev pub sentBack : State → Fed
+sentBack x = record { state = x; number = NotOwn; octets = 0 }
+
+-- 02, "After each piece we are told the octets taken so far"
+abbrev pub taken : State → Fed
+taken x = record { state = x; number = Accepted; octets = x .fed }
+
+-- a piece, fed in a state, into a sheet; with the sheet afterwards, and the answer. What 02 leaves open is left open: "with any
+-- other state, or buffers changed between, a call still ends, keeps inside what is lent and makes the size check"
+pub record Piece (x : State) (piece sheet : List ℕ) (lent : ℕ) (after : List ℕ) (r : Fed) : Type 0 where
+  -- whatever the state is: "before all else, and nothing changes, the state included"
+  pub resized : sameSizes x (length sheet) lent ≡ false → (r ≡ sentBack x) × (after ≡ sheet)
+  pub goes-on : (first s : List ℕ) → InTurn first lent s x sheet → (r ≡ taken (stateAfter (length first) lent (s ++ piece))) × (after ≡ sheetAfter first (s ++ piece))
+
+-- ---- what the code does, whatever the state is
+
+pub record Fill : Type 0 where
+  pub state : State
+  pub sheet : List ℕ
+
+abbrev pub fill : State → List ℕ → Fill
+fill x sheet = record { state = x; sheet = sheet }
+
+abbrev pub advancedTo : State → Track → ℕ → State
+advancedTo x track fed = record { track = track; fed = fed; room = x .room; lent = x .lent }
+
+-- octets stored from a place on, as far as the space goes
+unfoldable pub storedBy : ℕ → List ℕ → List ℕ → List ℕ
+storedBy at piece sheet = sets sheet at (take (space (length sheet) - at) piece)
+
+abbrev pub total : ℕ → ℕ → ℕ
+total fed n = min (fed + n) cap
+
+-- the track of the octets so far, which the sheet has while it holds them all
+unfoldable pub caughtUp : Track → ℕ → List ℕ → Track
+caughtUp track fed sheet = pick (leb fed (space (length sheet))) (coded (run capped start (take fed sheet))) track
+
+unfoldable pub goneOn : Track → ℕ → List ℕ → List ℕ → Track
+goneOn track fed piece sheet =
+    pick (leb (total fed (length piece)) (space (length sheet))) track (coded (run capped (meant (caughtUp track fed sheet)) (take (cap - fed) piece)))
+
+unfoldable pub fedBy : State → List ℕ → List ℕ → Fill
+fedBy x piece sheet = fill (advancedTo x (goneOn (x .track) (x .fed) piece sheet) (total (x .fed) (length piece))) (storedBy (x .fed) piece sheet)
