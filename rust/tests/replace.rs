@@ -112,7 +112,7 @@ fn an_insertion_tells_where_its_text_went_wrong() {
 #[test]
 fn each_refusal() {
     let replaced = |form, text: &[u8], node| Sheet::list().replace(form, text, node);
-    for form in [0, 4, u32::MAX] {
+    for form in [0, 5, u32::MAX] {
         assert_eq!(replaced(form, b"hi", 1), Err(Refusal::Form));
     }
     let long = padded(b"hi", MAX_SOURCE + 1);

@@ -3,36 +3,47 @@ use mir.Syntax.{w64}
 use mir.Val.{Fits}
 use Prim.Native.Nat.{ℕ, _+_, _*_, _-_, _≤_, _<_, max}
 use native.Mathlib.Omega.{arith}
-use mathlib.Core.Path.{_≡_, refl, sym, ap, _∙_, subst}
+use mathlib.Core.Path.{_≡_, refl, sym, ap, ap₂, _∙_, subst}
 use mathlib.Core.Bool.{Bool, true, false}
 use mathlib.Core.Option.{Option, none, some}
 use mathlib.Core.List.{List, [], _∷_, _++_, append-assoc, append-nil}
 use lib.ListN.{length, length-append, drop, getD, set, drop-of-length-le}
 use lib.Seq.{sets}
-use borrow.Author.Tests.{eq-eqb, ne-eqb}
-use Rattle.base.specs.Choice.{chain}
-use Rattle.base.proofs.Cases.{picked, unpicked, none-some, chain-cases}
+use lib.Dec.{eqb}
+use borrow.Author.Tests.{eq-eqb, ne-eqb, eqb-true}
+use Rattle.base.specs.Choice.{both, chain}
+use Rattle.base.proofs.Cases.{differ, both-true, picked, unpicked, none-some, chain-cases}
 use Rattle.model.specs.Grammar.{rules}
-use Rattle.model.specs.Decode.{nest, decode₃}
-use Rattle.model.specs.Lexemes.{Lexeme, opening, closing, lexeme, before, lexemes}
-use Rattle.model.specs.Limits.{maxCanonical, maxDepth}
+use Rattle.model.specs.Decode.{nest, braces, lexemeIn, lexemes, decode₃}
+use Rattle.model.specs.Lexemes.{Lexeme, opening, closing, lexeme, before}
+use Rattle.model.specs.Limits.{maxSource, maxCanonical, maxDepth}
 use Rattle.model.specs.Strings.{Read, got, refused, skip}
 use Rattle.model.specs.Tree.{Tree, canon, depth}
-use Rattle.model.proofs.Exact.{unnest-canon}
+use Rattle.model.proofs.Apart.{rules-apart}
+use Rattle.model.proofs.Braces.{unnesting, unbrace-test, held-lexemes, held-none}
+use Rattle.model.proofs.Canonical.{unnest-canon}
+use Rattle.model.proofs.Held.{Held, braces-sound, lexeme-in-other}
 use Rattle.model.proofs.Lexemes.{before-cases}
 use Rattle.model.proofs.Nesting.{unnest, nest-sound}
+use Rattle.model.proofs.OutputSizes.{nodes-half, depth-within}
+use Rattle.model.proofs.Unique.{canon-inj}
+use Rattle.model.proofs.Unnested.{unnest-split}
 use Rattle.model.proofs.LexemeLoop.{lexemes-end, lexemes-next, lexemes-none}
 use Rattle.model.proofs.Strict.{octetsOfLexeme, octetsOfLexemes}
 use Rattle.model.specs.Count.{Count, count, begin, shutBy, shut, step}
 use Rattle.walk.specs.Extent.{Measures}
 use Rattle.walk.specs.declared.Extent.the-variants.{Whole, Refused}
 use Rattle.walk.proofs.Fronts.{framesOf}
-use Rattle.walk.proofs.Chained.{walking, walking-shut, walking-step, walking-stop, walking-end, undecoded, decodes}
+use Rattle.walk.proofs.Chained.{walking, walking-shut, walking-step, walking-stop, walking-tree, walking-end, undecoded, decodes}
 use Rattle.scan.specs.Runs.{Skipped}
 use Rattle.scan.proofs.Places.{one-here}
 use Rattle.blocks.specs.Fronts.{Front}
 use Rattle.blocks.proofs.Laws.{front-none, front-one, front-both}
 use Rattle.advanced.specs.Nodes.{Spare, Node, Nodes}
+use Rattle.advanced.specs.Braced.{TreeAt, Holds}
+use Rattle.advanced.specs.declared.braces.Inside.{Inside}
+use Rattle.advanced.specs.declared.braces.Inside.the-variants.{NoTree}
+use Rattle.advanced.specs.declared.braces.Inside.the-variants as inside
 use Rattle.sheets.specs.Notes.{noted, Stacks, Entered, Leaving, Left}
 use Rattle.sheets.specs.Strung.{stringRowOf, Keepable, KeptString}
 use Rattle.sheets.proofs.Strings.{string-events}
@@ -43,9 +54,9 @@ use Rattle.advanced.specs.Converted.{Sheetable, Converts, Wrapped, Enoug
 -- ---- lexemes passed and to come
 
 -- the octets of the lexemes, one after the other, are the canonical form
-lexemes-canon : (src : List ℕ) (ls : List Lexeme) (t : Tree) → lexemes rules src ≡ some ls → chain (lexemes rules src) nest ≡ some t → octetsOfLexemes ls ≡ canon t
+lexemes-canon : (β : Bool) (src : List ℕ) (ls : List Lexeme) (t : Tree) → lexemes rules β src ≡ some ls → chain (lexemes rules β src) nest ≡ some t → octetsOfLexemes ls ≡ canon t
 unfolding chain
-lexemes-canon src ls t e h = ap octetsOfLexemes (nest-sound ls t (rw e at h)) ∙ unnest-canon t
+lexemes-canon β src ls t e h = ap octetsOfLexemes (nest-sound ls t (rw e at h)) ∙ unnest-canon t
 
 -- the lexemes passed stand before the others
 unfoldable pub prefixed : List Lexeme → Option (List Lexeme) → Option (List Lexeme)
@@ -67,23 +78,32 @@ unfolding octetsOfLexemes
 octets-both [] b = refl
 octets-both (l ∷ a) b = ap (λ (x : List ℕ). octetsOfLexeme l ++ x) (octets-both a b) ∙ sym (append-assoc (octetsOfLexeme l) (octetsOfLexemes a) (octetsOfLexemes b))
 
+prefixed-tree : (p : List Lexeme) (t : Tree) (y : Option (List Lexeme)) → prefixed p (unnesting t y) ≡ prefixed (p ++ unnest t []) y
+unfolding prefixed unnesting
+prefixed-tree p t none = refl
+prefixed-tree p t (some ls) = ap some (ap (λ (x : List Lexeme). p ++ x) (unnest-split t ls) ∙ sym (append-assoc p (unnest t []) ls))
+
+-- what braces hold, by what is read of them
+held-of : {s k : List ℕ} {t : Tree} → braces rules s ≡ got (canon t) k → Held rules s t k
+held-of {s} {k} {t} e = braces-sound s e (λ u c h. subst (λ (x : Tree). Held rules s x k) (canon-inj u t (sym c)) h)
+
 octets-more : (a : List Lexeme) (l : Lexeme) → octetsOfLexemes (a ++ (l ∷ [])) ≡ octetsOfLexemes a ++ octetsOfLexeme l
 unfolding octetsOfLexemes
 octets-more a l = octets-both a (l ∷ []) ∙ ap (λ (x : List ℕ). octetsOfLexemes a ++ x) (append-nil (octetsOfLexeme l))
 
-module _ (src : List ℕ) (at i : ℕ) (e : skip (drop at src) ≡ drop i src) (h : i < length src) where
-  place-next : (l : Lexeme) (k : List ℕ) → lexeme rules (drop i src) ≡ got l k → lexemes rules (drop at src) ≡ before l (lexemes rules k)
-  place-next l k f = lexemes-next (drop at src) (getD src i 0) (drop (i + 1) src) k l (e ∙ one-here src i h) (ap (lexeme rules) (sym (one-here src i h)) ∙ f)
+module _ (β : Bool) (src : List ℕ) (at i : ℕ) (e : skip (drop at src) ≡ drop i src) (h : i < length src) where
+  place-next : (l : Lexeme) (k : List ℕ) → lexemeIn rules β (drop i src) ≡ got l k → lexemes rules β (drop at src) ≡ before l (lexemes rules β k)
+  place-next l k f = lexemes-next rules β (drop at src) (getD src i 0) (drop (i + 1) src) k l (e ∙ one-here src i h) (ap (lexemeIn rules β) (sym (one-here src i h)) ∙ f)
 
-  place-none : lexeme rules (drop i src) ≡ refused → lexemes rules (drop at src) ≡ none
-  place-none f = lexemes-none (drop at src) (getD src i 0) (drop (i + 1) src) (e ∙ one-here src i h) (ap (lexeme rules) (sym (one-here src i h)) ∙ f)
+  place-none : lexemeIn rules β (drop i src) ≡ refused → lexemes rules β (drop at src) ≡ none
+  place-none f = lexemes-none rules β (drop at src) (getD src i 0) (drop (i + 1) src) (e ∙ one-here src i h) (ap (lexemeIn rules β) (sym (one-here src i h)) ∙ f)
 
-  past-shut : (c : Count) → shut c ≡ true → walking (lexemes rules (drop at src)) c ≡ none
+  past-shut : (c : Count) → shut c ≡ true → walking (lexemes rules β (drop at src)) c ≡ none
   unfolding chain
-  past-shut c s = by (lexeme rules (drop i src)) refl
+  past-shut c s = by (lexemeIn rules β (drop i src)) refl
     where
-      by : (x : Read Lexeme) → lexeme rules (drop i src) ≡ x → walking (lexemes rules (drop at src)) c ≡ none
-      by (got l k) f = ap (λ (y : Option (List Lexeme)). walking y c) (place-next l k f) ∙ walking-shut l (lexemes rules k) c s
+      by : (x : Read Lexeme) → lexemeIn rules β (drop i src) ≡ x → walking (lexemes rules β (drop at src)) c ≡ none
+      by (got l k) f = ap (λ (y : Option (List Lexeme)). walking y c) (place-next l k f) ∙ walking-shut l (lexemes rules β k) c s
       by refused f = ap (λ (y : Option (List Lexeme)). walking y c) (place-none f)
 
 -- there is room for a string at any place
@@ -94,12 +114,12 @@ enough n room at o (largest h) a b c = omega arith
 -- ---- the loop
 
 -- keeping what is still to come of a tree's text gives its notes; places are those of the canonical form
-pub record Coming (src notes₀ starts nodeNos notes : List ℕ) (at len opened deepest seen : ℕ) (t : Tree) : Type 0 where
+pub record Coming (β : Bool) (src notes₀ starts nodeNos notes : List ℕ) (at len opened deepest seen : ℕ) (t : Tree) : Type 0 where
   pub to-come : List Lexeme
-  pub lexes : lexemes rules (drop at src) ≡ some to-come
+  pub lexes : lexemes rules β (drop at src) ≡ some to-come
   pub kept : Kept (sets notes₀ 0 (noted t)) starts nodeNos notes len opened deepest seen t to-come
 
-pub record Converting (src out₀ notes₀ out starts nodeNos notes : List ℕ) (at len at-out o d n : ℕ) : Type 0 where
+pub record Converting (β : Bool) (src out₀ notes₀ out starts nodeNos notes : List ℕ) (at len at-out o d n : ℕ) : Type 0 where
   pub inside : at ≤ length src
   pub lent : Lent (length src) (length out₀)
   pub long : length out ≡ length out₀
@@ -108,8 +128,8 @@ pub record Converting (src out₀ notes₀ out starts nodeNos notes : List ℕ) 
   pub few : (o ≤ at) × (d ≤ at) × (n ≤ at) × (len ≤ 3 * at)
   pub level : o ≤ d
   pub passed : List Lexeme
-  pub all : lexemes rules src ≡ prefixed passed (lexemes rules (drop at src))
-  pub same : walking (lexemes rules src) begin ≡ walking (lexemes rules (drop at src)) (count o d n)
+  pub all : lexemes rules β src ≡ prefixed passed (lexemes rules β (drop at src))
+  pub same : walking (lexemes rules β src) begin ≡ walking (lexemes rules β (drop at src)) (count o d n)
   pub size : length (octetsOfLexemes passed) ≡ len
   -- nothing was overwritten yet
   pub place : len ≤ maxCanonical → at-out ≡ len
@@ -117,17 +137,17 @@ pub record Converting (src out₀ notes₀ out starts nodeNos notes : List ℕ) 
   -- the notes
   pub notesLong : length notes ≡ length notes₀
   pub stacked : Stacked starts nodeNos (maxCanonical + 1) o n
-  pub coming : (g : Sheetable (decode₃ rules src) (length notes₀)) → Coming src notes₀ starts nodeNos notes at len o d n (g .tree)
+  pub coming : β ≡ false → (g : Sheetable (decode₃ rules β src) (length notes₀)) → Coming β src notes₀ starts nodeNos notes at len o d n (g .tree)
 
 -- the lexemes of a text that means a tree
-lexed : (src : List ℕ) (t : Tree) → decode₃ rules src ≡ some t → lexemes rules src ≡ some (unnest t [])
+lexed : (β : Bool) (src : List ℕ) (t : Tree) → decode₃ rules β src ≡ some t → lexemes rules β src ≡ some (unnest t [])
 unfolding decode₃
-lexed src t e = chain-cases (lexemes rules src) nest e (λ ls h₁ h₂. h₁ ∙ ap some (nest-sound ls t h₂))
+lexed β src t e = chain-cases (lexemes rules β src) nest e (λ ls h₁ h₂. h₁ ∙ ap some (nest-sound ls t h₂))
 
-pub convert-none : (src out notes starts nodeNos : List ℕ) → Lent (length src) (length out) → length starts ≡ maxDepth → length nodeNos ≡ maxDepth
-    → Converting src out notes out starts nodeNos notes 0 0 0 0 0 0
+pub convert-none : (β : Bool) (src out notes starts nodeNos : List ℕ) → Lent (length src) (length out) → length starts ≡ maxDepth → length nodeNos ≡ maxDepth
+    → Converting β src out notes out starts nodeNos notes 0 0 0 0 0 0
 unfolding octetsOfLexemes
-convert-none src out notes starts nodeNos k p q =
+convert-none β src out notes starts nodeNos k p q =
     record {
       inside = omega arith;
       lent = k;
@@ -137,29 +157,32 @@ convert-none src out notes starts nodeNos k p q =
       few = (omega arith, omega arith, omega arith, omega arith);
       level = omega arith;
       passed = [];
-      all = prefixed-none (lexemes rules src);
+      all = prefixed-none (lexemes rules β src);
       same = refl;
       size = refl;
       place = λ _. refl;
       front = λ _. front-none out 0 (omega arith);
       notesLong = refl;
       stacked = stacked-none starts nodeNos p q (maxCanonical + 1);
-      coming = λ g. record { to-come = unnest (g .tree) []; lexes = lexed src (g .tree) (g .is); kept = kept-start starts nodeNos notes (g .tree) };
+      coming = λ _ g. record { to-come = unnest (g .tree) []; lexes = lexed β src (g .tree) (g .is); kept = kept-start starts nodeNos notes (g .tree) };
     }
 
 -- no tree: nothing is promised of octets and notes
-refusal : (src out notes notes′ : List ℕ) → walking (lexemes rules src) begin ≡ none → Converts (decode₃ rules src) out notes notes′ (Refused 0)
+refusal : (β : Bool) (src out notes notes′ : List ℕ) → walking (lexemes rules β src) begin ≡ none → Converts β (decode₃ rules β src) out notes notes′ (Refused 0)
 unfolding Measures decode₃
-refusal src out notes notes′ e =
-    let z : decode₃ rules src ≡ none = undecoded (lexemes rules src) e in
-    record { measures = z; fails = λ p f. let y : 0 ≡ p = cc in sym y; octets = λ t x h. none-some (sym z ∙ x); kept = λ g. none-some (sym z ∙ g .is) }
+refusal β src out notes notes′ e =
+    let z : decode₃ rules β src ≡ none = undecoded (lexemes rules β src) e in
+    record { measures = z; fails = λ p f. let y : 0 ≡ p = cc in sym y; octets = λ t x h. none-some (sym z ∙ x); kept = λ _ g. none-some (sym z ∙ g .is) }
 
-module _ (src out₀ notes₀ out starts nodeNos notes : List ℕ) (at len r o d n : ℕ) (w : Converting src out₀ notes₀ out starts nodeNos notes at len r o d n) where
+module _ (β : Bool) (src out₀ notes₀ out starts nodeNos notes : List ℕ) (at len r o d n : ℕ) (w : Converting β src out₀ notes₀ out starts nodeNos notes at len r o d n) where
   pub convert-inside : at ≤ length src
   convert-inside = w .inside
 
   pub convert-long : length out ≡ length out₀
   convert-long = w .long
+
+  pub convert-low : r ≤ maxSource
+  convert-low = omega (arith, w .low)
 
   pub convert-notes : length notes ≡ length notes₀
   convert-notes = w .notesLong
@@ -168,11 +191,11 @@ module _ (src out₀ notes₀ out starts nodeNos notes : List ℕ) (at len r o d
   convert-stacks = w .stacked .stacks
 
   -- what was passed of a tree is no longer than the whole
-  passed-short : (t : Tree) (ls : List Lexeme) → decode₃ rules src ≡ some t → lexemes rules (drop at src) ≡ some ls → len ≤ length (canon t)
+  passed-short : (t : Tree) (ls : List Lexeme) → decode₃ rules β src ≡ some t → lexemes rules β (drop at src) ≡ some ls → len ≤ length (canon t)
   unfolding decode₃ prefixed
   passed-short t ls g e =
-      let a : lexemes rules src ≡ some (w .passed ++ ls) = w .all ∙ ap (prefixed (w .passed)) e in
-      let c : octetsOfLexemes (w .passed ++ ls) ≡ canon t = lexemes-canon src (w .passed ++ ls) t a g in
+      let a : lexemes rules β src ≡ some (w .passed ++ ls) = w .all ∙ ap (prefixed (w .passed)) e in
+      let c : octetsOfLexemes (w .passed ++ ls) ≡ canon t = lexemes-canon β src (w .passed ++ ls) t a g in
       omega (arith, w .size, ap length c, ap length (octets-both (w .passed) ls), length-append (octetsOfLexemes (w .passed)) (octetsOfLexemes ls))
 
   module _ (i : ℕ) (p : Skipped src at i) (q : Bool) (x : q ≡ shutBy o n) where
@@ -181,24 +204,24 @@ module _ (src out₀ notes₀ out starts nodeNos notes : List ℕ) (at len r o d
       is-shut : shut (count o d n) ≡ true
       is-shut = sym x ∙ f
 
-      pub convert-more : i < length src → Converts (decode₃ rules src) out notes₀ notes (Refused 0)
-      convert-more h = refusal src out notes₀ notes (w .same ∙ past-shut src at i (p .reads) h (count o d n) is-shut)
+      pub convert-more : i < length src → Converts β (decode₃ rules β src) out notes₀ notes (Refused 0)
+      convert-more h = refusal β src out notes₀ notes (w .same ∙ past-shut β src at i (p .reads) h (count o d n) is-shut)
 
-      pub convert-whole : length src ≤ i → Converts (decode₃ rules src) out notes₀ notes (Whole len n d)
+      pub convert-whole : length src ≤ i → Converts β (decode₃ rules β src) out notes₀ notes (Whole len n d)
       unfolding Measures decode₃ prefixed
       convert-whole h =
-          let z : lexemes rules (drop at src) ≡ some [] = lexemes-end (drop at src) (p .reads ∙ drop-of-length-le src h) in
-          let y : walking (lexemes rules src) begin ≡ some (count o d n) = w .same ∙ ap (λ (v : Option (List Lexeme)). walking v (count o d n)) z ∙ walking-end (count o d n) ∙ picked _ _ is-shut in
-          let a : lexemes rules src ≡ some (w .passed ++ []) = w .all ∙ ap (prefixed (w .passed)) z in
-          decodes (lexemes rules src) (count o d n) y
+          let z : lexemes rules β (drop at src) ≡ some [] = lexemes-end rules β (drop at src) (p .reads ∙ drop-of-length-le src h) in
+          let y : walking (lexemes rules β src) begin ≡ some (count o d n) = w .same ∙ ap (λ (v : Option (List Lexeme)). walking v (count o d n)) z ∙ walking-end (count o d n) ∙ picked _ _ is-shut in
+          let a : lexemes rules β src ≡ some (w .passed ++ []) = w .all ∙ ap (prefixed (w .passed)) z in
+          decodes (lexemes rules β src) (count o d n) y
           (λ t g u v.
-          let c : octetsOfLexemes (w .passed) ≡ canon t = ap octetsOfLexemes (sym (append-nil (w .passed))) ∙ lexemes-canon src (w .passed ++ []) t a g in
+          let c : octetsOfLexemes (w .passed) ≡ canon t = ap octetsOfLexemes (sym (append-nil (w .passed))) ∙ lexemes-canon β src (w .passed ++ []) t a g in
           record {
             measures = record { tree = t; is = g; long = omega (arith, w .size, ap length c); counted = u; deepest = v };
             fails = λ p e. whole-refused e;
             octets = λ u x m. let q : t ≡ u = cc (g, x) in rw (← q, ← c, w .size) (w .front (omega (arith, w .size, ap length c, ap (λ (v : Tree). length (canon v)) q)) .same);
-            kept = λ k.
-                let q : Coming src notes₀ starts nodeNos notes at len o d n (k .tree) = w .coming k in
+            kept = λ b k.
+                let q : Coming β src notes₀ starts nodeNos notes at len o d n (k .tree) = w .coming b k in
                 let p : some (q .to-come) ≡ some [] = sym (q .lexes) ∙ z in
                 let e : q .to-come ≡ [] = cc in
                 kept-end (sets notes₀ 0 (noted (k .tree))) starts nodeNos notes len o d n (k .tree) (subst (Kept (sets notes₀ 0 (noted (k .tree))) starts nodeNos notes len o d n (k .tree)) e (q .kept));
@@ -208,33 +231,33 @@ module _ (src out₀ notes₀ out starts nodeNos notes : List ℕ) (at len r o d
       not-shut : shut (count o d n) ≡ false
       not-shut = sym x ∙ f
 
-      pub convert-short : length src ≤ i → Converts (decode₃ rules src) out notes₀ notes (Refused 0)
+      pub convert-short : length src ≤ i → Converts β (decode₃ rules β src) out notes₀ notes (Refused 0)
       convert-short h =
-          let z : lexemes rules (drop at src) ≡ some [] = lexemes-end (drop at src) (p .reads ∙ drop-of-length-le src h) in
-          refusal src out notes₀ notes (w .same ∙ ap (λ (v : Option (List Lexeme)). walking v (count o d n)) z ∙ walking-end (count o d n) ∙ unpicked _ _ not-shut)
+          let z : lexemes rules β (drop at src) ≡ some [] = lexemes-end rules β (drop at src) (p .reads ∙ drop-of-length-le src h) in
+          refusal β src out notes₀ notes (w .same ∙ ap (λ (v : Option (List Lexeme)). walking v (count o d n)) z ∙ walking-end (count o d n) ∙ unpicked _ _ not-shut)
 
       module _ (h : i < length src) where
         -- a lexeme more: what it does to the octets, to the lists that are open and to the notes
-        module _ (l : Lexeme) (out′ starts′ nodeNos′ notes′ : List ℕ) (next e r′ o′ d′ n′ : ℕ) (s : lexeme rules (drop i src) ≡ got l (drop next src)) (on : i < next) (within : next ≤ length src)
+        module _ (l : Lexeme) (out′ starts′ nodeNos′ notes′ : List ℕ) (next e r′ o′ d′ n′ : ℕ) (s : lexemeIn rules β (drop i src) ≡ got l (drop next src)) (on : i < next) (within : next ≤ length src)
             (g : step l (count o d n) ≡ some (count o′ d′ n′)) (v : Front (octetsOfLexeme l) r out out′ e) (k : e + 3 * i ≤ r + 3 * next) (u : Wrapped e r′)
             (c : (o′ ≤ next) × (d′ ≤ next) × (n′ ≤ next)) (lev : o′ ≤ d′) (j : length notes′ ≡ length notes) (y : Stacked starts′ nodeNos′ (maxCanonical + 1) o′ n′)
             (keeps : (whole : List ℕ) (t : Tree) (ls : List Lexeme) → depth t ≤ maxDepth → r ≡ len → Kept whole starts nodeNos notes r o d n t (l ∷ ls) → Kept whole starts′ nodeNos′ notes′ e o′ d′ n′ t ls) where
-          passes : lexemes rules (drop at src) ≡ before l (lexemes rules (drop next src))
-          passes = place-next src at i (p .reads) h l (drop next src) s
+          passes : lexemes rules β (drop at src) ≡ before l (lexemes rules β (drop next src))
+          passes = place-next β src at i (p .reads) h l (drop next src) s
 
-          still-coming : (g : Sheetable (decode₃ rules src) (length notes₀)) → Coming src notes₀ starts′ nodeNos′ notes′ next (len + (e - r)) o′ d′ n′ (g .tree)
-          still-coming g =
-              let m : Coming src notes₀ starts nodeNos notes at len o d n (g .tree) = w .coming g in
+          still-coming : β ≡ false → (g : Sheetable (decode₃ rules β src) (length notes₀)) → Coming β src notes₀ starts′ nodeNos′ notes′ next (len + (e - r)) o′ d′ n′ (g .tree)
+          still-coming b g =
+              let m : Coming β src notes₀ starts nodeNos notes at len o d n (g .tree) = w .coming b g in
               let f : r ≡ len = w .place (omega (arith, passed-short (g .tree) (m .to-come) (g .is) (m .lexes), g .short)) in
               let b : len + (e - r) ≡ e = omega (arith, v .place) in
-              before-cases l (lexemes rules (drop next src)) (sym passes ∙ m .lexes)
+              before-cases l (lexemes rules β (drop next src)) (sym passes ∙ m .lexes)
               (λ ls x z.
               let a : m .to-come ≡ l ∷ ls = cc in
               let was : Kept (sets notes₀ 0 (noted (g .tree))) starts nodeNos notes r o d n (g .tree) (l ∷ ls) =
               subst (λ (a : ℕ). Kept (sets notes₀ 0 (noted (g .tree))) starts nodeNos notes a o d n (g .tree) (l ∷ ls)) (sym f) (subst (Kept (sets notes₀ 0 (noted (g .tree))) starts nodeNos notes len o d n (g .tree)) a (m .kept)) in
               record { to-come = ls; lexes = x; kept = rw b (keeps (sets notes₀ 0 (noted (g .tree))) (g .tree) ls (g .deep) f was) })
 
-          stepped : Converting src out₀ notes₀ out′ starts′ nodeNos′ notes′ next (len + (e - r)) r′ o′ d′ n′
+          stepped : Converting β src out₀ notes₀ out′ starts′ nodeNos′ notes′ next (len + (e - r)) r′ o′ d′ n′
           stepped =
               let z : octetsOfLexemes (w .passed ++ (l ∷ [])) ≡ octetsOfLexemes (w .passed) ++ octetsOfLexeme l = octets-more (w .passed) l in
               record {
@@ -246,8 +269,8 @@ module _ (src out₀ notes₀ out starts nodeNos notes : List ℕ) (at len r o d
                 few = (c .0, c .1, c .2, omega (arith, w .few, p .from));
                 level = lev;
                 passed = w .passed ++ (l ∷ []);
-                all = w .all ∙ ap (prefixed (w .passed)) passes ∙ prefixed-step (w .passed) l (lexemes rules (drop next src));
-                same = w .same ∙ ap (λ (v : Option (List Lexeme)). walking v (count o d n)) passes ∙ walking-step l (lexemes rules (drop next src)) (count o d n) (count o′ d′ n′) not-shut g;
+                all = w .all ∙ ap (prefixed (w .passed)) passes ∙ prefixed-step (w .passed) l (lexemes rules β (drop next src));
+                same = w .same ∙ ap (λ (v : Option (List Lexeme)). walking v (count o d n)) passes ∙ walking-step l (lexemes rules β (drop next src)) (count o d n) (count o′ d′ n′) not-shut g;
                 size = ap length z ∙ length-append (octetsOfLexemes (w .passed)) (octetsOfLexeme l) ∙ omega (arith, w .size, v .place);
                 place = λ m. omega (arith, w .place (omega arith), u .on (omega (arith, w .place (omega arith), v .place)), v .place);
                 front = λ m.
@@ -264,10 +287,10 @@ module _ (src out₀ notes₀ out starts nodeNos notes : List ℕ) (at len r o d
         one-room = omega (arith, enough (length src) (length out₀) at r (w .lent .enough) (w .inside) (w .low) (w .treble), w .long)
 
         -- of one octet
-        one : (l : Lexeme) (b : ℕ) (starts′ nodeNos′ notes′ : List ℕ) (r′ o′ d′ n′ : ℕ) → lexeme rules (drop i src) ≡ got l (drop (i + 1) src) → step l (count o d n) ≡ some (count o′ d′ n′) → octetsOfLexeme l ≡ b ∷ [] → Wrapped (r + 1) r′
+        one : (l : Lexeme) (b : ℕ) (starts′ nodeNos′ notes′ : List ℕ) (r′ o′ d′ n′ : ℕ) → lexemeIn rules β (drop i src) ≡ got l (drop (i + 1) src) → step l (count o d n) ≡ some (count o′ d′ n′) → octetsOfLexeme l ≡ b ∷ [] → Wrapped (r + 1) r′
             → (o′ ≤ i + 1) × (d′ ≤ i + 1) × (n′ ≤ i + 1) → o′ ≤ d′ → length notes′ ≡ length notes → Stacked starts′ nodeNos′ (maxCanonical + 1) o′ n′
             → ((whole : List ℕ) (t : Tree) (ls : List Lexeme) → depth t ≤ maxDepth → r ≡ len → Kept whole starts nodeNos notes r o d n t (l ∷ ls) → Kept whole starts′ nodeNos′ notes′ (r + 1) o′ d′ n′ t ls)
-            → Converting src out₀ notes₀ (set out r b) starts′ nodeNos′ notes′ (i + 1) (len + 1) r′ o′ d′ n′
+            → Converting β src out₀ notes₀ (set out r b) starts′ nodeNos′ notes′ (i + 1) (len + 1) r′ o′ d′ n′
         one l b starts′ nodeNos′ notes′ r′ o′ d′ n′ s g e u c q j y keeps =
             let z : len + (r + 1 - r) ≡ len + 1 = omega arith in
             rw z at (stepped l (set out r b) starts′ nodeNos′ notes′ (i + 1) (r + 1) r′ o′ d′ n′ s (omega arith) (omega arith) g (rw e (front-one out r b one-room)) (omega arith) u c q j y keeps)
@@ -275,12 +298,12 @@ module _ (src out₀ notes₀ out starts nodeNos notes : List ℕ) (at len r o d
         pub one-less : length src - (i + 1) < length src - at
         one-less = omega (arith, p .from)
 
-        opens : getD src i 0 ≡ 40 → lexeme rules (drop i src) ≡ got opening (drop (i + 1) src)
+        opens : getD src i 0 ≡ 40 → lexemeIn rules β (drop i src) ≡ got opening (drop (i + 1) src)
         unfolding lexeme
-        opens e = ap (lexeme rules) (one-here src i h) ∙ picked _ _ (eq-eqb _ _ e)
+        opens e = ap (lexemeIn rules β) (one-here src i h) ∙ lexeme-in-other rules β (getD src i 0) (drop (i + 1) src) (unbrace-test β (getD src i 0) (λ z. omega (arith, z, e))) ∙ picked _ _ (eq-eqb _ _ e)
 
         pub open-on : getD src i 0 ≡ 40 → (m : ℕ) → m ≡ max d (o + 1) → (r′ : ℕ) → Wrapped (r + 1) r′ → (starts′ nodeNos′ : List ℕ) → Entered o r n starts nodeNos starts′ nodeNos′
-            → Converting src out₀ notes₀ (set out r 40) starts′ nodeNos′ notes (i + 1) (len + 1) r′ (o + 1) m (n + 1)
+            → Converting β src out₀ notes₀ (set out r 40) starts′ nodeNos′ notes (i + 1) (len + 1) r′ (o + 1) m (n + 1)
         unfolding step octetsOfLexeme
         open-on e m g r′ u starts′ nodeNos′ v =
             one opening 40 starts′ nodeNos′ notes r′ (o + 1) m (n + 1) (opens e) (rw g) refl u (omega (arith, w .few, p .from), omega (arith, w .few, p .from), omega (arith, w .few, p .from))
@@ -288,21 +311,21 @@ module _ (src out₀ notes₀ out starts nodeNos notes : List ℕ) (at len r o d
             (λ whole t ls deep f k. rw g (kept-open whole starts nodeNos notes r o d n t ls k deep (w .stacked .stacks) starts′ nodeNos′ v))
 
         module _ (a : getD src i 0 ≡ 40 → ⊥) (e : getD src i 0 ≡ 41) where
-          closes : lexeme rules (drop i src) ≡ got closing (drop (i + 1) src)
+          closes : lexemeIn rules β (drop i src) ≡ got closing (drop (i + 1) src)
           unfolding lexeme
-          closes = ap (lexeme rules) (one-here src i h) ∙ unpicked _ _ (ne-eqb _ _ a) ∙ picked _ _ (eq-eqb _ _ e)
+          closes = ap (lexemeIn rules β) (one-here src i h) ∙ lexeme-in-other rules β (getD src i 0) (drop (i + 1) src) (unbrace-test β (getD src i 0) (λ z. omega (arith, z, e))) ∙ unpicked _ _ (ne-eqb _ _ a) ∙ picked _ _ (eq-eqb _ _ e)
 
-          pub close-none : o ≡ 0 → Converts (decode₃ rules src) out notes₀ notes (Refused 0)
+          pub close-none : o ≡ 0 → Converts β (decode₃ rules β src) out notes₀ notes (Refused 0)
           unfolding step
           close-none z =
-              refusal src out notes₀ notes (w .same ∙ ap (λ (v : Option (List Lexeme)). walking v (count o d n)) (place-next src at i (p .reads) h closing (drop (i + 1) src) closes)
-              ∙ walking-stop closing (lexemes rules (drop (i + 1) src)) (count o d n) not-shut (picked _ _ (eq-eqb _ _ z)))
+              refusal β src out notes₀ notes (w .same ∙ ap (λ (v : Option (List Lexeme)). walking v (count o d n)) (place-next β src at i (p .reads) h closing (drop (i + 1) src) closes)
+              ∙ walking-stop closing (lexemes rules β (drop (i + 1) src)) (count o d n) not-shut (picked _ _ (eq-eqb _ _ z)))
 
           pub close-leaving : (o ≡ 0 → ⊥) → Leaving starts nodeNos (o - 1) n r
           close-leaving z = stacked-leaving starts nodeNos (maxCanonical + 1) o n (w .stacked) r z (omega (arith, w .few, p .from, w .lent .short)) (omega (arith, w .low)) (omega arith)
 
           pub close-on : (o ≡ 0 → ⊥) → (r′ : ℕ) → Wrapped (r + 1) r′ → (notes′ : List ℕ) → Left starts nodeNos (o - 1) n r notes notes′
-              → Converting src out₀ notes₀ (set out r 41) starts nodeNos notes′ (i + 1) (len + 1) r′ (o - 1) d n
+              → Converting β src out₀ notes₀ (set out r 41) starts nodeNos notes′ (i + 1) (len + 1) r′ (o - 1) d n
           unfolding step octetsOfLexeme
           close-on z r′ u notes′ v =
               one closing 41 starts nodeNos notes′ r′ (o - 1) d n closes (unpicked _ _ (ne-eqb _ _ z)) refl u (omega (arith, w .few, p .from), omega (arith, w .few, p .from), omega (arith, w .few, p .from))
@@ -312,10 +335,86 @@ module _ (src out₀ notes₀ out starts nodeNos notes : List ℕ) (at len r o d
         pub node-spare : Spare src i r (length out)
         node-spare = record { inside = omega arith; short = w .lent .short; space = rw (w .long) (enough (length src) (length out₀) i r (w .lent .enough) (omega arith) (w .low) (omega (arith, w .treble, p .from))) }
 
-        module _ (out₁ : List ℕ) (mid end next : ℕ) (s : Nodes src i r out out₁ mid end next) where
-          pub node-none : next ≡ 0 → (b : List ℕ) → Converts (decode₃ rules src) b notes₀ notes (Refused 0)
+        -- a tree in braces
+        module _ (γ : Bool) (held : γ ≡ both β (eqb (getD src i 0) 123)) (so : γ ≡ true) where
+          pair : (β ≡ true) × (eqb (getD src i 0) 123 ≡ true)
+          pair = both-true (sym held ∙ so)
+
+          here : skip (drop at src) ≡ 123 ∷ drop (i + 1) src
+          here = p .reads ∙ one-here src i h ∙ ap (λ (b : ℕ). b ∷ drop (i + 1) src) (eqb-true _ _ (pair .1))
+
+          module _ (out₁ : List ℕ) (v : Inside) (s : Holds src i r out out₁ v) where
+            not-held : v ≡ NoTree → braces rules (drop (i + 1) src) ≡ refused
+            unfolding Holds
+            not-held e = subst (Holds src i r out out₁) e s
+
+            pub held-refused : v ≡ NoTree → (b : List ℕ) → Converts β (decode₃ rules β src) b notes₀ notes (Refused 0)
+            unfolding chain
+            held-refused e b =
+                refusal β src b notes₀ notes (w .same ∙ ap (λ (v : Option (List Lexeme)). walking v (count o d n))
+                (held-none rules-apart β (pair .0) (drop at src) (drop (i + 1) src) here (not-held e)))
+
+            module _ (next k c m : ℕ) (e : v ≡ inside.Held next k c m) where
+              at-tree : TreeAt src i r out out₁ next k c m
+              unfolding Holds
+              at-tree = subst (Holds src i r out out₁) e s
+
+              small : (2 * c ≤ k) × (m ≤ c)
+              small = (omega (arith, nodes-half (at-tree .tree), at-tree .long, at-tree .counted), omega (arith, depth-within (at-tree .tree), at-tree .counted, at-tree .deepest))
+
+              pub held-less : length src - next < length src - at
+              held-less = omega (arith, p .from, at-tree .few, at-tree .within)
+
+              pub held-deep : Fits w64 (o + m)
+              held-deep = omega (arith, w .few, w .lent .short, w .inside, at-tree .few, at-tree .within, p .from, small)
+
+              pub held-many : Fits w64 (n + c)
+              held-many = omega (arith, w .few, w .lent .short, w .inside, at-tree .few, at-tree .within, p .from, small)
+
+              pub held-long : Fits w64 (len + k)
+              held-long = omega (arith, w .few, w .lent .short, w .inside, at-tree .few, at-tree .within, p .from)
+
+              pub held-end : Fits w64 (r + k)
+              held-end = omega (arith, w .low, w .lent .short, at-tree .few, at-tree .within)
+
+              passes-tree : lexemes rules β (drop at src) ≡ unnesting (at-tree .tree) (lexemes rules β (drop next src))
+              passes-tree = held-lexemes rules-apart β (pair .0) (drop at src) (drop (i + 1) src) (drop next src) (at-tree .tree) here (held-of (at-tree .reads))
+
+              pub held-on : (d′ : ℕ) → d′ ≡ max d (o + m) → (r′ : ℕ) → Wrapped (r + k) r′ → Converting β src out₀ notes₀ out₁ starts nodeNos notes next (len + k) r′ o d′ (n + c)
+              held-on d′ g r′ u =
+                  let z : octetsOfLexemes (w .passed ++ unnest (at-tree .tree) []) ≡ octetsOfLexemes (w .passed) ++ canon (at-tree .tree) =
+                  octets-both (w .passed) (unnest (at-tree .tree) []) ∙ ap (λ (x : List ℕ). octetsOfLexemes (w .passed) ++ x) (unnest-canon (at-tree .tree)) in
+                  record {
+                    inside = at-tree .within;
+                    lent = w .lent;
+                    long = at-tree .front .long ∙ w .long;
+                    low = u .low;
+                    treble = omega (arith, u .less, w .treble, p .from, at-tree .few);
+                    few = (omega (arith, w .few, p .from, at-tree .few), omega (arith, w .few, p .from, at-tree .few, small, g), omega (arith, w .few, p .from, at-tree .few, small), omega (arith, w .few, p .from, at-tree .few));
+                    level = omega (arith, w .level, g);
+                    passed = w .passed ++ unnest (at-tree .tree) [];
+                    all = w .all ∙ ap (prefixed (w .passed)) passes-tree ∙ prefixed-tree (w .passed) (at-tree .tree) (lexemes rules β (drop next src));
+                    same = w .same ∙ ap (λ (v : Option (List Lexeme)). walking v (count o d n)) passes-tree
+                        ∙ walking-tree (at-tree .tree) (lexemes rules β (drop next src)) (count o d n) not-shut (w .level)
+                        ∙ ap₂ (λ (x y : ℕ). walking (lexemes rules β (drop next src)) (count o x y)) (sym (g ∙ ap (λ (x : ℕ). max d (o + x)) (at-tree .deepest))) (ap (λ (x : ℕ). n + x) (sym (at-tree .counted)));
+                    size = ap length z ∙ length-append (octetsOfLexemes (w .passed)) (canon (at-tree .tree)) ∙ omega (arith, w .size, at-tree .long);
+                    place = λ m. omega (arith, w .place (omega arith), u .on (omega (arith, w .place (omega arith))));
+                    front = λ m.
+                        let f : r ≡ len = w .place (omega arith) in
+                        subst (λ (x : List ℕ). Front x 0 out₀ out₁ (len + k)) (sym z)
+                        (front-both (octetsOfLexemes (w .passed)) (canon (at-tree .tree)) 0 len (len + k) out₀ out out₁ (w .front (omega arith)) (subst (λ (x : ℕ). Front (canon (at-tree .tree)) x out out₁ (x + k)) f (at-tree .front)));
+                    notesLong = w .notesLong;
+                    stacked = stacked-on starts nodeNos (maxCanonical + 1) o n (w .stacked) (maxCanonical + 1) o (n + c) (omega arith) (omega arith) (omega arith);
+                    coming = λ b g. differ (pair .0) b;
+                  }
+
+        module _ (γ : Bool) (held : γ ≡ both β (eqb (getD src i 0) 123)) (not : γ ≡ false) (out₁ : List ℕ) (mid end next : ℕ) (s : Nodes src i r out out₁ mid end next) where
+          as-lexeme : lexemeIn rules β (drop i src) ≡ lexeme rules (drop i src)
+          as-lexeme = ap (lexemeIn rules β) (one-here src i h) ∙ lexeme-in-other rules β _ _ (sym held ∙ not) ∙ ap (lexeme rules) (sym (one-here src i h))
+
+          pub node-none : next ≡ 0 → (b : List ℕ) → Converts β (decode₃ rules β src) b notes₀ notes (Refused 0)
           unfolding chain
-          node-none z b = refusal src b notes₀ notes (w .same ∙ ap (λ (v : Option (List Lexeme)). walking v (count o d n)) (place-none src at i (p .reads) h (s .none z)))
+          node-none z b = refusal β src b notes₀ notes (w .same ∙ ap (λ (v : Option (List Lexeme)). walking v (count o d n)) (place-none β src at i (p .reads) h (as-lexeme ∙ s .none z)))
 
           module _ (z : next ≡ 0 → ⊥) where
             it : Node src i r out out₁ mid end next
@@ -333,9 +432,9 @@ module _ (src out₀ notes₀ out starts nodeNos notes : List ℕ) (at len r o d
             pub node-keepable : Keepable r mid end
             node-keepable = record { lexeme = it .is; is = it .strung; small = omega (arith, it .front .fits, w .long, w .lent .small) }
 
-            pub node-on : (r′ : ℕ) → Wrapped end r′ → (notes′ : List ℕ) → KeptString n r mid end notes notes′ → Converting src out₀ notes₀ out₁ starts nodeNos notes′ next (len + (end - r)) r′ o d (n + 1)
+            pub node-on : (r′ : ℕ) → Wrapped end r′ → (notes′ : List ℕ) → KeptString n r mid end notes notes′ → Converting β src out₀ notes₀ out₁ starts nodeNos notes′ next (len + (end - r)) r′ o d (n + 1)
             node-on r′ u notes′ k =
-                stepped (it .is) out₁ starts nodeNos notes′ next end r′ o d (n + 1) (it .reads) (it .on) (it .within) (it .string o d n) (it .front) (it .low) u
+                stepped (it .is) out₁ starts nodeNos notes′ next end r′ o d (n + 1) (as-lexeme ∙ it .reads) (it .on) (it .within) (it .string o d n) (it .front) (it .low) u
                 (omega (arith, w .few, p .from, it .on), omega (arith, w .few, p .from, it .on), omega (arith, w .few, p .from, it .on))
                 (w .level) (k .long) (stacked-on starts nodeNos (maxCanonical + 1) o n (w .stacked) (maxCanonical + 1) o (n + 1) (omega arith) (omega arith) (omega arith))
                 (λ whole t ls deep f y.

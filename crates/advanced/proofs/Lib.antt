@@ -1,4 +1,5 @@
 pub mod Found
 pub mod Strings
 pub mod Hints
+pub mod Trees
 pub mod Converting

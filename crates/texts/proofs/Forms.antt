@@ -84,11 +84,15 @@ module _ (form : ℕ) (text : List ℕ) (room : ℕ) (g : Takeable form (length 
     as-form : (y : Option Tree) (p : ℕ) → decode form text ≡ y → placeOf form text ≡ p → Taken y p scratch notes notes′ r → Taken (decode form text) (placeOf form text) scratch notes notes′ r
     as-form y p e f t = rw (e, f) t
 
-    pub form-advanced : form ≡ 3 → Converts (decode₃ rules text) scratch notes notes′ r → Taken (decode form text) (placeOf form text) scratch notes notes′ r
+    pub form-advanced : form ≡ 3 → Converts false (decode₃ rules false text) scratch notes notes′ r → Taken (decode form text) (placeOf form text) scratch notes notes′ r
     unfolding decode placeOf
-    form-advanced e t = as-form (decode₃ rules text) 0 (rw e) (rw e) (converted (decode₃ rules text) scratch notes notes′ r t)
+    form-advanced e t = as-form (decode₃ rules false text) 0 (rw e) (rw e) (converted (decode₃ rules false text) scratch notes notes′ r t)
 
-  module _ (n : form ≡ 3 → ⊥) (b : Bool) (o : Opens form text b) where
+    pub form-terminal : form ≡ 4 → Taken (decode₃ rules true text) scratch notes notes′ r → Taken (decode form text) scratch notes notes′ r
+    unfolding decode
+    form-terminal e t = as-form (decode₃ rules true text) (rw e) t
+
+  module _ (n : form ≡ 3 → ⊥) (m : form ≡ 4 → ⊥) (b : Bool) (o : Opens form text b) where
     enclosed : b ≡ true → Enclosed form text
     unfolding Opens
     enclosed e = subst (Opens form text) e o

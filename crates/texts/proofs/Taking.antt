@@ -2,9 +2,10 @@
 use Prim.Native.Nat.{ℕ, _+_, _*_, _-_, _≤_, _<_}
 use native.Mathlib.Omega.{arith}
 use mathlib.Core.Path.{_≡_, refl, sym, ap, _∙_, subst}
+use mathlib.Core.Bool.{true, false}
 use mathlib.Core.Option.{Option, none, some}
 use mathlib.Core.List.{List}
-use lib.ListN.{length, take, drop}
+use lib.ListN.{length, take, drop, length-take}
 use lib.Seq.{take-length, take-at}
 use Rattle.base.proofs.Cases.{none-some}
 use Rattle.base.proofs.Stores.{sets-all}
@@ -12,10 +13,10 @@ use Rattle.model.specs.Automaton.{place}
 use Rattle.model.specs.Decode.{decode₁}
 use Rattle.model.specs.Limits.{maxSource, maxCanonical}
 use Rattle.model.specs.Tree.{Tree, canon, nodes}
-use Rattle.model.proofs.Exact.{canon-sound}
-use Rattle.walk.specs.Extent.{Measures}
+use Rattle.model.proofs.Canonical.{canon-sound, canon-complete}
+use Rattle.walk.specs.Extent.{Wholly, Measures}
 use Rattle.walk.specs.declared.Extent.{Extent}
-use Rattle.walk.specs.declared.Extent.the-variants.{Refused}
+use Rattle.walk.specs.declared.Extent.the-variants.{Whole, Refused}
 use Rattle.scan.specs.Writes.{Wrote}
 use Rattle.blocks.specs.Fronts.{Front}
 use Rattle.blocks.proofs.Laws.{front-wrote}
@@ -68,7 +69,7 @@ module _ (text scratch : List ℕ) (g : Lent (length text) (length scratch)) whe
       through (decode₁ text) text scratch′ notes notes′ r v (g .short) refl (place text) r (v .measures) (v .fails) (λ _. let z : length text ≡ p = omega (arith, f .place) in rw z (f .same))
 
 -- ---- advanced text
-pub converted : (o : Option Tree) (scratch notes notes′ : List ℕ) (r : Extent) → Converts o scratch notes notes′ r → Taken o 0 scratch notes notes′ r
+pub converted : (o : Option Tree) (scratch notes notes′ : List ℕ) (r : Extent) → Converts false o scratch notes notes′ r → Taken o 0 scratch notes notes′ r
 converted o scratch notes notes′ r c =
     record {
       measures = c .measures;
@@ -77,8 +78,47 @@ converted o scratch notes notes′ r c =
       noted = λ t z h d k.
           record {
             counted = refl;
-            kept = ap (take (nodes t)) (c .kept (record { tree = t; is = z; short = h; deep = d; fits = k }) ∙ sets-all notes (noted t) (omega (arith, noted-length t)))
+            kept = ap (take (nodes t)) (c .kept refl (record { tree = t; is = z; short = h; deep = d; fits = k }) ∙ sets-all notes (noted t) (omega (arith, noted-length t)))
                 ∙ take-at (noted t) (drop (length (noted t)) notes) (nodes t) (noted-length t);
             short = omega arith;
           };
     }
+
+-- ---- text with braces: sizes are told, and the canonical octets are noted afterwards
+module _ (o : Option Tree) (scratch notes notes′ : List ℕ) (x : Extent) (c : Converts true o scratch notes notes′ x) where
+  pub terminal-none : x ≡ Refused → Taken o scratch notes notes′ Refused
+  unfolding Measures
+  terminal-none e = taken-none o scratch notes notes′ (subst (Measures o) e (c .measures))
+
+  module _ (len n d : ℕ) (e : x ≡ Whole len n d) where
+    whole : Wholly o len n d
+    unfolding Measures
+    whole = subst (Measures o) e (c .measures)
+
+    pub terminal-long : maxCanonical < len → Taken o scratch notes notes′ (Whole len n d)
+    unfolding Measures
+    terminal-long h =
+        record {
+          measures = whole;
+          octets = c .octets;
+          noted = λ t z k e f. let q : t ≡ whole .tree = cc (z, whole .is) in absurd (omega (arith, whole .long, ap (λ (x : Tree). length (canon x)) q));
+        }
+
+    module _ (h : len ≤ maxCanonical) where
+      front-is : take len scratch ≡ canon (whole .tree)
+      front-is = ap (λ (k : ℕ). take k scratch) (whole .long) ∙ c .octets (whole .tree) (whole .is) (omega (arith, whole .long))
+
+      pub terminal-part : len ≡ length (take len scratch)
+      terminal-part = whole .long ∙ sym (ap length front-is)
+
+      pub terminal-lent : len ≤ length scratch
+      terminal-lent = omega (arith, terminal-part, length-take len scratch)
+
+      pub terminal-short : length (take len scratch) ≤ maxSource
+      terminal-short = omega (arith, terminal-part)
+
+      pub terminal-noted : length notes′ ≡ length notes → (notes₂ : List ℕ) (r : Extent) → Noted (take len scratch) notes′ notes₂ r → Taken o scratch notes notes₂ r
+      terminal-noted k notes₂ r v =
+          let e : o ≡ decode₁ (take len scratch) = whole .is ∙ sym (ap decode₁ front-is ∙ canon-complete (whole .tree)) in
+          let t : Taken o scratch notes′ notes₂ r = through o (take len scratch) scratch notes′ notes₂ r v terminal-short e (λ _. ap (λ (k : ℕ). take k scratch) (sym terminal-part)) in
+          record { measures = t .measures; octets = t .octets; noted = λ u z x y w. t .noted u z x y (omega arith) }
