@@ -110,9 +110,9 @@ module _ (src out : List ℕ) (at pos : ℕ) (g : (at < length src) × Spare src
       tree-short = omega (arith, fits, tree-part, told .within, g .1 .short)
 
       module _ (before after : List ℕ) (r : Extent) (v : Noted part before after r) where
-        pub tree-refused : r ≡ Refused → Holds src at pos out out′ NoTree
+        pub tree-refused : (q : ℕ) → r ≡ Refused q → Holds src at pos out out′ NoTree
         unfolding Holds braces bind Measures
-        tree-refused e =
+        tree-refused q e =
             let d : decode₁ part ≡ none = subst (Measures (decode₁ part)) e (v .measures) in
             ap (λ (x : Read (List ℕ)). bind x canonicalOf) (told .reads) ∙ canonical-none (told .octets) (drop next src) (ap decode₁ (sym part-is) ∙ d)
 

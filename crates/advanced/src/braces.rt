@@ -60,6 +60,6 @@ pub fn tree_at(
             nodes: nodes,
             depth: depth,
         },
-        Extent::Refused => Inside::NoTree,
+        Extent::Refused { place: _ } => Inside::NoTree,
     }
 }

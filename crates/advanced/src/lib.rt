@@ -363,7 +363,7 @@ pub fn convert(
                     continue;
                 }
                 Inside::NoTree => {
-                    return Extent::Refused;
+                    return Extent::Refused { place: 0 };
                 }
             }
         }

@@ -88,9 +88,9 @@ module _ (form : ℕ) (text : List ℕ) (room : ℕ) (g : Takeable form (length 
     unfolding decode placeOf
     form-advanced e t = as-form (decode₃ rules false text) 0 (rw e) (rw e) (converted (decode₃ rules false text) scratch notes notes′ r t)
 
-    pub form-terminal : form ≡ 4 → Taken (decode₃ rules true text) scratch notes notes′ r → Taken (decode form text) scratch notes notes′ r
-    unfolding decode
-    form-terminal e t = as-form (decode₃ rules true text) (rw e) t
+    pub form-terminal : form ≡ 4 → Taken (decode₃ rules true text) 0 scratch notes notes′ r → Taken (decode form text) (placeOf form text) scratch notes notes′ r
+    unfolding decode placeOf
+    form-terminal e t = as-form (decode₃ rules true text) 0 (rw e) (rw e) t
 
   module _ (n : form ≡ 3 → ⊥) (m : form ≡ 4 → ⊥) (b : Bool) (o : Opens form text b) where
     enclosed : b ≡ true → Enclosed form text

@@ -24,6 +24,7 @@ use Rattle.advanced.specs.Converted.{Converts, Enough, thrice, largest, Lent}
 use Rattle.sheets.specs.Notes.{noted, Noted}
 use Rattle.sheets.proofs.Keeping.{noted-length}
 use Rattle.sheets.proofs.Held.{note-holds}
+use Rattle.sheets.proofs.Noting.{whole-refused}
 use Rattle.texts.specs.Texts.{Taken}
 
 -- scratch has room for the text as it stands, and more
@@ -46,6 +47,11 @@ module _ (o : Option Tree) (part scratch notes notes′ : List ℕ) (r : Extent)
             subst (λ (x : List ℕ). take (length x) scratch ≡ x) p (f (omega (arith, ap length p)));
         noted = λ t z h d k. note-holds part notes notes′ r v short (record { tree = t; is = sym e ∙ z; deep = d; fits = k });
       }
+
+-- where a place is told, nothing is meant
+measured-none : (o : Option Tree) (r : Extent) → Measures o r → (q : ℕ) → r ≡ Refused q → o ≡ none
+unfolding Measures
+measured-none o r m q e = subst (Measures o) e m
 
 -- nothing is meant
 pub taken-none : (o : Option Tree) (p : ℕ) (scratch notes notes′ : List ℕ) → o ≡ none → Taken o p scratch notes notes′ (Refused p)
@@ -86,20 +92,21 @@ converted o scratch notes notes′ r c =
 
 -- ---- text with braces: sizes are told, and the canonical octets are noted afterwards
 module _ (o : Option Tree) (scratch notes notes′ : List ℕ) (x : Extent) (c : Converts true o scratch notes notes′ x) where
-  pub terminal-none : x ≡ Refused → Taken o scratch notes notes′ Refused
+  pub terminal-none : (q : ℕ) → x ≡ Refused q → Taken o 0 scratch notes notes′ (Refused 0)
   unfolding Measures
-  terminal-none e = taken-none o scratch notes notes′ (subst (Measures o) e (c .measures))
+  terminal-none q e = taken-none o 0 scratch notes notes′ (subst (Measures o) e (c .measures))
 
   module _ (len n d : ℕ) (e : x ≡ Whole len n d) where
     whole : Wholly o len n d
     unfolding Measures
     whole = subst (Measures o) e (c .measures)
 
-    pub terminal-long : maxCanonical < len → Taken o scratch notes notes′ (Whole len n d)
+    pub terminal-long : maxCanonical < len → Taken o 0 scratch notes notes′ (Whole len n d)
     unfolding Measures
     terminal-long h =
         record {
           measures = whole;
+          fails = λ q f. whole-refused f;
           octets = c .octets;
           noted = λ t z k e f. let q : t ≡ whole .tree = cc (z, whole .is) in absurd (omega (arith, whole .long, ap (λ (x : Tree). length (canon x)) q));
         }
@@ -117,8 +124,10 @@ module _ (o : Option Tree) (scratch notes notes′ : List ℕ) (x : Extent) (c :
       pub terminal-short : length (take len scratch) ≤ maxSource
       terminal-short = omega (arith, terminal-part)
 
-      pub terminal-noted : length notes′ ≡ length notes → (notes₂ : List ℕ) (r : Extent) → Noted (take len scratch) notes′ notes₂ r → Taken o scratch notes notes₂ r
+      pub terminal-noted : length notes′ ≡ length notes → (notes₂ : List ℕ) (r : Extent) → Noted (take len scratch) notes′ notes₂ r → Taken o 0 scratch notes notes₂ r
       terminal-noted k notes₂ r v =
           let e : o ≡ decode₁ (take len scratch) = whole .is ∙ sym (ap decode₁ front-is ∙ canon-complete (whole .tree)) in
-          let t : Taken o scratch notes′ notes₂ r = through o (take len scratch) scratch notes′ notes₂ r v terminal-short e (λ _. ap (λ (k : ℕ). take k scratch) (sym terminal-part)) in
-          record { measures = t .measures; octets = t .octets; noted = λ u z x y w. t .noted u z x y (omega arith) }
+          let m : Measures o r = subst (λ (y : Option Tree). Measures y r) (sym e) (v .measures) in
+          let n : (q : ℕ) → r ≡ Refused q → q ≡ 0 = λ q f. none-some (sym (measured-none o r m q f) ∙ whole .is) in
+          let t : Taken o 0 scratch notes′ notes₂ r = through o (take len scratch) scratch notes′ notes₂ r v terminal-short e 0 r m n (λ _. ap (λ (k : ℕ). take k scratch) (sym terminal-part)) in
+          record { measures = t .measures; fails = t .fails; octets = t .octets; noted = λ u z x y w. t .noted u z x y (omega arith) }

@@ -117,7 +117,7 @@ fn take_terminal(
     requires { ⌜ Classed (now classes) ⌝ }
     requires { ⌜ Lettered (now letters) ⌝ }
     requires { ⌜ Lent (length (now text)) (length (now scratch)) ⌝ }
-    ensures { λ r. ⌜ Taken (decode₃ rules true (now (text .entry))) (now (scratch .exit)) (now (notes .entry)) (now (notes .exit)) r ⌝ }
+    ensures { λ r. ⌜ Taken (decode₃ rules true (now (text .entry))) 0 (now (scratch .exit)) (now (notes .entry)) (now (notes .exit)) r ⌝ }
 {
     match advanced::convert(classes, letters, true, text, scratch, notes) {
         Extent::Whole { len, nodes, depth } => {
@@ -131,7 +131,7 @@ fn take_terminal(
             let part = &scratch[..len];
             sheets::note(part, notes)
         }
-        Extent::Refused => Extent::Refused,
+        Extent::Refused { place: _ } => Extent::Refused { place: 0 },
     }
 }
 

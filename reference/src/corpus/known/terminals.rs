@@ -11,7 +11,9 @@ pub const TEXTS: &[Known] = &[
     (4, b"{KDE6YTE6YjE\n6Yyk= }", Ok(b"(1:a1:b1:c)")),
     // It decodes with an octet 0 after the tree.
     (4, b"{KDE6YTE6YjE6YykA}", BAD),
-    // `3Rt=` is DD 1B, no canonical tree, and `3:` takes `{XC` as its octets.
+    // `3Rt=` leaves low bits that are not zero (request 2), and its octets DD 1B
+    // are no canonical tree. Besides, `3:` takes `{XC` as its octets, so that the
+    // last brace closes nothing.
     (4, b"({3Rt=} \"1997\" murphy 3:{XC++})", BAD),
     (
         4,
