@@ -1,117 +1,33 @@
 -- The converting loop over lexemes, against the walk: what was passed stands at the front.
-use mir.Syntax.{w64}
-use mir.Val.{Fits}
-use Prim.Native.Nat.{ℕ, _+_, _*_, _-_, _≤_, _<_, max}
+use Prim.Native.Nat.{ℕ, _+_, _*_, _-_, _≤_, _<_}
 use native.Mathlib.Omega.{arith}
-use mathlib.Core.Path.{_≡_, refl, sym, ap, ap₂, _∙_, subst}
+use mathlib.Core.Path.{_≡_, refl, sym, ap, _∙_, subst}
 use mathlib.Core.Bool.{Bool, true, false}
 use mathlib.Core.Option.{Option, none, some}
-use mathlib.Core.List.{List, [], _∷_, _++_, append-assoc, append-nil}
-use lib.ListN.{length, length-append, drop, getD, set, drop-of-length-le}
+use mathlib.Core.List.{List, [], _++_, append-nil}
+use lib.ListN.{length, length-append, drop, drop-of-length-le}
 use lib.Seq.{sets}
-use lib.Dec.{eqb}
-use borrow.Author.Tests.{eq-eqb, ne-eqb, eqb-true}
-use Rattle.base.specs.Choice.{both, chain}
-use Rattle.base.proofs.Cases.{differ, both-true, picked, unpicked, none-some, chain-cases}
+use Rattle.base.proofs.Cases.{picked, unpicked, none-some}
 use Rattle.model.specs.Grammar.{rules}
-use Rattle.model.specs.Decode.{nest, braces, lexemeIn, lexemes, decode₃}
-use Rattle.model.specs.Lexemes.{Lexeme, opening, closing, lexeme, before}
+use Rattle.model.specs.Decode.{lexemes, decode₃}
+use Rattle.model.specs.Lexemes.{Lexeme}
 use Rattle.model.specs.Limits.{maxSource, maxCanonical, maxDepth}
-use Rattle.model.specs.Strings.{Read, got, refused, skip}
-use Rattle.model.specs.Tree.{Tree, canon, depth}
-use Rattle.model.proofs.Apart.{rules-apart}
-use Rattle.model.proofs.Braces.{unnesting, unbrace-test, held-lexemes, held-none}
-use Rattle.model.proofs.Canonical.{unnest-canon}
-use Rattle.model.proofs.Held.{Held, braces-sound, lexeme-in-other}
-use Rattle.model.proofs.Lexemes.{before-cases}
-use Rattle.model.proofs.Nesting.{unnest, nest-sound}
-use Rattle.model.proofs.OutputSizes.{nodes-half, depth-within}
-use Rattle.model.proofs.Unique.{canon-inj}
-use Rattle.model.proofs.Unnested.{unnest-split}
-use Rattle.model.proofs.LexemeLoop.{lexemes-end, lexemes-next, lexemes-none}
-use Rattle.model.proofs.Strict.{octetsOfLexeme, octetsOfLexemes}
-use Rattle.model.specs.Count.{Count, count, begin, shutBy, shut, step}
+use Rattle.model.specs.Tree.{Tree, canon}
+use Rattle.model.proofs.Nesting.{unnest}
+use Rattle.model.proofs.LexemeLoop.{lexemes-end}
+use Rattle.model.proofs.Strict.{octetsOfLexemes}
+use Rattle.model.specs.Count.{count, begin, shutBy, shut}
 use Rattle.walk.specs.Extent.{Measures}
 use Rattle.walk.specs.declared.Extent.the-variants.{Whole, Refused}
-use Rattle.walk.proofs.Fronts.{framesOf}
-use Rattle.walk.proofs.Chained.{walking, walking-shut, walking-step, walking-stop, walking-tree, walking-end, undecoded, decodes}
+use Rattle.walk.proofs.Chained.{walking, walking-end, undecoded, decodes}
 use Rattle.scan.specs.Runs.{Skipped}
-use Rattle.scan.proofs.Places.{one-here}
 use Rattle.blocks.specs.Fronts.{Front}
-use Rattle.blocks.proofs.Laws.{front-none, front-one, front-both}
-use Rattle.advanced.specs.Nodes.{Spare, Node, Nodes}
-use Rattle.advanced.specs.Braced.{TreeAt, Holds}
-use Rattle.advanced.specs.declared.braces.Inside.{Inside}
-use Rattle.advanced.specs.declared.braces.Inside.the-variants.{NoTree}
-use Rattle.advanced.specs.declared.braces.Inside.the-variants as inside
-use Rattle.sheets.specs.Notes.{noted, Stacks, Entered, Leaving, Left}
-use Rattle.sheets.specs.Strung.{stringRowOf, Keepable, KeptString}
-use Rattle.sheets.proofs.Strings.{string-events}
+use Rattle.blocks.proofs.Laws.{front-none}
+use Rattle.sheets.specs.Notes.{noted, Stacks}
 use Rattle.sheets.proofs.Noting.{whole-refused}
-use Rattle.sheets.proofs.Stacking.{Stacked, stacked-none, stacked-on, stacked-open, stacked-leaving, Kept, kept-start, kept-end, kept-open, kept-close, kept-string}
-use Rattle.advanced.specs.Converted.{Sheetable, Converts, Wrapped, Enough, thrice, largest, Lent}
-
--- ---- lexemes passed and to come
-
--- the octets of the lexemes, one after the other, are the canonical form
-lexemes-canon : (β : Bool) (src : List ℕ) (ls : List Lexeme) (t : Tree) → lexemes rules β src ≡ some ls → chain (lexemes rules β src) nest ≡ some t → octetsOfLexemes ls ≡ canon t
-unfolding chain
-lexemes-canon β src ls t e h = ap octetsOfLexemes (nest-sound ls t (rw e at h)) ∙ unnest-canon t
-
--- the lexemes passed stand before the others
-unfoldable pub prefixed : List Lexeme → Option (List Lexeme) → Option (List Lexeme)
-prefixed p none = none
-prefixed p (some ls) = some (p ++ ls)
-
-prefixed-none : (x : Option (List Lexeme)) → x ≡ prefixed [] x
-unfolding prefixed
-prefixed-none none = refl
-prefixed-none (some ls) = refl
-
-prefixed-step : (p : List Lexeme) (l : Lexeme) (y : Option (List Lexeme)) → prefixed p (before l y) ≡ prefixed (p ++ (l ∷ [])) y
-unfolding prefixed before
-prefixed-step p l none = refl
-prefixed-step p l (some ls) = ap some (sym (append-assoc p (l ∷ []) ls))
-
-octets-both : (a b : List Lexeme) → octetsOfLexemes (a ++ b) ≡ octetsOfLexemes a ++ octetsOfLexemes b
-unfolding octetsOfLexemes
-octets-both [] b = refl
-octets-both (l ∷ a) b = ap (λ (x : List ℕ). octetsOfLexeme l ++ x) (octets-both a b) ∙ sym (append-assoc (octetsOfLexeme l) (octetsOfLexemes a) (octetsOfLexemes b))
-
-prefixed-tree : (p : List Lexeme) (t : Tree) (y : Option (List Lexeme)) → prefixed p (unnesting t y) ≡ prefixed (p ++ unnest t []) y
-unfolding prefixed unnesting
-prefixed-tree p t none = refl
-prefixed-tree p t (some ls) = ap some (ap (λ (x : List Lexeme). p ++ x) (unnest-split t ls) ∙ sym (append-assoc p (unnest t []) ls))
-
--- what braces hold, by what is read of them
-held-of : {s k : List ℕ} {t : Tree} → braces rules s ≡ got (canon t) k → Held rules s t k
-held-of {s} {k} {t} e = braces-sound s e (λ u c h. subst (λ (x : Tree). Held rules s x k) (canon-inj u t (sym c)) h)
-
-octets-more : (a : List Lexeme) (l : Lexeme) → octetsOfLexemes (a ++ (l ∷ [])) ≡ octetsOfLexemes a ++ octetsOfLexeme l
-unfolding octetsOfLexemes
-octets-more a l = octets-both a (l ∷ []) ∙ ap (λ (x : List ℕ). octetsOfLexemes a ++ x) (append-nil (octetsOfLexeme l))
-
-module _ (β : Bool) (src : List ℕ) (at i : ℕ) (e : skip (drop at src) ≡ drop i src) (h : i < length src) where
-  place-next : (l : Lexeme) (k : List ℕ) → lexemeIn rules β (drop i src) ≡ got l k → lexemes rules β (drop at src) ≡ before l (lexemes rules β k)
-  place-next l k f = lexemes-next rules β (drop at src) (getD src i 0) (drop (i + 1) src) k l (e ∙ one-here src i h) (ap (lexemeIn rules β) (sym (one-here src i h)) ∙ f)
-
-  place-none : lexemeIn rules β (drop i src) ≡ refused → lexemes rules β (drop at src) ≡ none
-  place-none f = lexemes-none rules β (drop at src) (getD src i 0) (drop (i + 1) src) (e ∙ one-here src i h) (ap (lexemeIn rules β) (sym (one-here src i h)) ∙ f)
-
-  past-shut : (c : Count) → shut c ≡ true → walking (lexemes rules β (drop at src)) c ≡ none
-  unfolding chain
-  past-shut c s = by (lexemeIn rules β (drop i src)) refl
-    where
-      by : (x : Read Lexeme) → lexemeIn rules β (drop i src) ≡ x → walking (lexemes rules β (drop at src)) c ≡ none
-      by (got l k) f = ap (λ (y : Option (List Lexeme)). walking y c) (place-next l k f) ∙ walking-shut l (lexemes rules β k) c s
-      by refused f = ap (λ (y : Option (List Lexeme)). walking y c) (place-none f)
-
--- there is room for a string at any place
-enough : (n room at o : ℕ) → Enough n room → at ≤ n → o ≤ maxCanonical → o ≤ 3 * at → o + (n - at) + 40 ≤ room
-enough n room at o (thrice h) a b c = omega arith
-enough n room at o (largest h) a b c = omega arith
-
--- ---- the loop
+use Rattle.sheets.proofs.Stacking.{Stacked, stacked-none, Kept, kept-start, kept-end}
+use Rattle.advanced.specs.Converted.{Sheetable, Converts, Lent}
+use Rattle.advanced.proofs.Passed.{lexemes-canon, prefixed, prefixed-none, octets-both, past-shut, lexed}
 
 -- keeping what is still to come of a tree's text gives its notes; places are those of the canonical form
 pub record Coming (β : Bool) (src notes₀ starts nodeNos notes : List ℕ) (at len opened deepest seen : ℕ) (t : Tree) : Type 0 where
@@ -139,11 +55,6 @@ pub record Converting (β : Bool) (src out₀ notes₀ out starts nodeNos notes 
   pub stacked : Stacked starts nodeNos (maxCanonical + 1) o n
   pub coming : β ≡ false → (g : Sheetable (decode₃ rules β src) (length notes₀)) → Coming β src notes₀ starts nodeNos notes at len o d n (g .tree)
 
--- the lexemes of a text that means a tree
-lexed : (β : Bool) (src : List ℕ) (t : Tree) → decode₃ rules β src ≡ some t → lexemes rules β src ≡ some (unnest t [])
-unfolding decode₃
-lexed β src t e = chain-cases (lexemes rules β src) nest e (λ ls h₁ h₂. h₁ ∙ ap some (nest-sound ls t h₂))
-
 pub convert-none : (β : Bool) (src out notes starts nodeNos : List ℕ) → Lent (length src) (length out) → length starts ≡ maxDepth → length nodeNos ≡ maxDepth
     → Converting β src out notes out starts nodeNos notes 0 0 0 0 0 0
 unfolding octetsOfLexemes
@@ -168,7 +79,7 @@ convert-none β src out notes starts nodeNos k p q =
     }
 
 -- no tree: nothing is promised of octets and notes
-refusal : (β : Bool) (src out notes notes′ : List ℕ) → walking (lexemes rules β src) begin ≡ none → Converts β (decode₃ rules β src) out notes notes′ (Refused 0)
+pub refusal : (β : Bool) (src out notes notes′ : List ℕ) → walking (lexemes rules β src) begin ≡ none → Converts β (decode₃ rules β src) out notes notes′ (Refused 0)
 unfolding Measures decode₃
 refusal β src out notes notes′ e =
     let z : decode₃ rules β src ≡ none = undecoded (lexemes rules β src) e in
@@ -191,7 +102,7 @@ module _ (β : Bool) (src out₀ notes₀ out starts nodeNos notes : List ℕ) (
   convert-stacks = w .stacked .stacks
 
   -- what was passed of a tree is no longer than the whole
-  passed-short : (t : Tree) (ls : List Lexeme) → decode₃ rules β src ≡ some t → lexemes rules β (drop at src) ≡ some ls → len ≤ length (canon t)
+  pub passed-short : (t : Tree) (ls : List Lexeme) → decode₃ rules β src ≡ some t → lexemes rules β (drop at src) ≡ some ls → len ≤ length (canon t)
   unfolding decode₃ prefixed
   passed-short t ls g e =
       let a : lexemes rules β src ≡ some (w .passed ++ ls) = w .all ∙ ap (prefixed (w .passed)) e in
@@ -235,208 +146,3 @@ module _ (β : Bool) (src out₀ notes₀ out starts nodeNos notes : List ℕ) (
       convert-short h =
           let z : lexemes rules β (drop at src) ≡ some [] = lexemes-end rules β (drop at src) (p .reads ∙ drop-of-length-le src h) in
           refusal β src out notes₀ notes (w .same ∙ ap (λ (v : Option (List Lexeme)). walking v (count o d n)) z ∙ walking-end (count o d n) ∙ unpicked _ _ not-shut)
-
-      module _ (h : i < length src) where
-        -- a lexeme more: what it does to the octets, to the lists that are open and to the notes
-        module _ (l : Lexeme) (out′ starts′ nodeNos′ notes′ : List ℕ) (next e r′ o′ d′ n′ : ℕ) (s : lexemeIn rules β (drop i src) ≡ got l (drop next src)) (on : i < next) (within : next ≤ length src)
-            (g : step l (count o d n) ≡ some (count o′ d′ n′)) (v : Front (octetsOfLexeme l) r out out′ e) (k : e + 3 * i ≤ r + 3 * next) (u : Wrapped e r′)
-            (c : (o′ ≤ next) × (d′ ≤ next) × (n′ ≤ next)) (lev : o′ ≤ d′) (j : length notes′ ≡ length notes) (y : Stacked starts′ nodeNos′ (maxCanonical + 1) o′ n′)
-            (keeps : (whole : List ℕ) (t : Tree) (ls : List Lexeme) → depth t ≤ maxDepth → r ≡ len → Kept whole starts nodeNos notes r o d n t (l ∷ ls) → Kept whole starts′ nodeNos′ notes′ e o′ d′ n′ t ls) where
-          passes : lexemes rules β (drop at src) ≡ before l (lexemes rules β (drop next src))
-          passes = place-next β src at i (p .reads) h l (drop next src) s
-
-          still-coming : β ≡ false → (g : Sheetable (decode₃ rules β src) (length notes₀)) → Coming β src notes₀ starts′ nodeNos′ notes′ next (len + (e - r)) o′ d′ n′ (g .tree)
-          still-coming b g =
-              let m : Coming β src notes₀ starts nodeNos notes at len o d n (g .tree) = w .coming b g in
-              let f : r ≡ len = w .place (omega (arith, passed-short (g .tree) (m .to-come) (g .is) (m .lexes), g .short)) in
-              let b : len + (e - r) ≡ e = omega (arith, v .place) in
-              before-cases l (lexemes rules β (drop next src)) (sym passes ∙ m .lexes)
-              (λ ls x z.
-              let a : m .to-come ≡ l ∷ ls = cc in
-              let was : Kept (sets notes₀ 0 (noted (g .tree))) starts nodeNos notes r o d n (g .tree) (l ∷ ls) =
-              subst (λ (a : ℕ). Kept (sets notes₀ 0 (noted (g .tree))) starts nodeNos notes a o d n (g .tree) (l ∷ ls)) (sym f) (subst (Kept (sets notes₀ 0 (noted (g .tree))) starts nodeNos notes len o d n (g .tree)) a (m .kept)) in
-              record { to-come = ls; lexes = x; kept = rw b (keeps (sets notes₀ 0 (noted (g .tree))) (g .tree) ls (g .deep) f was) })
-
-          stepped : Converting β src out₀ notes₀ out′ starts′ nodeNos′ notes′ next (len + (e - r)) r′ o′ d′ n′
-          stepped =
-              let z : octetsOfLexemes (w .passed ++ (l ∷ [])) ≡ octetsOfLexemes (w .passed) ++ octetsOfLexeme l = octets-more (w .passed) l in
-              record {
-                inside = within;
-                lent = w .lent;
-                long = v .long ∙ w .long;
-                low = u .low;
-                treble = omega (arith, u .less, k, w .treble, p .from);
-                few = (c .0, c .1, c .2, omega (arith, w .few, p .from));
-                level = lev;
-                passed = w .passed ++ (l ∷ []);
-                all = w .all ∙ ap (prefixed (w .passed)) passes ∙ prefixed-step (w .passed) l (lexemes rules β (drop next src));
-                same = w .same ∙ ap (λ (v : Option (List Lexeme)). walking v (count o d n)) passes ∙ walking-step l (lexemes rules β (drop next src)) (count o d n) (count o′ d′ n′) not-shut g;
-                size = ap length z ∙ length-append (octetsOfLexemes (w .passed)) (octetsOfLexeme l) ∙ omega (arith, w .size, v .place);
-                place = λ m. omega (arith, w .place (omega arith), u .on (omega (arith, w .place (omega arith), v .place)), v .place);
-                front = λ m.
-                    let f : r ≡ len = w .place (omega arith) in
-                    let b : len + (e - r) ≡ e = omega (arith, v .place) in
-                    subst (λ (x : List ℕ). Front x 0 out₀ out′ (len + (e - r))) (sym z)
-                    (rw b (front-both (octetsOfLexemes (w .passed)) (octetsOfLexeme l) 0 len e out₀ out out′ (w .front (omega arith)) (subst (λ (x : ℕ). Front (octetsOfLexeme l) x out out′ e) f v)));
-                notesLong = j ∙ w .notesLong;
-                stacked = y;
-                coming = still-coming;
-              }
-
-        pub one-room : r < length out
-        one-room = omega (arith, enough (length src) (length out₀) at r (w .lent .enough) (w .inside) (w .low) (w .treble), w .long)
-
-        -- of one octet
-        one : (l : Lexeme) (b : ℕ) (starts′ nodeNos′ notes′ : List ℕ) (r′ o′ d′ n′ : ℕ) → lexemeIn rules β (drop i src) ≡ got l (drop (i + 1) src) → step l (count o d n) ≡ some (count o′ d′ n′) → octetsOfLexeme l ≡ b ∷ [] → Wrapped (r + 1) r′
-            → (o′ ≤ i + 1) × (d′ ≤ i + 1) × (n′ ≤ i + 1) → o′ ≤ d′ → length notes′ ≡ length notes → Stacked starts′ nodeNos′ (maxCanonical + 1) o′ n′
-            → ((whole : List ℕ) (t : Tree) (ls : List Lexeme) → depth t ≤ maxDepth → r ≡ len → Kept whole starts nodeNos notes r o d n t (l ∷ ls) → Kept whole starts′ nodeNos′ notes′ (r + 1) o′ d′ n′ t ls)
-            → Converting β src out₀ notes₀ (set out r b) starts′ nodeNos′ notes′ (i + 1) (len + 1) r′ o′ d′ n′
-        one l b starts′ nodeNos′ notes′ r′ o′ d′ n′ s g e u c q j y keeps =
-            let z : len + (r + 1 - r) ≡ len + 1 = omega arith in
-            rw z at (stepped l (set out r b) starts′ nodeNos′ notes′ (i + 1) (r + 1) r′ o′ d′ n′ s (omega arith) (omega arith) g (rw e (front-one out r b one-room)) (omega arith) u c q j y keeps)
-
-        pub one-less : length src - (i + 1) < length src - at
-        one-less = omega (arith, p .from)
-
-        opens : getD src i 0 ≡ 40 → lexemeIn rules β (drop i src) ≡ got opening (drop (i + 1) src)
-        unfolding lexeme
-        opens e = ap (lexemeIn rules β) (one-here src i h) ∙ lexeme-in-other rules β (getD src i 0) (drop (i + 1) src) (unbrace-test β (getD src i 0) (λ z. omega (arith, z, e))) ∙ picked _ _ (eq-eqb _ _ e)
-
-        pub open-on : getD src i 0 ≡ 40 → (m : ℕ) → m ≡ max d (o + 1) → (r′ : ℕ) → Wrapped (r + 1) r′ → (starts′ nodeNos′ : List ℕ) → Entered o r n starts nodeNos starts′ nodeNos′
-            → Converting β src out₀ notes₀ (set out r 40) starts′ nodeNos′ notes (i + 1) (len + 1) r′ (o + 1) m (n + 1)
-        unfolding step octetsOfLexeme
-        open-on e m g r′ u starts′ nodeNos′ v =
-            one opening 40 starts′ nodeNos′ notes r′ (o + 1) m (n + 1) (opens e) (rw g) refl u (omega (arith, w .few, p .from), omega (arith, w .few, p .from), omega (arith, w .few, p .from))
-            (omega arith) refl (stacked-open starts nodeNos (maxCanonical + 1) o n (w .stacked) r (maxCanonical + 1) (omega (arith, w .low)) (omega arith) starts′ nodeNos′ v)
-            (λ whole t ls deep f k. rw g (kept-open whole starts nodeNos notes r o d n t ls k deep (w .stacked .stacks) starts′ nodeNos′ v))
-
-        module _ (a : getD src i 0 ≡ 40 → ⊥) (e : getD src i 0 ≡ 41) where
-          closes : lexemeIn rules β (drop i src) ≡ got closing (drop (i + 1) src)
-          unfolding lexeme
-          closes = ap (lexemeIn rules β) (one-here src i h) ∙ lexeme-in-other rules β (getD src i 0) (drop (i + 1) src) (unbrace-test β (getD src i 0) (λ z. omega (arith, z, e))) ∙ unpicked _ _ (ne-eqb _ _ a) ∙ picked _ _ (eq-eqb _ _ e)
-
-          pub close-none : o ≡ 0 → Converts β (decode₃ rules β src) out notes₀ notes (Refused 0)
-          unfolding step
-          close-none z =
-              refusal β src out notes₀ notes (w .same ∙ ap (λ (v : Option (List Lexeme)). walking v (count o d n)) (place-next β src at i (p .reads) h closing (drop (i + 1) src) closes)
-              ∙ walking-stop closing (lexemes rules β (drop (i + 1) src)) (count o d n) not-shut (picked _ _ (eq-eqb _ _ z)))
-
-          pub close-leaving : (o ≡ 0 → ⊥) → Leaving starts nodeNos (o - 1) n r
-          close-leaving z = stacked-leaving starts nodeNos (maxCanonical + 1) o n (w .stacked) r z (omega (arith, w .few, p .from, w .lent .short)) (omega (arith, w .low)) (omega arith)
-
-          pub close-on : (o ≡ 0 → ⊥) → (r′ : ℕ) → Wrapped (r + 1) r′ → (notes′ : List ℕ) → Left starts nodeNos (o - 1) n r notes notes′
-              → Converting β src out₀ notes₀ (set out r 41) starts nodeNos notes′ (i + 1) (len + 1) r′ (o - 1) d n
-          unfolding step octetsOfLexeme
-          close-on z r′ u notes′ v =
-              one closing 41 starts nodeNos notes′ r′ (o - 1) d n closes (unpicked _ _ (ne-eqb _ _ z)) refl u (omega (arith, w .few, p .from), omega (arith, w .few, p .from), omega (arith, w .few, p .from))
-              (omega (arith, w .level)) (v .long) (stacked-on starts nodeNos (maxCanonical + 1) o n (w .stacked) (maxCanonical + 1) (o - 1) n (omega arith) (omega arith) (omega arith))
-              (λ whole t ls deep f k. kept-close whole starts nodeNos notes r o d n t ls k z (w .level) deep notes′ v)
-
-        pub node-spare : Spare src i r (length out)
-        node-spare = record { inside = omega arith; short = w .lent .short; space = rw (w .long) (enough (length src) (length out₀) i r (w .lent .enough) (omega arith) (w .low) (omega (arith, w .treble, p .from))) }
-
-        -- a tree in braces
-        module _ (γ : Bool) (held : γ ≡ both β (eqb (getD src i 0) 123)) (so : γ ≡ true) where
-          pair : (β ≡ true) × (eqb (getD src i 0) 123 ≡ true)
-          pair = both-true (sym held ∙ so)
-
-          here : skip (drop at src) ≡ 123 ∷ drop (i + 1) src
-          here = p .reads ∙ one-here src i h ∙ ap (λ (b : ℕ). b ∷ drop (i + 1) src) (eqb-true _ _ (pair .1))
-
-          module _ (out₁ : List ℕ) (v : Inside) (s : Holds src i r out out₁ v) where
-            not-held : v ≡ NoTree → braces rules (drop (i + 1) src) ≡ refused
-            unfolding Holds
-            not-held e = subst (Holds src i r out out₁) e s
-
-            pub held-refused : v ≡ NoTree → (b : List ℕ) → Converts β (decode₃ rules β src) b notes₀ notes (Refused 0)
-            unfolding chain
-            held-refused e b =
-                refusal β src b notes₀ notes (w .same ∙ ap (λ (v : Option (List Lexeme)). walking v (count o d n))
-                (held-none rules-apart β (pair .0) (drop at src) (drop (i + 1) src) here (not-held e)))
-
-            module _ (next k c m : ℕ) (e : v ≡ inside.Held next k c m) where
-              at-tree : TreeAt src i r out out₁ next k c m
-              unfolding Holds
-              at-tree = subst (Holds src i r out out₁) e s
-
-              small : (2 * c ≤ k) × (m ≤ c)
-              small = (omega (arith, nodes-half (at-tree .tree), at-tree .long, at-tree .counted), omega (arith, depth-within (at-tree .tree), at-tree .counted, at-tree .deepest))
-
-              pub held-less : length src - next < length src - at
-              held-less = omega (arith, p .from, at-tree .few, at-tree .within)
-
-              pub held-deep : Fits w64 (o + m)
-              held-deep = omega (arith, w .few, w .lent .short, w .inside, at-tree .few, at-tree .within, p .from, small)
-
-              pub held-many : Fits w64 (n + c)
-              held-many = omega (arith, w .few, w .lent .short, w .inside, at-tree .few, at-tree .within, p .from, small)
-
-              pub held-long : Fits w64 (len + k)
-              held-long = omega (arith, w .few, w .lent .short, w .inside, at-tree .few, at-tree .within, p .from)
-
-              pub held-end : Fits w64 (r + k)
-              held-end = omega (arith, w .low, w .lent .short, at-tree .few, at-tree .within)
-
-              passes-tree : lexemes rules β (drop at src) ≡ unnesting (at-tree .tree) (lexemes rules β (drop next src))
-              passes-tree = held-lexemes rules-apart β (pair .0) (drop at src) (drop (i + 1) src) (drop next src) (at-tree .tree) here (held-of (at-tree .reads))
-
-              pub held-on : (d′ : ℕ) → d′ ≡ max d (o + m) → (r′ : ℕ) → Wrapped (r + k) r′ → Converting β src out₀ notes₀ out₁ starts nodeNos notes next (len + k) r′ o d′ (n + c)
-              held-on d′ g r′ u =
-                  let z : octetsOfLexemes (w .passed ++ unnest (at-tree .tree) []) ≡ octetsOfLexemes (w .passed) ++ canon (at-tree .tree) =
-                  octets-both (w .passed) (unnest (at-tree .tree) []) ∙ ap (λ (x : List ℕ). octetsOfLexemes (w .passed) ++ x) (unnest-canon (at-tree .tree)) in
-                  record {
-                    inside = at-tree .within;
-                    lent = w .lent;
-                    long = at-tree .front .long ∙ w .long;
-                    low = u .low;
-                    treble = omega (arith, u .less, w .treble, p .from, at-tree .few);
-                    few = (omega (arith, w .few, p .from, at-tree .few), omega (arith, w .few, p .from, at-tree .few, small, g), omega (arith, w .few, p .from, at-tree .few, small), omega (arith, w .few, p .from, at-tree .few));
-                    level = omega (arith, w .level, g);
-                    passed = w .passed ++ unnest (at-tree .tree) [];
-                    all = w .all ∙ ap (prefixed (w .passed)) passes-tree ∙ prefixed-tree (w .passed) (at-tree .tree) (lexemes rules β (drop next src));
-                    same = w .same ∙ ap (λ (v : Option (List Lexeme)). walking v (count o d n)) passes-tree
-                        ∙ walking-tree (at-tree .tree) (lexemes rules β (drop next src)) (count o d n) not-shut (w .level)
-                        ∙ ap₂ (λ (x y : ℕ). walking (lexemes rules β (drop next src)) (count o x y)) (sym (g ∙ ap (λ (x : ℕ). max d (o + x)) (at-tree .deepest))) (ap (λ (x : ℕ). n + x) (sym (at-tree .counted)));
-                    size = ap length z ∙ length-append (octetsOfLexemes (w .passed)) (canon (at-tree .tree)) ∙ omega (arith, w .size, at-tree .long);
-                    place = λ m. omega (arith, w .place (omega arith), u .on (omega (arith, w .place (omega arith))));
-                    front = λ m.
-                        let f : r ≡ len = w .place (omega arith) in
-                        subst (λ (x : List ℕ). Front x 0 out₀ out₁ (len + k)) (sym z)
-                        (front-both (octetsOfLexemes (w .passed)) (canon (at-tree .tree)) 0 len (len + k) out₀ out out₁ (w .front (omega arith)) (subst (λ (x : ℕ). Front (canon (at-tree .tree)) x out out₁ (x + k)) f (at-tree .front)));
-                    notesLong = w .notesLong;
-                    stacked = stacked-on starts nodeNos (maxCanonical + 1) o n (w .stacked) (maxCanonical + 1) o (n + c) (omega arith) (omega arith) (omega arith);
-                    coming = λ b g. differ (pair .0) b;
-                  }
-
-        module _ (γ : Bool) (held : γ ≡ both β (eqb (getD src i 0) 123)) (not : γ ≡ false) (out₁ : List ℕ) (mid end next : ℕ) (s : Nodes src i r out out₁ mid end next) where
-          as-lexeme : lexemeIn rules β (drop i src) ≡ lexeme rules (drop i src)
-          as-lexeme = ap (lexemeIn rules β) (one-here src i h) ∙ lexeme-in-other rules β _ _ (sym held ∙ not) ∙ ap (lexeme rules) (sym (one-here src i h))
-
-          pub node-none : next ≡ 0 → (b : List ℕ) → Converts β (decode₃ rules β src) b notes₀ notes (Refused 0)
-          unfolding chain
-          node-none z b = refusal β src b notes₀ notes (w .same ∙ ap (λ (v : Option (List Lexeme)). walking v (count o d n)) (place-none β src at i (p .reads) h (as-lexeme ∙ s .none z)))
-
-          module _ (z : next ≡ 0 → ⊥) where
-            it : Node src i r out out₁ mid end next
-            it = s .some z
-
-            pub node-from : r ≤ end
-            node-from = omega (arith, it .front .place)
-
-            pub node-less : length src - next < length src - at
-            node-less = omega (arith, p .from, it .on, it .within)
-
-            pub node-fits : Fits w64 (len + (end - r))
-            node-fits = omega (arith, w .few, w .lent .short, w .inside, it .low, it .within, p .from)
-
-            pub node-keepable : Keepable r mid end
-            node-keepable = record { lexeme = it .is; is = it .strung; small = omega (arith, it .front .fits, w .long, w .lent .small) }
-
-            pub node-on : (r′ : ℕ) → Wrapped end r′ → (notes′ : List ℕ) → KeptString n r mid end notes notes′ → Converting β src out₀ notes₀ out₁ starts nodeNos notes′ next (len + (end - r)) r′ o d (n + 1)
-            node-on r′ u notes′ k =
-                stepped (it .is) out₁ starts nodeNos notes′ next end r′ o d (n + 1) (as-lexeme ∙ it .reads) (it .on) (it .within) (it .string o d n) (it .front) (it .low) u
-                (omega (arith, w .few, p .from, it .on), omega (arith, w .few, p .from, it .on), omega (arith, w .few, p .from, it .on))
-                (w .level) (k .long) (stacked-on starts nodeNos (maxCanonical + 1) o n (w .stacked) (maxCanonical + 1) o (n + 1) (omega arith) (omega arith) (omega arith))
-                (λ whole t ls deep f y.
-                kept-string whole starts nodeNos notes r o d n t ls (it .is) (stringRowOf r (it .is)) end y (it .string o d n)
-                (string-events (it .is) r mid end (it .strung) n ls (framesOf starts nodeNos o)) notes′ (k .kept (it .is) (it .strung)))

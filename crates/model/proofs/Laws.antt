@@ -40,7 +40,7 @@ canonical-prefix-free t u k e = prefix-free t u k e
 pub canonical-rule : (s : List ℕ) (t : Tree) (k : List ℕ) → CSexp s t k ↔ (s ≡ canon t ++ k)
 canonical-rule s t k = (λ x. c-sexp-strip x, λ e. subst (λ (x : List ℕ). CSexp x t k) (sym e) (strip-c-sexp t k))
 
--- 01, "The three forms that come in": under any rules the decoder reads each form's language and nothing else.
+-- 01, "The three forms that come in", and form 4 of 02: under any rules the decoder reads each form's language and nothing else.
 pub decoder-exact : (ρ : Rules) → Apart ρ → (form : ℕ) (s : List ℕ) (t : Tree) → (decodeUnder ρ form s ≡ some t) ↔ Language ρ form s t
 decoder-exact ρ a form s t = (sound a form s t, λ x. complete a x)
 

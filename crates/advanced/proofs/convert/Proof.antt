@@ -1,6 +1,8 @@
 use Prim.Native.Nat.{_-_}
 use lib.ListN.{length}
-use Rattle.advanced.proofs.Converting.{Converting, convert-none, convert-inside, convert-long, convert-low, convert-notes, convert-stacks, convert-more, convert-whole, convert-short, one-room, one-less, open-on, close-none, close-leaving, close-on, held-refused, held-less, held-deep, held-many, held-long, held-end, held-on, node-spare, node-none, node-from, node-fits, node-less, node-keepable, node-on}
+use Rattle.advanced.proofs.Converting.{Converting, convert-none, convert-inside, convert-long, convert-low, convert-notes, convert-stacks, convert-more, convert-whole, convert-short}
+use Rattle.advanced.proofs.Stepping.{one-room, one-less, open-on, close-none, close-leaving, close-on, node-spare, node-none, node-from, node-fits, node-less, node-keepable, node-on}
+use Rattle.advanced.proofs.Holding.{held-refused, held-less, held-deep, held-many, held-long, held-end, held-on}
 use native.Mathlib.Omega.{arith}
 use borrow.Author.Needs.{needs}
 use Rattle.advanced.proofs.convert.Statement.{statement}
