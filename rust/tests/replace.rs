@@ -33,12 +33,13 @@ fn by_name_of_the_form() {
         (Form::Canonical, &b"1:a"[..]),
         (Form::Basic, b"{MTpi}"),
         (Form::Advanced, b"c"),
+        (Form::Terminal1997, b" {MTpk}\n"),
     ] {
         let (canonical, table) = (&mut sheet.canonical, &mut sheet.table);
         let answer = etglavino::replace(form, text, canonical, table, sheet.extent, 1);
         sheet.extent = answer.expect("a text of its form");
     }
-    assert_eq!(sheet.canonical[..12], *b"(1:c[1:x]0:)");
+    assert_eq!(sheet.canonical[..12], *b"(1:d[1:x]0:)");
     assert_eq!(sheet.extent.length, 12);
 }
 

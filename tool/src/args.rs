@@ -149,10 +149,8 @@ impl Given {
         match self.value(name) {
             None if otherwise == Form::Terminal1997 => Ok(Form::Advanced),
             None => Ok(otherwise),
-            Some(value) => named(value).map_or_else(
-                || none_of(name, value, "canonical, basic and advanced"),
-                Ok,
-            ),
+            Some(value) => named(value)
+                .map_or_else(|| none_of(name, value, "canonical, basic and advanced"), Ok),
         }
     }
 
