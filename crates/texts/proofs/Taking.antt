@@ -2,7 +2,7 @@
 use Prim.Native.Nat.{ℕ, _+_, _*_, _-_, _≤_, _<_}
 use native.Mathlib.Omega.{arith}
 use mathlib.Core.Path.{_≡_, refl, sym, ap, _∙_, subst}
-use mathlib.Core.Bool.{true, false}
+use mathlib.Core.Bool.{Bool, true, false}
 use mathlib.Core.Option.{Option, none, some}
 use mathlib.Core.List.{List}
 use lib.ListN.{length, take, drop, length-take}
@@ -75,8 +75,8 @@ module _ (text scratch : List ℕ) (g : Lent (length text) (length scratch)) whe
       through (decode₁ text) text scratch′ notes notes′ r v (g .short) refl (place text) r (v .measures) (v .fails) (λ _. let z : length text ≡ p = omega (arith, f .place) in rw z (f .same))
 
 -- ---- advanced text
-pub converted : (o : Option Tree) (scratch notes notes′ : List ℕ) (r : Extent) → Converts false o scratch notes notes′ r → Taken o 0 scratch notes notes′ r
-converted o scratch notes notes′ r c =
+pub converted : (β : Bool) (o : Option Tree) (scratch notes notes′ : List ℕ) (r : Extent) → Converts β o scratch notes notes′ r → β ≡ false → Taken o 0 scratch notes notes′ r
+converted β o scratch notes notes′ r c b =
     record {
       measures = c .measures;
       fails = c .fails;
@@ -84,14 +84,14 @@ converted o scratch notes notes′ r c =
       noted = λ t z h d k.
           record {
             counted = refl;
-            kept = ap (take (nodes t)) (c .kept refl (record { tree = t; is = z; short = h; deep = d; fits = k }) ∙ sets-all notes (noted t) (omega (arith, noted-length t)))
+            kept = ap (take (nodes t)) (c .kept b (record { tree = t; is = z; short = h; deep = d; fits = k }) ∙ sets-all notes (noted t) (omega (arith, noted-length t)))
                 ∙ take-at (noted t) (drop (length (noted t)) notes) (nodes t) (noted-length t);
             short = omega arith;
           };
     }
 
 -- ---- text with braces: sizes are told, and the canonical octets are noted afterwards
-module _ (o : Option Tree) (scratch notes notes′ : List ℕ) (x : Extent) (c : Converts true o scratch notes notes′ x) where
+module _ (β : Bool) (o : Option Tree) (scratch notes notes′ : List ℕ) (x : Extent) (c : Converts β o scratch notes notes′ x) where
   pub terminal-none : (q : ℕ) → x ≡ Refused q → Taken o 0 scratch notes notes′ (Refused 0)
   unfolding Measures
   terminal-none q e = taken-none o 0 scratch notes notes′ (subst (Measures o) e (c .measures))

@@ -1,7 +1,6 @@
 // A text of any form becomes canonical octets in scratch, in one pass, with the sizes of its tree and a note for each node. Whatever
 // takes a text takes it through these, and sees nothing of its form.
 ghost use mathlib.Core.Path.{_≡_};
-ghost use mathlib.Core.Bool.{true};
 ghost use lib.ListN.{length};
 ghost use Rattle.model.specs.Grammar.{rules};
 ghost use Rattle.model.specs.Answers.{placeOf};
@@ -106,10 +105,12 @@ fn take_braced(
     }
 }
 
-// Text of form 4: what is in braces has octets of its own, so that the notes are those of the canonical octets that the text becomes.
-fn take_terminal(
+// Text of form 3, or with braces of form 4: what is in braces has octets of its own, so that the notes are then those of the canonical
+// octets that the text becomes.
+fn take_advanced(
     classes: &[u8; 256],
     letters: &[u8; 256],
+    braces: bool,
     text: &[u8],
     scratch: &mut [u8],
     notes: &mut [usize],
@@ -117,22 +118,28 @@ fn take_terminal(
     requires { ⌜ Classed (now classes) ⌝ }
     requires { ⌜ Lettered (now letters) ⌝ }
     requires { ⌜ Lent (length (now text)) (length (now scratch)) ⌝ }
-    ensures { λ r. ⌜ Taken (decode₃ rules true (now (text .entry))) 0 (now (scratch .exit)) (now (notes .entry)) (now (notes .exit)) r ⌝ }
+    ensures { λ r. ⌜ Taken (decode₃ rules braces (now (text .entry))) 0 (now (scratch .exit)) (now (notes .entry)) (now (notes .exit)) r ⌝ }
 {
-    match advanced::convert(classes, letters, true, text, scratch, notes) {
-        Extent::Whole { len, nodes, depth } => {
-            if len > limits::CANONICAL {
-                return Extent::Whole {
-                    len: len,
-                    nodes: nodes,
-                    depth: depth,
-                };
+    let found = advanced::convert(classes, letters, braces, text, scratch, notes);
+    if braces {
+        match found {
+            Extent::Whole { len, nodes, depth } => {
+                if len > limits::CANONICAL {
+                    return Extent::Whole {
+                        len: len,
+                        nodes: nodes,
+                        depth: depth,
+                    };
+                }
+                let part = &scratch[..len];
+                return sheets::note(part, notes);
             }
-            let part = &scratch[..len];
-            sheets::note(part, notes)
+            Extent::Refused { place: _ } => {
+                return Extent::Refused { place: 0 };
+            }
         }
-        Extent::Refused { place: _ } => Extent::Refused { place: 0 },
     }
+    found
 }
 
 // The canonical octets of a text at the front of scratch, the sizes of the tree that it means, and the tree's notes as far as they
@@ -150,11 +157,8 @@ pub fn take(
     requires { ⌜ Takeable form (length (now text)) (length (now scratch)) ⌝ }
     ensures { λ r. ⌜ Taken (decode form (now (text .entry))) (placeOf form (now (text .entry))) (now (scratch .exit)) (now (notes .entry)) (now (notes .exit)) r ⌝ }
 {
-    if form == 3 {
-        return advanced::convert(classes, letters, false, text, scratch, notes);
-    }
-    if form == 4 {
-        return take_terminal(classes, letters, text, scratch, notes);
+    if form >= 3 {
+        return take_advanced(classes, letters, form == 4, text, scratch, notes);
     }
     if braced(form, text) {
         return take_braced(classes, letters, text, scratch, notes);

@@ -1,4 +1,4 @@
-use Rattle.texts.proofs.Forms.{form-advanced, form-terminal, form-brace, form-braced, form-canonical}
+use Rattle.texts.proofs.Forms.{form-advanced, form-brace, form-braced, form-canonical}
 use native.Mathlib.Omega.{arith}
 use borrow.Author.Needs.{needs}
 use Rattle.texts.proofs.take.Statement.{statement}
@@ -7,17 +7,14 @@ use Rattle.texts.proofs.take.Tie as tie
 returns : tie.Need-returns
 returns c = search (form-advanced, arith)
 
-returns-2 : tie.Need-returns-2
-returns-2 c = search (form-terminal, arith)
-
 take-braced-requires : tie.Need-take-braced-requires
 take-braced-requires c κs = (search needs, (search needs, (search (form-brace, arith), search needs)))
 
-returns-3 : tie.Need-returns-3
-returns-3 c = search (form-braced, arith)
+returns-2 : tie.Need-returns-2
+returns-2 c = search (form-braced, arith)
 
-returns-4 : tie.Need-returns-4
-returns-4 c = search (form-canonical, arith)
+returns-3 : tie.Need-returns-3
+returns-3 c = search (form-canonical, arith)
 
 pub take-spec : {M : Type 1} → statement M
 take-spec =
@@ -28,15 +25,11 @@ take-spec =
     (λ c. search needs)
     returns
     (λ c κs. search needs)
+    take-braced-requires
     (λ c. search needs)
     (λ c. search needs)
     returns-2
     (λ c κs. search needs)
-    take-braced-requires
     (λ c. search needs)
     (λ c. search needs)
-    returns-3
-    (λ c κs. search needs)
-    (λ c. search needs)
-    (λ c. search needs)
-    returns-4)
+    returns-3)

@@ -1,8 +1,8 @@
-use Rattle.texts.proofs.Taking.{terminal-none, terminal-long, terminal-lent, terminal-part, terminal-short, terminal-noted}
+use Rattle.texts.proofs.Taking.{converted, terminal-none, terminal-long, terminal-lent, terminal-part, terminal-short, terminal-noted}
 use native.Mathlib.Omega.{arith}
 use borrow.Author.Needs.{needs}
-use Rattle.texts.proofs.take_terminal.Statement.{statement}
-use Rattle.texts.proofs.take_terminal.Tie as tie
+use Rattle.texts.proofs.take_advanced.Statement.{statement}
+use Rattle.texts.proofs.take_advanced.Tie as tie
 
 returns : tie.Need-returns
 returns c = search (terminal-long, arith)
@@ -22,8 +22,11 @@ returns-2 c = search (terminal-noted, arith)
 returns-3 : tie.Need-returns-3
 returns-3 c = search (terminal-none, arith)
 
-pub take-terminal-spec : {M : Type 1} → statement M
-take-terminal-spec =
+returns-4 : tie.Need-returns-4
+returns-4 c = search (converted, arith)
+
+pub take-advanced-spec : {M : Type 1} → statement M
+take-advanced-spec =
     tie.close
     (tie.spec
     (λ c κs. search needs)
@@ -36,8 +39,11 @@ take-terminal-spec =
     note-requires
     (λ c. search needs)
     (λ c. search needs)
-    (λ c. search needs)
     returns-2
     (λ c. search needs)
     (λ c. search needs)
-    returns-3)
+    (λ c. search needs)
+    returns-3
+    (λ c. search needs)
+    (λ c. search needs)
+    returns-4)
