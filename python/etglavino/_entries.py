@@ -204,7 +204,7 @@ def check(number: int, place: int = 0) -> None:
 
 def _form(form: int) -> int:
     """What the C type can't hold is no form either."""
-    return form if form in (1, 2, 3) else 0
+    return form if form in (1, 2, 3, 4) else 0
 
 
 def count_of(node: int) -> int:

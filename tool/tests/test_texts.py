@@ -39,7 +39,7 @@ class Convert(Case):
         self.fails(1, SYNTAX, "convert", "--from", "terminal", source=b"[x]{MzphYmM=}")
         # It is written back as advanced text.
         self.file("sheet", b"(a{MzphYmM=})")
-        self.gives(b"", "replace", "--from", "terminal", "--text", "terminal", "sheet", "1", "{MTpi}")
+        self.gives(b"", "replace", "--from", "terminal", "--text", "terminal", "1", "{MTpi}", "sheet")
         self.assertEqual((self.folder / "sheet").read_bytes(), b"(b abc)\n")
         self.gives(b"(b abc)\n", "extract", "--from", "terminal", source=b"(b {MzphYmM=})")
 
