@@ -74,6 +74,9 @@ cases =
     ∷ (outcome (reading 2 (40 ∷ 51 ∷ 58 ∷ 97 ∷ 98 ∷ []) sheet table), outcome (unchangedAt 3 5 sheet table))
     ∷ (outcome (reading 3 (51 ∷ 58 ∷ 97 ∷ 98 ∷ 99 ∷ 88 ∷ []) sheet table), outcome (unchangedAt 3 0 sheet table))
     ∷ (outcome (replacing 1 (48 ∷ 51 ∷ 58 ∷ []) (lent sheet (40 ∷ 41 ∷ [])) (lent table (2 ∷ 0 ∷ 2 ∷ 1 ∷ 0 ∷ 0 ∷ 1 ∷ 1 ∷ [])) 2 1 0), outcome (unchangedAt 3 1 (lent sheet (40 ∷ 41 ∷ [])) (lent table (2 ∷ 0 ∷ 2 ∷ 1 ∷ 0 ∷ 0 ∷ 1 ∷ 1 ∷ []))))
+    -- Ask 13: {MzphYmM=} in form 4, and in form 3
+    ∷ (outcome (reading 4 (123 ∷ 77 ∷ 122 ∷ 112 ∷ 104 ∷ 89 ∷ 109 ∷ 77 ∷ 61 ∷ 125 ∷ []) sheet table), outcome (accepted 5 1 (51 ∷ 58 ∷ 97 ∷ 98 ∷ 99 ∷ []) (0 ∷ 0 ∷ 5 ∷ 1 ∷ 0 ∷ 0 ∷ 2 ∷ 5 ∷ [])))
+    ∷ (outcome (reading 3 (123 ∷ 77 ∷ 122 ∷ 112 ∷ 104 ∷ 89 ∷ 109 ∷ 77 ∷ 61 ∷ 125 ∷ []) sheet table), outcome (unchanged 3 sheet table))
     -- 3"ab"
     ∷ (outcome (reading 3 (51 ∷ 34 ∷ 97 ∷ 98 ∷ 34 ∷ []) sheet table), outcome (unchanged 3 sheet table))
     -- #616#
