@@ -365,9 +365,10 @@ struct etg_pieces_state {
 };
 
 /* Starts a reading into a sheet with room for `canonical_size` octets and a
- * table of `table_size`: numbers of a flat table, or records. The table is not
- * touched before an accepted end, so that the start and the pieces take its
- * size alone. */
+ * table of `table_size`: numbers of a flat table, or records. The state doesn't
+ * know which, so keep to one of them up to the end. The table is not touched
+ * before an accepted end, so that the start and the pieces take its size
+ * alone. */
 void etg_pieces_start(struct etg_pieces_state *state,
                       size_t canonical_size, size_t table_size);
 
