@@ -14,7 +14,7 @@ const char *etg_refusal_text(uint32_t number)
     case ETG_ACCEPTED:
         return "accepted";
     case ETG_FORM:
-        return "the form is not 1, 2 or 3";
+        return "the form is not 1 to 4, or in writing not 1 to 3";
     case ETG_SOURCE_SIZE:
         return "the source has over 32,768 octets";
     case ETG_SYNTAX:

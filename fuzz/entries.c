@@ -112,7 +112,7 @@ static void read_small(uint32_t form, const uint8_t *text, size_t size, size_t o
     saw(1, answer, nodes);
     HOLDS(answer <= ETG_SIZE && length <= octets && nodes <= records);
     HOLDS(answer == ETG_ACCEPTED || (length == 0 && nodes == 0));
-    HOLDS(place <= size && (place == 0 || (answer == ETG_SYNTAX && form != ETG_ADVANCED)));
+    HOLDS(place <= size && (place == 0 || (answer == ETG_SYNTAX && form < ETG_ADVANCED)));
     HOLDS(untouched(canonical + length, octets - length));
     HOLDS(untouched(rows + nodes, (records - nodes) * sizeof *rows));
 }
@@ -287,7 +287,7 @@ int LLVMFuzzerTestOneInput(const uint8_t *data, size_t size)
 
     if (size < 3 || size - 3 > MOST)
         return 0;
-    form = data[0] % 5;
+    form = data[0] % 6;
     at_end = data[2] & 1;
     size -= 3;
     text = room(TEXT, size, 1, at_end);
@@ -297,7 +297,7 @@ int LLVMFuzzerTestOneInput(const uint8_t *data, size_t size)
     in_pieces(text, size, (size_t)data[2] * 8, data[2], at_end);
     answer = read_to(&sheet, SHEET, TABLE, form, text, size, at_end);
     saw(0, answer, sheet.nodes);
-    HOLDS((answer == ETG_FORM) == (form < ETG_CANONICAL || form > ETG_ADVANCED));
+    HOLDS((answer == ETG_FORM) == (form < ETG_CANONICAL || form > ETG_1997));
     if (answer != ETG_ACCEPTED) {
         HOLDS(sheet.length == 0 && sheet.nodes == 0 && untouched(sheet.octets, ETG_MOST_CANONICAL));
         place = sheet.place;

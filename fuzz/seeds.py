@@ -25,7 +25,7 @@ def inputs(corpus: bytes):
         if case[0] in (READ, REPLACE):
             form, size = struct.unpack_from("<II", case, 1)
             text = case[9 : 9 + size]
-            if form < 5 and len(text) <= LONGEST:
+            if form < 6 and len(text) <= LONGEST:
                 yield bytes([form, number % 251, number % 256]) + text
 
 

@@ -85,12 +85,14 @@ extern "C" {
 enum {
     ETG_CANONICAL = 1,
     ETG_BASIC = 2,
-    ETG_ADVANCED = 3
+    ETG_ADVANCED = 3,
+    ETG_1997 = 4        /* advanced, with base-64 in braces wherever a value may
+                           stand; it is read and never written */
 };
 
 enum {
     ETG_ACCEPTED = 0,
-    ETG_FORM = 1,       /* the form is not 1, 2 or 3 */
+    ETG_FORM = 1,       /* the form is not 1 to 4, or in writing not 1 to 3 */
     ETG_SOURCE_SIZE = 2, /* the source has over 32,768 octets */
     ETG_SYNTAX = 3,     /* the source is not in the form's language */
     ETG_DEPTH = 4,      /* lists nest over 128 deep */
@@ -363,9 +365,10 @@ struct etg_pieces_state {
 };
 
 /* Starts a reading into a sheet with room for `canonical_size` octets and a
- * table of `table_size`: numbers of a flat table, or records. The table is not
- * touched before an accepted end, so that the start and the pieces take its
- * size alone. */
+ * table of `table_size`: numbers of a flat table, or records. The state doesn't
+ * know which, so keep to one of them up to the end. The table is not touched
+ * before an accepted end, so that the start and the pieces take its size
+ * alone. */
 void etg_pieces_start(struct etg_pieces_state *state,
                       size_t canonical_size, size_t table_size);
 

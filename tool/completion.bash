@@ -6,7 +6,11 @@ _etglavino() {
     COMPREPLY=()
 
     case $before in
-        --from | --to | --text | -s)
+        --from | --text)
+            mapfile -t COMPREPLY < <(compgen -W 'canonical basic advanced terminal' -- "$word")
+            return
+            ;;
+        --to | -s)
             mapfile -t COMPREPLY < <(compgen -W 'canonical basic advanced' -- "$word")
             return
             ;;

@@ -96,13 +96,15 @@ const LIST_TABLE: [[u32; RECORD]; 3] = [
 
 #[test]
 fn starred_and_accepted() {
-    for form in [1, 2, 3] {
+    for form in [1, 2, 3, 4] {
         accepted(form, b"()", b"()", &[[2, 0, 2, 1, 0, 0, 1, 1]]);
         accepted(form, b"0:", b"0:", &[[0, 0, 2, 1, 0, 0, 2, 2]]);
         accepted(form, LIST, LIST, &LIST_TABLE);
     }
     accepted(3, b" ( abc [ x ] \"\" ) ", LIST, &LIST_TABLE);
     accepted(2, b"{KDM6YWJjWzE6eF0wOik=}", LIST, &LIST_TABLE);
+    accepted(4, b"(abc {WzE6eF0wOg==})", LIST, &LIST_TABLE);
+    accepted(4, b"{KDM6YWJjWzE6eF0wOik=}", LIST, &LIST_TABLE);
     accepted(3, b"\"hi\"", b"2:hi", &[[0, 0, 4, 1, 0, 0, 2, 4]]);
     let corrected = b"(2:hi[1:x]0:)";
     let records = [

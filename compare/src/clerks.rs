@@ -5,7 +5,7 @@
 
 use etglavino::{Extent, Record, RECORD};
 use reference::corpus::rng::Rng;
-use reference::corpus::trees;
+use reference::corpus::{spell, trees};
 use reference::entries::{self, Reading};
 use reference::output;
 use reference::tree::Tree;
@@ -63,9 +63,10 @@ fn apart(rng: &mut Rng, tree: &Tree) -> Option<(usize, usize)> {
 
 /// A tree spelled in some form.
 fn spelled(rng: &mut Rng, tree: &Tree) -> (u32, Vec<u8>) {
-    match rng.below(3) {
+    match rng.below(4) {
         0 => (1, output::canonical(tree)),
         1 => (2, output::basic(tree)),
+        2 => (4, spell::terminal(rng, tree)),
         _ => (3, output::advanced(tree)),
     }
 }

@@ -175,7 +175,7 @@ impl Tally {
             Entry::Insert(0, usize::MAX),
             Entry::Insert(1, 0),
         ];
-        for form in 0..=4 {
+        for form in 0..=5 {
             for entry in entries {
                 self.ask(entry, form, text, lent, literal(form));
             }

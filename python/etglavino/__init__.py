@@ -1,7 +1,7 @@
 """S-expressions (RFC 9804) read, written, changed and compared by a library
 whose every answer is proved.
 
-A text comes in one of three forms and becomes a `Sheet`: the canonical octets
+A text comes in one of four forms and becomes a `Sheet`: the canonical octets
 of a tree, with a record for each of its nodes.
 
     >>> from etglavino import Form, read

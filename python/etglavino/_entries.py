@@ -38,6 +38,9 @@ class Form(IntEnum):
     """Canonical, or base-64 of it in braces."""
     ADVANCED = 3
     """What people write."""
+    TERMINAL_1997 = 4
+    """What the terminals of 1997 send: advanced, with base-64 in braces
+    wherever a value may stand. It is read and never written."""
 
 
 class Refusal(ValueError):
@@ -48,7 +51,7 @@ class Refusal(ValueError):
     it is 0."""
 
     SENTENCES: ClassVar[dict[int, str]] = {
-        1: "the form is not 1, 2 or 3",
+        1: "the form is not 1 to 4, or in writing not 1 to 3",
         2: "the source has over 32,768 octets",
         3: "the source is not in the form's language",
         4: "lists nest over 128 deep",
@@ -201,7 +204,7 @@ def check(number: int, place: int = 0) -> None:
 
 def _form(form: int) -> int:
     """What the C type can't hold is no form either."""
-    return form if form in (1, 2, 3) else 0
+    return form if form in (1, 2, 3, 4) else 0
 
 
 def count_of(node: int) -> int:

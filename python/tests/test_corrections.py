@@ -27,7 +27,8 @@ class Corrections(unittest.TestCase):
         self.assertEqual(sheet.nodes, read(Form.CANONICAL, sheet.canonical).nodes)
 
     def test_what_was_inserted_goes_again(self) -> None:
-        changed = insert(Form.ADVANCED, b"(x (y))", self.sheet, 0, 1)
+        changed = insert(Form.TERMINAL_1997, b"(x {KDE6eSk=})", self.sheet, 0, 1)
+        self.assertEqual(changed, insert(Form.ADVANCED, b"(x (y))", self.sheet, 0, 1))
         self.assertEqual(changed.data(2), b"1:x(1:y)")
         again = remove(changed, 2)
         self.assertEqual((again, again.nodes), (self.sheet, self.sheet.nodes))
@@ -42,6 +43,7 @@ class Corrections(unittest.TestCase):
                 (Form.BASIC, b"(3:ab", 5),
                 (Form.BASIC, b"{", 0),
                 (Form.ADVANCED, b"(", 0),
+                (Form.TERMINAL_1997, b"3:abcX", 0),
             ):
                 with self.assertRaises(Refusal) as caught:
                     call(form, text)

@@ -24,6 +24,7 @@ class Read(unittest.TestCase):
             (Form.CANONICAL, LIST),
             (Form.BASIC, b"{KDM6YWJjWzE6eF0wOik=}"),
             (Form.ADVANCED, b' ( abc [ x ] "" ) '),
+            (Form.TERMINAL_1997, b"({MzphYmM=}{WzE6eF0wOg==})"),
         ):
             sheet = read(form, source)
             self.assertEqual(sheet.canonical, LIST)
@@ -85,7 +86,7 @@ class Read(unittest.TestCase):
         self.assertEqual(len(read(3, b"(" + b"()" * 8_191 + b")").nodes), 8_192)
 
     def test_the_first_refusal_that_applies(self) -> None:
-        for form in (0, 4, -1, 2**32 + 1, 2**64 + 3):
+        for form in (0, 5, -1, 2**32 + 1, 2**64 + 3):
             self.refused(1, form, b")" * (MAX_SOURCE + 1))
         self.refused(2, 1, b")" * (MAX_SOURCE + 1))
         self.refused(3, 1, b"(" * 129)

@@ -48,8 +48,9 @@ class Write(Case):
         for form in (0, 4, -1, 2**32 + 1):
             self.refused(1, write, form, b"abc")
         for bad in (b"", b"abc", b"()()", nested(129), empties(8_192), verbatim(16_379)):
-            for form in Form:
+            for form in (1, 2, 3):
                 self.refused(7, write, form, bad)
+        self.refused(1, write, Form.TERMINAL_1997, LIST)
 
 
 class Replace(Case):

@@ -1,12 +1,25 @@
-//! Form 3, advanced: lists, hints and simple strings, with whitespace.
+//! Form 3, advanced: lists, hints and simple strings, with whitespace. And
+//! form 4, that of the terminals of 1997: form 3 with trees in braces.
 
 use crate::builder::Builder;
 use crate::cursor::Cursor;
 use crate::lexeme::{is_whitespace, simple};
 use crate::tree::Tree;
+use crate::{base64, canonical};
 
 /// The tree of an advanced form; `None` if the source is none.
 pub fn parse(source: &[u8]) -> Option<Tree> {
+    sexp(source, false)
+}
+
+/// The tree of a text of form 4; `None` if the source is none.
+pub fn parse_1997(source: &[u8]) -> Option<Tree> {
+    sexp(source, true)
+}
+
+/// One value, with whitespace around it; `braces` says whether a value may
+/// stand in braces.
+fn sexp(source: &[u8], braces: bool) -> Option<Tree> {
     let mut cursor = Cursor::new(source);
     let mut builder = Builder::default();
     cursor.run(is_whitespace);
@@ -19,6 +32,11 @@ pub fn parse(source: &[u8]) -> Option<Tree> {
             b')' => {
                 cursor.step();
                 builder.close()?;
+            }
+            b'{' if braces => {
+                cursor.step();
+                let octets = base64::decode(cursor.until(b'}')?)?;
+                builder.add(canonical::parse(&octets)?)?;
             }
             _ => builder.add(string(&mut cursor)?)?,
         }

@@ -35,7 +35,8 @@ reference vectors DIRECTORY         writes the corpus of crates/vectors, the fil
 reference explain FILE N            shows case N of a cases file
 reference help                      this page
 
-FORM is 1 (canonical), 2 (basic) or 3 (advanced). Nodes are counted from 0.
+FORM is 1 (canonical), 2 (basic), 3 (advanced) or 4 (advanced with trees in
+braces, which is only read). Nodes are counted from 0.
 Status 0: done. Status 1: refused, and `refused N` is printed. Status 2: the
 command was wrong or a file could not be used; standard error says why.
 ";

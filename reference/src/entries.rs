@@ -190,6 +190,7 @@ pub(crate) fn tree_of_text(form: u32, source: &[u8]) -> Result<Tree, u32> {
         CANONICAL => canonical::parse,
         BASIC => basic::parse,
         ADVANCED => advanced::parse,
+        TERMINAL => advanced::parse_1997,
         _ => return Err(BAD_FORM),
     };
     if source.len() > MAX_SOURCE {

@@ -19,6 +19,9 @@ pub const CANONICAL: u32 = 1;
 pub const BASIC: u32 = 2;
 /// Form number: advanced.
 pub const ADVANCED: u32 = 3;
+/// Form number: advanced, with base-64 in braces wherever a value may stand.
+/// It is only read.
+pub const TERMINAL: u32 = 4;
 
 /// Answer: accepted.
 pub const ACCEPTED: u32 = 0;

@@ -8,11 +8,15 @@ use reference::entries::{self, Comparing, Writing};
 
 #[test]
 fn form_numbers() {
-    for form in [0, 4, 5, 9, 256 + 1, 65_536 + 2, u32::MAX] {
+    for form in [0, 5, 9, 256 + 1, 65_536 + 2, u32::MAX] {
         assert_eq!(canonical(form, LIST), Err(1));
         assert_eq!(write(form, LIST, LIST.len(), 100), Err(1));
         assert_eq!(Pair::roomy(LIST).refusal(form, b"a", 1), 1);
     }
+    // Form 4 is read and never written.
+    assert_eq!(canonical(4, LIST), Ok(LIST.to_vec()));
+    assert_eq!(write(4, LIST, LIST.len(), 100), Err(1));
+    assert_eq!(write(4, b"bad", 3, 0), Err(1));
 }
 
 #[test]

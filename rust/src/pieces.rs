@@ -86,7 +86,8 @@ impl<O: Room<u8>, R: Room<Record>> Pieces<O, R> {
     /// # Errors
     ///
     /// [`Refusal`]s 2 to 6, the first that applies, as reading the whole in form
-    /// 1 gives them.
+    /// 1 gives them; and 7 where the space is of a type of your own that has
+    /// another size now than at the start.
     pub fn end(mut self) -> Result<Sheet<O, R>, Refusal> {
         let (octets, records) = (self.octets.as_ref(), self.records.as_mut());
         let extent = self.state.end_records(octets, records)?;

@@ -7,7 +7,7 @@ use core::fmt;
 #[derive(Clone, Copy, Debug, PartialEq, Eq, Hash)]
 #[non_exhaustive]
 pub enum Refusal {
-    /// 1: the form is not 1, 2 or 3.
+    /// 1: the form is not 1 to 4, or in writing not 1 to 3.
     Form,
     /// 2: the source has over 32,768 octets.
     SourceSize,
@@ -75,7 +75,7 @@ impl Refusal {
     /// What is wrong, in a sentence without capital and full stop.
     pub const fn sentence(self) -> &'static str {
         match self {
-            Refusal::Form => "the form is not 1, 2 or 3",
+            Refusal::Form => "the form is not 1 to 4, or in writing not 1 to 3",
             Refusal::SourceSize => "the source has over 32,768 octets",
             Refusal::Syntax { .. } => "the source is not in the form's language",
             Refusal::Depth => "lists nest over 128 deep",

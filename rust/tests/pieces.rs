@@ -164,11 +164,35 @@ fn the_state_knows_nothing_of_the_cutting() {
 
 #[test]
 fn other_states_keep_inside_what_is_lent() {
-    for number in [0, 1, 16, 24, 255, 32_769, u64::MAX / 2, u64::MAX] {
-        let (mut canonical, mut table) = ([OCTET; 16], [NUMBER; 24]);
-        let mut state = PiecesState::from_numbers([number; 10]);
-        let _ = state.feed(LIST, &mut canonical, 24);
-        let _ = state.end(&canonical, &mut table);
+    const GUARD: usize = 32;
+    let real = PiecesState::start(16, 24).numbers();
+    // The sizes are those of the start; all else is made up.
+    let sizes: Vec<usize> = (0..10).filter(|&at| [16, 24].contains(&real[at])).collect();
+    assert_eq!(sizes.len(), 2);
+    for number in [0, 1, 5, 16, 255, 16_385, 32_769, u64::MAX / 2, u64::MAX] {
+        for kept in 0..8 {
+            let mut numbers = [number; 10];
+            numbers[kept] = real[kept];
+            for &at in &sizes {
+                numbers[at] = real[at];
+            }
+            let mut canonical = [OCTET; 16 + 2 * GUARD];
+            let mut table = [NUMBER; 24 + 2 * GUARD];
+            let mut state = PiecesState::from_numbers(numbers);
+            let octets = &mut canonical[GUARD..GUARD + 16];
+            assert!(state.feed(LIST, octets, 24).is_ok());
+            let answer = state.end(octets, &mut table[GUARD..GUARD + 24]);
+            assert_ne!(answer, Err(Refusal::NotOwn));
+            // Another size is told all the same.
+            let refused = state.feed(LIST, octets, 23);
+            assert_eq!(refused, Err(Refusal::NotOwn));
+            let refused = state.end(&octets[1..], &mut table[GUARD..GUARD + 24]);
+            assert_eq!(refused, Err(Refusal::NotOwn));
+            let around = canonical[..GUARD].iter().chain(&canonical[GUARD + 16..]);
+            assert!(around.into_iter().all(|octet| *octet == OCTET));
+            let around = table[..GUARD].iter().chain(&table[GUARD + 24..]);
+            assert!(around.into_iter().all(|number| *number == NUMBER));
+        }
     }
 }
 

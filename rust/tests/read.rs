@@ -13,7 +13,7 @@ fn canonical(form: u32, source: &[u8]) -> Result<Vec<u8>, Refusal> {
 fn the_empty_list_and_the_empty_string() {
     let list = Ok((b"()".to_vec(), vec![2, 0, 2, 1, 0, 0, 1, 1]));
     let string = Ok((b"0:".to_vec(), vec![0, 0, 2, 1, 0, 0, 2, 2]));
-    for form in [1, 2, 3] {
+    for form in [1, 2, 3, 4] {
         assert_eq!(read(form, b"()"), list);
         assert_eq!(read(form, b"0:"), string);
     }
@@ -30,10 +30,11 @@ fn the_list_in_each_form() {
 
 #[test]
 fn forms_by_name_are_forms_by_number() {
-    let sources: [(Form, &[u8]); 3] = [
+    let sources: [(Form, &[u8]); 4] = [
         (Form::Canonical, LIST),
         (Form::Basic, b"{KDM6YWJjWzE6eF0wOik=}"),
         (Form::Advanced, b"(abc [x]\"\")"),
+        (Form::Terminal1997, b"({MzphYmM=}{WzE6eF0wOg==})"),
     ];
     for (form, source) in sources {
         let (mut octets, mut table) = ([OCTET; 15], [NUMBER; 25]);
@@ -46,9 +47,10 @@ fn forms_by_name_are_forms_by_number() {
         assert_eq!((&octets[..14], octets[14]), (LIST, OCTET));
         assert_eq!((&table[..24], table[24]), (&LIST_TABLE[..], NUMBER));
     }
-    // Only one of the three takes each of these.
+    // Not every form takes each of these.
     assert_eq!(canonical(1, b"{KCk=}"), Err(Refusal::Syntax { place: 0 }));
     assert_eq!(canonical(3, b"{KCk=}"), Err(Refusal::Syntax { place: 0 }));
+    assert_eq!(canonical(4, b"{KCk=}"), Ok(b"()".to_vec()));
     assert_eq!(canonical(1, b"( )"), Err(Refusal::Syntax { place: 1 }));
     assert_eq!(canonical(2, b"( )"), Err(Refusal::Syntax { place: 1 }));
     assert_eq!(canonical(3, b"( )"), Ok(b"()".to_vec()));
@@ -147,7 +149,7 @@ fn the_room_lent() {
 #[test]
 fn the_first_refusal_that_applies() {
     let long = vec![b')'; MAX_SOURCE + 1];
-    for form in [0, 4, u32::MAX] {
+    for form in [0, 5, u32::MAX] {
         assert_eq!(read(form, &long), Err(Refusal::Form));
     }
     assert_eq!(read(1, &long), Err(Refusal::SourceSize));

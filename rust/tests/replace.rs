@@ -33,12 +33,13 @@ fn by_name_of_the_form() {
         (Form::Canonical, &b"1:a"[..]),
         (Form::Basic, b"{MTpi}"),
         (Form::Advanced, b"c"),
+        (Form::Terminal1997, b" {MTpk}\n"),
     ] {
         let (canonical, table) = (&mut sheet.canonical, &mut sheet.table);
         let answer = etglavino::replace(form, text, canonical, table, sheet.extent, 1);
         sheet.extent = answer.expect("a text of its form");
     }
-    assert_eq!(sheet.canonical[..12], *b"(1:c[1:x]0:)");
+    assert_eq!(sheet.canonical[..12], *b"(1:d[1:x]0:)");
     assert_eq!(sheet.extent.length, 12);
 }
 
@@ -112,7 +113,7 @@ fn an_insertion_tells_where_its_text_went_wrong() {
 #[test]
 fn each_refusal() {
     let replaced = |form, text: &[u8], node| Sheet::list().replace(form, text, node);
-    for form in [0, 4, u32::MAX] {
+    for form in [0, 5, u32::MAX] {
         assert_eq!(replaced(form, b"hi", 1), Err(Refusal::Form));
     }
     let long = padded(b"hi", MAX_SOURCE + 1);

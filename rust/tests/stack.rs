@@ -131,6 +131,9 @@ impl Tree {
             texts.push((3, padded(&text, MAX_SOURCE)));
             texts.push((3, text));
         }
+        // The whole in braces, and each string.
+        texts.push((4, padded(&self.basic(), MAX_SOURCE)));
+        texts.push((4, self.spelled("{MjphYg}", "{NDphYmNk}")));
         texts
     }
 }

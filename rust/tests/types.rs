@@ -38,13 +38,19 @@ fn a_refusal_is_an_error() {
 
 #[test]
 fn forms_from_numbers() {
-    for form in [Form::Canonical, Form::Basic, Form::Advanced] {
+    for form in [
+        Form::Canonical,
+        Form::Basic,
+        Form::Advanced,
+        Form::Terminal1997,
+    ] {
         assert_eq!(Form::try_from(form as u32), Ok(form));
     }
     assert_eq!(Form::Canonical as u32, 1);
     assert_eq!(Form::Basic as u32, 2);
     assert_eq!(Form::Advanced as u32, 3);
-    for number in [0, 4, u32::MAX] {
+    assert_eq!(Form::Terminal1997 as u32, 4);
+    for number in [0, 5, u32::MAX] {
         assert_eq!(Form::try_from(number), Err(Refusal::Form));
     }
 }

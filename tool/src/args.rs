@@ -34,7 +34,7 @@ pub struct Flag {
 pub const FROM: Flag = Flag {
     name: "--from",
     value: Some("FORM"),
-    about: "the form of what is read: canonical, basic, advanced, or any (the default)",
+    about: "the form of what is read: canonical, basic, advanced, terminal, or any (the default)",
 };
 pub const OUTPUT: Flag = Flag {
     name: "--output",
@@ -143,19 +143,14 @@ impl Given {
         self.value(name).is_some()
     }
 
-    /// A flag's form, or another.
+    /// The form of what is written, by a flag, or another. What terminals send is
+    /// never written: advanced text takes its place.
     pub fn form(&self, name: &str, otherwise: Form) -> Result<Form, Problem> {
-        let Some(value) = self.value(name) else {
-            return Ok(otherwise);
-        };
-        match value.as_bytes() {
-            b"canonical" | b"1" => Ok(Form::Canonical),
-            b"basic" | b"transport" | b"2" => Ok(Form::Basic),
-            b"advanced" | b"3" => Ok(Form::Advanced),
-            _ => usage(format!(
-                "{name}: {} is none of canonical, basic and advanced",
-                value.to_string_lossy()
-            )),
+        match self.value(name) {
+            None if otherwise == Form::Terminal1997 => Ok(Form::Advanced),
+            None => Ok(otherwise),
+            Some(value) => named(value)
+                .map_or_else(|| none_of(name, value, "canonical, basic and advanced"), Ok),
         }
     }
 
@@ -168,8 +163,13 @@ impl Given {
             _ => Form::Advanced,
         };
         match self.value(name) {
+            None => Ok(seen),
             Some(value) if value == "any" => Ok(seen),
-            _ => self.form(name, seen),
+            Some(value) if value == "terminal" || value == "4" => Ok(Form::Terminal1997),
+            Some(value) => named(value).map_or_else(
+                || none_of(name, value, "canonical, basic, advanced and terminal"),
+                Ok,
+            ),
         }
     }
 
@@ -191,4 +191,19 @@ impl Given {
     pub fn at(&self, place: usize) -> Option<&OsStr> {
         self.plain.get(place).map(OsString::as_os_str)
     }
+}
+
+/// A form that is read and written, by its name or its number.
+fn named(value: &OsStr) -> Option<Form> {
+    match value.as_bytes() {
+        b"canonical" | b"1" => Some(Form::Canonical),
+        b"basic" | b"transport" | b"2" => Some(Form::Basic),
+        b"advanced" | b"3" => Some(Form::Advanced),
+        _ => None,
+    }
+}
+
+fn none_of(name: &str, value: &OsStr, forms: &str) -> Result<Form, Problem> {
+    let value = value.to_string_lossy();
+    usage(format!("{name}: {value} is none of {forms}"))
 }

@@ -30,6 +30,19 @@ class Convert(Case):
         for source in (LIST_BASIC + b"\n", b" " + LIST_BASIC, b"{", b"({MzphYmM=})"):
             self.fails(1, SYNTAX, "convert", source=source)
 
+    def test_what_terminals_send(self) -> None:
+        for name in ("terminal", "4"):
+            self.gives(b"(1:a3:abc)", "convert", "--from", name, source=b"(a{MzphYmM=})\n")
+            self.fails(2, b"none of canonical, basic and advanced", "convert", "--to", name, source=LIST)
+        for source in FORMS.values():
+            self.gives(LIST, "convert", "--from", "terminal", source=source)
+        self.fails(1, SYNTAX, "convert", "--from", "terminal", source=b"[x]{MzphYmM=}")
+        # It is written back as advanced text.
+        self.file("sheet", b"(a{MzphYmM=})")
+        self.gives(b"", "replace", "--from", "terminal", "--text", "terminal", "1", "{MTpi}", "sheet")
+        self.assertEqual((self.folder / "sheet").read_bytes(), b"(b abc)\n")
+        self.gives(b"(b abc)\n", "extract", "--from", "terminal", source=b"(b {MzphYmM=})")
+
     def test_the_names_of_forms(self) -> None:
         for name in ("2", "transport", "basic"):
             self.gives(LIST_BASIC, "convert", "--to", name, source=LIST)
@@ -98,7 +111,7 @@ class Check(Case):
         self.gives(b"", "check", "--from", "basic", "basic")
         for form in ("advanced", "canonical"):
             self.fails(1, SYNTAX.rstrip(b"\n"), "check", "--from", form, "basic")
-        self.fails(2, b"none of canonical, basic and advanced", "check", "--from", "xml", "basic")
+        self.fails(2, b"none of canonical, basic, advanced and terminal", "check", "--from", "xml", "basic")
 
 
 class Show(Case):

@@ -38,7 +38,7 @@ impl Reader {
         canonical: &mut [u8],
         table: &mut [u32],
     ) -> Result<Extent, Refusal> {
-        if !(1..=3).contains(&form) {
+        if !(1..=4).contains(&form) {
             return Err(Refusal::Form);
         }
         if source.len() > MAX_SOURCE {
@@ -47,7 +47,8 @@ impl Reader {
         self.clear();
         let found = match (form, source.first()) {
             (2, Some(b'{')) => self.braced(source),
-            (3, _) => self.advanced(source),
+            (3, _) => self.advanced(source, false),
+            (4, _) => self.advanced(source, true),
             _ => self.canonical(source),
         };
         found.ok_or(Refusal::Syntax { place: 0 })?;
@@ -91,8 +92,8 @@ impl Reader {
         found
     }
 
-    /// One value in advanced form, and whitespace.
-    fn advanced(&mut self, source: &[u8]) -> Option<()> {
+    /// One value in advanced form, and whitespace; perhaps with trees in braces.
+    fn advanced(&mut self, source: &[u8], braces: bool) -> Option<()> {
         let mut at = 0;
         loop {
             at = spaces(source, at);
@@ -103,9 +104,31 @@ impl Reader {
                 b'(' => self.open(at),
                 b')' => self.close(at)?,
                 b'[' => self.hinted(source, at)?,
+                b'{' if braces => self.inner(source, at)?,
                 _ => self.string(source, at)?,
             };
         }
+    }
+
+    /// A tree in braces; the place after them. It is read by itself, and its
+    /// records are moved to where its octets go.
+    fn inner(&mut self, source: &[u8], at: usize) -> Option<usize> {
+        let mut decoded = Vec::new();
+        let next = strings::base64(source, at + 1, b'}', &mut decoded)?;
+        let mut tree = Reader::new();
+        tree.canonical(&decoded)?;
+        let from = self.canonical.len() as u32;
+        self.deepest = self.deepest.max(self.open.len() + tree.deepest);
+        self.canonical.append(&mut tree.canonical);
+        for mut record in tree.records {
+            // A hint's places are 0 where there is none.
+            let moved = if record[0] == 1 { 4..8 } else { 6..8 };
+            for place in (1..3).chain(moved) {
+                record[place] += from;
+            }
+            self.records.push(record);
+        }
+        Some(next)
     }
 
     fn string(&mut self, source: &[u8], at: usize) -> Option<usize> {

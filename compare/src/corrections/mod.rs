@@ -12,7 +12,7 @@ use reference::corpus::damage::damaged;
 use reference::corpus::rng::Rng;
 use reference::corpus::spell;
 use reference::corpus::trees::{small, tree};
-use reference::limits::{ADVANCED, BASIC, CANONICAL, MAX_DEPTH, MAX_SOURCE, RECORD};
+use reference::limits::{ADVANCED, BASIC, CANONICAL, MAX_DEPTH, MAX_SOURCE, RECORD, TERMINAL};
 use reference::tree::{Layout, Tree, KIND_LIST};
 
 use call::{answers, expected, Asked, Call};
@@ -104,11 +104,15 @@ fn elements(layout: &Layout) -> Vec<Option<usize>> {
 fn text(rng: &mut Rng) -> (Tree, u32, Vec<u8>) {
     let element = small(rng);
     let octets = element.layout().octets;
-    match rng.below(3) {
+    match rng.below(4) {
         0 => (element, CANONICAL, octets),
         1 => {
             let text = spell::basic(rng, &octets);
             (element, BASIC, text)
+        }
+        2 => {
+            let text = spell::terminal(rng, &element);
+            (element, TERMINAL, text)
         }
         _ => {
             let text = spell::advanced(rng, &element);
@@ -159,7 +163,7 @@ fn drawn(rng: &mut Rng, sheet: &Tree) -> Call {
         call.text = damaged(rng, &call.text);
     }
     if rng.once_in(6) {
-        call.form = rng.pick(&[0, 4, u32::MAX]);
+        call.form = rng.pick(&[0, 5, u32::MAX]);
     }
     if rng.once_in(5) {
         let place = rng.below(call.table.len());

@@ -1,4 +1,6 @@
 // Advanced text into canonical octets in one pass, in lent scratch of which only the front is promised.
+mod braces; // braces.rt: a tree in braces
+
 ghost use mathlib.Core.Path.{_≡_};
 ghost use mathlib.Core.Bool.{true};
 ghost use Prim.Native.Nat.{_+_, _≤_, _<_};
@@ -15,6 +17,9 @@ ghost use Rattle.advanced.specs.Nodes.{Spare, HintCloses, HintSpells, No
 ghost use Rattle.advanced.specs.Converted.{Converts, Wrapped, Lent};
 use blocks::frame;
 use blocks::put_string;
+use braces::Inside;
+use braces::opens;
+use braces::tree_at;
 use decimal::Number;
 use decimal::decimal_at;
 use octets::class_of;
@@ -280,10 +285,12 @@ fn wrap(end: usize) -> usize
 }
 
 // The canonical octets of a text at the front of `out`, the sizes of the tree that it means, and its notes. No limit decides whether it
-// means one. Once more octets are written than a sheet has, octets and notes no longer matter.
+// means one. Once more octets are written than a sheet has, octets and notes no longer matter. With braces, which form 4 has, no notes
+// are kept.
 pub fn convert(
     classes: &[u8; 256],
     letters: &[u8; 256],
+    braces: bool,
     src: &[u8],
     out: &mut [u8],
     notes: &mut [usize],
@@ -291,7 +298,7 @@ pub fn convert(
     requires { ⌜ Classed (now classes) ⌝ }
     requires { ⌜ Lettered (now letters) ⌝ }
     requires { ⌜ Lent (length (now src)) (length (now out)) ⌝ }
-    ensures { λ r. ⌜ Converts (decode₃ rules (now (src .entry))) (now (out .exit)) (now (notes .entry)) (now (notes .exit)) r ⌝ }
+    ensures { λ r. ⌜ Converts braces (decode₃ rules braces (now (src .entry))) (now (out .exit)) (now (notes .entry)) (now (notes .exit)) r ⌝ }
 {
     let mut starts: [usize; limits::DEPTH] = [0; limits::DEPTH];
     let mut numbers: [usize; limits::DEPTH] = [0; limits::DEPTH];
@@ -339,6 +346,26 @@ pub fn convert(
             size += 1;
             at = i + 1;
             continue;
+        }
+        if opens(braces, b) {
+            match tree_at(classes, letters, src, i, out, o) {
+                Inside::Held {
+                    next,
+                    len,
+                    nodes,
+                    depth,
+                } => {
+                    deepest = walk::larger(deepest, opened + depth);
+                    seen += nodes;
+                    size += len;
+                    o = wrap(o + len);
+                    at = next;
+                    continue;
+                }
+                Inside::NoTree => {
+                    return Extent::Refused { place: 0 };
+                }
+            }
         }
         let mut mid: usize = 0;
         let mut end: usize = 0;

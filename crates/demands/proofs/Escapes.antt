@@ -8,7 +8,7 @@ use Rattle.model.specs.Decode.{decodeUnder, decode}
 use Rattle.model.specs.Grammar.{Language, rules}
 use Rattle.model.specs.Octets.{escape, escapes}
 use Rattle.model.specs.Tree.{Tree}
-use Rattle.model.proofs.Apart.{rules-apart}
+use Rattle.model.proofs.Apart.{rules-apart, listed-apart}
 use Rattle.model.proofs.Laws.{decoder-wider}
 use Rattle.model.proofs.Listed.{listed-wider}
 use Rattle.model.proofs.Wider.{language-wider}
@@ -29,4 +29,4 @@ in-force = refl
 -- "texts accepted before keep their octets": the decoder gives the tree that it gave with 01's list
 pub kept : (form : ℕ) (s : List ℕ) (t : Tree) → decodeUnder (escaping listed) form s ≡ some t → decode form s ≡ some t
 unfolding decode escape
-kept form s t e = decoder-wider (escaping listed) rules (listed-wider listed ((97, 7) ∷ (63, 63) ∷ [])) rules-apart form s t e
+kept form s t e = decoder-wider (escaping listed) rules (listed-wider listed ((97, 7) ∷ (63, 63) ∷ [])) listed-apart rules-apart form s t e

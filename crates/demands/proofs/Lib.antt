@@ -20,6 +20,7 @@ pub mod Undone
 pub mod Stray
 pub mod Escapes
 pub mod Larger
+pub mod Terminals
 pub mod Typed
 pub mod Valued
 pub mod Standing

@@ -29,14 +29,16 @@ placing-is (bare-text e) = rw e
 told-largest : {form : ℕ} {s : List ℕ} → Placing form s → Largest s (placeOf form s)
 told-largest {form} {s} p = subst (Largest s) (sym (placing-is p)) (place-largest s)
 
--- the forms of which none is told, whatever they hold: form 3, and form 2 where the text begins with `{`
+-- the forms of which none is told, whatever they hold: forms 3 and 4, and form 2 where the text begins with `{`
 pub data Placeless : ℕ → List ℕ → Type 0 where
   advanced-text : {s : List ℕ} → Placeless 3 s
+  terminal-text : {s : List ℕ} → Placeless 4 s
   braced-text : {s : List ℕ} → braced s ≡ true → Placeless 2 s
 
 placeless-is : {form : ℕ} {s : List ℕ} → Placeless form s → placeOf form s ≡ 0
 unfolding placeOf
 placeless-is advanced-text = refl
+placeless-is terminal-text = refl
 placeless-is (braced-text e) = rw e
 
 -- an answer to which the place of a text is told

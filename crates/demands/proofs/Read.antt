@@ -11,7 +11,7 @@ use lib.ListN.{length, take, drop}
 use lib.Seq.{take-append-seam, take-at, drop-at}
 use Rattle.model.specs.Answers.{Check, verdict, noForm, the, roomChecks, settled, Outcome, filled, unchanged, readingChecks, reading, placeOf, telling}
 use Rattle.model.specs.Decode.{decode}
-use Rattle.model.specs.Grammar.{Language, form-1, form-2, form-3, rules}
+use Rattle.model.specs.Grammar.{Language, form-1, form-2, form-3, form-4, rules}
 use Rattle.model.specs.Limits.{maxSource}
 use Rattle.model.specs.Table.{width, tableOf}
 use Rattle.model.specs.Tree.{Tree, canon, nodes}
@@ -32,12 +32,13 @@ settled-past lent new n e =
 
 -- ---- accepted exactly when
 
--- a text in a form's language is of form 1, 2 or 3
+-- a text in a form's language is of form 1 to 4
 language-form : {form : ℕ} {s : List ℕ} {t : Tree} → Language rules form s t → noForm form ≡ false
 unfolding noForm
 language-form (form-1 x) = refl
 language-form (form-2 x) = refl
 language-form (form-3 x) = refl
+language-form (form-4 x) = refl
 
 module _ (form : ℕ) (source canonical table : List ℕ) where
   abbrev checks : List Check

@@ -2,11 +2,12 @@
 use Prim.Native.Nat.{ℕ, _≤_}
 use native.Mathlib.Omega.{arith}
 use mathlib.Core.Path.{_≡_, ap, _∙_, subst}
-use mathlib.Core.Bool.{true}
+use mathlib.Core.Bool.{true, false}
 use mathlib.Core.Option.{some}
 use mathlib.Core.List.{List}
 use lib.ListN.{length, take}
-use Rattle.model.specs.Answers.{the, settled, fits, sheetTree, filled, reading, writing}
+use Rattle.base.proofs.Cases.{picked, not-false, among-true, among-in}
+use Rattle.model.specs.Answers.{noForm, noOutForm, the, settled, fits, sheetTree, filled, reading, writing}
 use Rattle.model.specs.Decode.{decode}
 use Rattle.model.specs.Table.{tableOf, records}
 use Rattle.model.specs.Tree.{Tree, nodes, Bytes}
@@ -16,6 +17,13 @@ use Rattle.model.proofs.Laws.{round-trip, written-within-source}
 use Rattle.lookup.proofs.Sheets.{Sheet, sheet-of, fitted}
 use Rattle.demands.proofs.Read.{reads}
 use Rattle.demands.proofs.Written.{Writable, accepted-writable, text-left}
+
+-- what is written is of a form that is read
+readable : (form : ℕ) → noOutForm form ≡ false → noForm form ≡ false
+unfolding noForm noOutForm
+readable form e =
+    let r : (1 ≤ form) × (form ≤ 3) = among-true 1 3 form (not-false e) in
+    picked _ _ (among-in 1 4 form (r .0) (omega arith))
 
 -- the same octets and their table, where an accepted writing's octets are read with room
 pub reads-back : (form : ℕ) (c : List ℕ) (n : ℕ) (out canonical table : List ℕ)
@@ -40,5 +48,5 @@ reads-back form c n out canonical table b e h k =
     let j : nodes t ≤ records table = subst (λ (u : Tree). nodes u ≤ records table) y k in
     let d : decode form (encode form t) ≡ some t = round-trip form t (w .known) (tree-bytes t (subst Bytes (s .is) b)) in
     ap (λ (x : List ℕ). reading form x canonical table) (text-left form c n out e)
-    ∙ reads form (encode form t) canonical table t (w .known) (written-within-source form t f) d (record { shallow = s .fitting .deep; recorded = j; small = s .fitting .long; roomy = omega (arith, s .size) })
+    ∙ reads form (encode form t) canonical table t (readable form (w .known)) (written-within-source form t f) d (record { shallow = s .fitting .deep; recorded = j; small = s .fitting .long; roomy = omega (arith, s .size) })
     ∙ rw (y, s .size, s .is)

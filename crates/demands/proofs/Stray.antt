@@ -10,7 +10,7 @@ use Rattle.model.specs.Decode.{decodeUnder, decode}
 use Rattle.model.specs.Grammar.{Whitespaces, Base64Chars, Language, rules}
 use Rattle.model.specs.Octets.{letter, escape}
 use Rattle.model.specs.Tree.{Tree}
-use Rattle.model.proofs.Apart.{ignoring-apart}
+use Rattle.model.proofs.Apart.{rules-apart, ignoring-apart}
 use Rattle.model.proofs.Laws.{one-tree, decoder-wider}
 use Rattle.model.proofs.Spellings.{spellings-differ, braces-differ}
 use Rattle.model.proofs.Wider.{language-wider}
@@ -41,7 +41,7 @@ stray-narrows escape = language-wider (stray-wider escape)
 -- so it is for what is accepted now: the decoder of 01's rule gave the same tree
 pub accepted-before : (form : ℕ) (s : List ℕ) (t : Tree) → decode form s ≡ some t → decodeUnder (ignoring escape) form s ≡ some t
 unfolding decode
-accepted-before form s t e = decoder-wider (minding escape) (ignoring escape) (stray-wider escape) ignoring-apart form s t e
+accepted-before form s t e = decoder-wider (minding escape) (ignoring escape) (stray-wider escape) rules-apart ignoring-apart form s t e
 
 -- and in 01's language a text had no other tree
 pub one-tree-before : (form : ℕ) (s : List ℕ) (t u : Tree) → Language (ignoring escape) form s t → Language (ignoring escape) form s u → t ≡ u

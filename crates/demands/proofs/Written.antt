@@ -11,7 +11,7 @@ use lib.Dec.{ltb}
 use borrow.Author.Tests.{ltb-false, le-ltb}
 use Rattle.base.specs.Choice.{isNone}
 use Rattle.base.proofs.Cases.{unpicked}
-use Rattle.model.specs.Answers.{Check, verdict, noForm, the, settled, sheetTree, Output, unwritten, written, writingChecks, writing, Comparison, uncompared, comparingChecks, comparing}
+use Rattle.model.specs.Answers.{Check, verdict, noOutForm, the, settled, sheetTree, Output, unwritten, written, writingChecks, writing, Comparison, uncompared, comparingChecks, comparing}
 use Rattle.model.specs.Compare.{same}
 use Rattle.model.specs.Tree.{Tree}
 use Rattle.model.specs.Write.{encode}
@@ -24,7 +24,7 @@ use Rattle.demands.proofs.Rows.{judged-by, judged-for, no-row, not-this
 
 -- 01, "writing 1, 7, 6": none applies
 pub record Writable (form : ℕ) (canonical : List ℕ) (len : ℕ) (out : List ℕ) : Type 0 where
-  pub known : noForm form ≡ false
+  pub known : noOutForm form ≡ false
   pub tree : Tree
   pub is : sheetTree canonical len ≡ some tree
   pub roomy : length (encode form tree) ≤ length out
@@ -60,7 +60,7 @@ module _ (form : ℕ) (canonical : List ℕ) (len : ℕ) (out : List ℕ) where
   unfolding writing writingChecks written the
   accepted-writable e =
       let v : verdict checks ≡ 0 = no-row (λ (o : Output). o .number) checks _ (λ (k : ℕ). unwritten k out) (λ k. refl) e in
-      let a : _ × _ = not-this 1 (noForm form) _ (omega arith) v in
+      let a : _ × _ = not-this 1 (noOutForm form) _ (omega arith) v in
       let b : _ × _ = not-this 7 (isNone (sheetTree canonical len)) _ (omega arith) (a .1) in
       let c : _ × _ = not-this 6 (ltb (length out) (length (written form canonical len))) _ (omega arith) (b .1) in
       there (sheetTree canonical len) (b .0)

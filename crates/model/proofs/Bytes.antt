@@ -2,9 +2,10 @@
 use Prim.Native.Nat.{ℕ, _<_}
 use native.Mathlib.Omega.{arith}
 use mathlib.Core.Path.{refl, _∙_, subst}
+use mathlib.Core.Bool.{Bool}
 use mathlib.Core.List.{List, [], _∷_, _++_, append-nil}
 use lib.ListN.{length}
-use Rattle.model.specs.Grammar.{Whitespaces, no-whitespace, Quotable, escaped-octet, escaped-octal, escaped-hex, escaped-cr, escaped-lf, escaped-cr-lf, escaped-lf-cr, Quotables, dquote, quotable, Run, run-more, run-end, run-stop, Display, Value, display-string, list-value, Values, closing-parenthesis, a-whitespace, CSexp, Canonical, b-c-sexp, b-base-64, sexp, Language, form-1, form-2, form-3, Rules}
+use Rattle.model.specs.Grammar.{Whitespaces, no-whitespace, Quotable, escaped-octet, escaped-octal, escaped-hex, escaped-cr, escaped-lf, escaped-cr-lf, escaped-lf-cr, Quotables, dquote, quotable, Run, run-more, run-end, run-stop, Display, Value, display-string, list-value, Values, closing-parenthesis, a-whitespace, CSexp, Canonical, b-c-sexp, b-base-64, sexp, Language, form-1, form-2, form-3, form-4, braced-value, Rules}
 use Rattle.model.specs.Octets.{letter}
 use Rattle.model.specs.Tree.{Tree, plain, hinted, list, Forest, nil, cons, digits, verbatim, canon, canons, Bytes, no-byte, a-byte, TreeBytes, plain-bytes, hinted-bytes, list-bytes, ForestBytes, nil-bytes, cons-bytes}
 use Rattle.model.proofs.Digits.{digits-small, digits-more, digits-ind}
@@ -136,25 +137,31 @@ module _ {ρ : Rules} where
   simple-bytes x (unmeasured m) = marked-bytes x m
   simple-bytes x (measured {s = s} {d = d} m) = marked-bytes (bytes-right (digits (length d)) s x) m
 
+c-sexp-bytes : {s : List ℕ} {t : Tree} → Bytes s → CSexp s t [] → TreeBytes t
+c-sexp-bytes {s} {t} x y = tree-bytes t (subst Bytes (c-sexp-strip y ∙ append-nil (canon t)) x)
+
+module _ {ρ : Rules} {β : Bool} where
   mutual
-    value-bytes : {s k : List ℕ} {t : Tree} → Value ρ s t k → Bytes s → TreeBytes t × Bytes k
+    unfolding letter
+
+    value-bytes : {s k : List ℕ} {t : Tree} → Value ρ β s t k → Bytes s → TreeBytes t × Bytes k
     value-bytes (Value.string y) x = let i : Bytes _ × Bytes _ = simple-bytes x (simple-strip y) in (plain-bytes (i .0), i .1)
     value-bytes (display-string (Display.display w₁ y w₂ w₃) z) x =
         let i : Bytes _ × Bytes _ = simple-bytes (whites-bytes (bytes-tail x) w₁) (simple-strip y) in
         let j : Bytes _ × Bytes _ = simple-bytes (whites-bytes (bytes-tail (whites-bytes (i .1) w₂)) w₃) (simple-strip z) in
         (hinted-bytes (i .0) (j .0), j .1)
+    value-bytes (braced-value {s₁ = s₁} {d = d} {k = k} e w b y) x =
+        let z : Split 125 s₁ k (λ l. Base64 ρ l d) = base-64-strip 125 refl (λ e. omega arith) b in
+        (c-sexp-bytes (base-bytes (z .means)) y, upto-bytes (whites-bytes (bytes-tail x) w) (z .upto))
     value-bytes (list-value v) x = let i : ForestBytes _ × Bytes _ = values-bytes v (bytes-tail x) in (list-bytes (i .0), i .1)
 
-    values-bytes : {s k : List ℕ} {f : Forest} → Values ρ s f k → Bytes s → ForestBytes f × Bytes k
+    values-bytes : {s k : List ℕ} {f : Forest} → Values ρ β s f k → Bytes s → ForestBytes f × Bytes k
     values-bytes closing-parenthesis x = (nil-bytes, bytes-tail x)
     values-bytes (a-whitespace t v) x = values-bytes v (bytes-tail x)
     values-bytes (Values.value v w) x =
         let i : TreeBytes _ × Bytes _ = value-bytes v x in
         let j : ForestBytes _ × Bytes _ = values-bytes w (i .1) in
         (cons-bytes (i .0) (j .0), j .1)
-
-c-sexp-bytes : {s : List ℕ} {t : Tree} → Bytes s → CSexp s t [] → TreeBytes t
-c-sexp-bytes {s} {t} x y = tree-bytes t (subst Bytes (c-sexp-strip y ∙ append-nil (canon t)) x)
 
 module _ {ρ : Rules} where
   pub language-tree : {form : ℕ} {s : List ℕ} {t : Tree} → Bytes s → Language ρ form s t → TreeBytes t
@@ -165,6 +172,7 @@ module _ {ρ : Rules} where
       let z : Split 125 s₁ [] (λ l. Base64 ρ l d) = base-64-strip 125 refl (λ e. omega arith) b in
       c-sexp-bytes (base-bytes (z .means)) y
   language-tree x (form-3 (sexp w v z)) = value-bytes v (whites-bytes x w) .0
+  language-tree x (form-4 (sexp w v z)) = value-bytes v (whites-bytes x w) .0
 
   pub language-bytes : {form : ℕ} {s : List ℕ} {t : Tree} → Bytes s → Language ρ form s t → Bytes (canon t)
   language-bytes x y = canon-bytes (language-tree x y)

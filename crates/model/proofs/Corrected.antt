@@ -10,7 +10,7 @@ use Rattle.model.specs.Corrections.{inserted, noPlace, insertingChecks, 
 use Rattle.model.specs.Decode.{onto, enclose, place, placeIn, nestings, onlyTree, onlyIn, nest, decode₁, decode}
 use Rattle.model.specs.Edit.{join, within, put, putIn, insert, remove}
 use Rattle.model.specs.Node.{nodeAt, nodeIn, elements, hasPlace}
-use Rattle.model.specs.Lexemes.{closeHint, lexeme, closeStrict, strictLexeme, before, lexemesBy, lexemes, strictLexemes}
+use Rattle.model.specs.Lexemes.{closeHint, lexeme, closeStrict, strictLexeme, before, lexemesBy, strictLexemes}
 use Rattle.model.specs.Strings.{bind, skip, number, decimal, first, run, past, sized, afterNumber, afterLength, verbatimOf}
 use Rattle.model.specs.Table.{numbers, rows, flat, tableOf}
 use Rattle.model.specs.Tree.{digitsUpTo, digits, verbatim, canon, nodes, depth}
@@ -71,5 +71,5 @@ cases =
     ∷ []
 
 corrections : map (λ c. c .0) cases ≡ map (λ c. c .1) cases
-unfolding cases member every equal chain isNone digitsUpTo digits verbatim canon nodes depth flat tableOf rows bind skip number decimal first run past sized afterNumber afterLength verbatimOf closeHint lexeme closeStrict strictLexeme before lexemesBy lexemes strictLexemes onto enclose place placeIn nestings onlyTree onlyIn nest decode₁ decode join within put putIn insert remove nodeAt nodeIn elements hasPlace verdict judged noForm the roomChecks textChecks settled fits fitting sheetTree owns ownTree braced placeOf telling filled inserted noPlace insertingChecks inserting removed removingChecks removing
+unfolding cases member every equal chain isNone digitsUpTo digits verbatim canon nodes depth flat tableOf rows bind skip number decimal first run past sized afterNumber afterLength verbatimOf closeHint lexeme closeStrict strictLexeme before lexemesBy strictLexemes onto enclose place placeIn nestings onlyTree onlyIn nest decode₁ decode join within put putIn insert remove nodeAt nodeIn elements hasPlace verdict judged noForm the roomChecks textChecks settled fits fitting sheetTree owns ownTree braced placeOf telling filled inserted noPlace insertingChecks inserting removed removingChecks removing
 corrections = refl

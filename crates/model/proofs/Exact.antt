@@ -2,161 +2,157 @@
 use Prim.Native.Nat.{ℕ, _*_, _≤_}
 use native.Mathlib.Omega.{arith}
 use mathlib.Core.Path.{_≡_, refl, sym, ap, _∙_, subst}
-use mathlib.Core.Bool.{true}
-use mathlib.Core.Option.{Option, some}
+use mathlib.Core.Bool.{Bool, true, false}
+use mathlib.Core.Option.{Option, none, some}
 use mathlib.Core.List.{List, [], _∷_, append-nil}
 use lib.ListN.{length, length-append}
 use lib.Dec.{eqb}
 use borrow.Author.Tests.{ne-eqb, eqb-true}
 use Rattle.base.specs.Choice.{member, chain}
 use Rattle.base.proofs.Cases.{pick-cases, unpicked, none-some, chain-cases}
-use Rattle.model.specs.Decode.{nest, decode₁, unbrace, decode₂, decode₃, decodeUnder}
+use Rattle.model.specs.Decode.{nest, decode₁, unbrace, decode₂, lexemes, decode₃, decodeUnder}
 use Rattle.model.specs.Amended.{Apart}
-use Rattle.model.specs.Grammar.{Whitespaces, no-whitespace, Base64Chars, Display, Value, display-string, list-value, Values, closing-parenthesis, a-whitespace, CSexp, Canonical, Basic, b-c-sexp, b-base-64, Advanced, sexp, Language, form-1, form-2, form-3, Rules}
-use Rattle.model.specs.Lexemes.{Lexeme, opening, closing, atom, hinting, strictLexeme, lexemesBy, lexemes, strictLexemes}
+use Rattle.model.specs.Grammar.{Whitespaces, no-whitespace, Base64Chars, Display, Value, display-string, list-value, Values, closing-parenthesis, a-whitespace, CSexp, Canonical, Basic, b-c-sexp, b-base-64, Advanced, sexp, Language, form-1, form-2, form-3, form-4, braced-value, Rules}
+use Rattle.model.specs.Lexemes.{Lexeme, opening, closing, atom, hinting, strictLexeme, lexemesBy, strictLexemes}
 use Rattle.model.specs.Octets.{isWhitespace, letter}
 use Rattle.model.specs.Strings.{Read, got, refused, bind, upto, lastly, unbase, verbatimOf}
 use Rattle.model.specs.Tree.{Tree, plain, hinted, list, Forest, nil, cons, verbatim, canon, canons}
-use Rattle.model.proofs.Lexemes.{l-open, l-close, l-atom, l-hint, Lexes, lexes-end, lexes-more, lexemes-sound, lexemes-complete}
+use Rattle.model.proofs.Braces.{Lexes, lexes-end, lexes-more, lexes-held, lexemes-sound, lexemes-complete}
+pub use Rattle.model.proofs.Canonical.{unnest-canon, canon-sound, canon-complete, c-sexp-canon, c-sexp-sound, c-sexp-complete, sound₁, complete₁, canon-two}
+use Rattle.model.proofs.Held.{Held}
+use Rattle.model.proofs.Lexemes.{Lexed, l-open, l-close, l-atom, l-hint}
 use Rattle.model.proofs.Marks.{upto-sound, upto-complete, base-sound, base-complete}
 use Rattle.model.proofs.Nesting.{unnest, unnests, nest-sound, nest-complete}
-use Rattle.model.proofs.Rules.{whites-upto, Split, base-64-strip, After, strip-base-64, simple-strip, strip-simple, c-sexp-strip, strip-c-sexp}
+use Rattle.model.proofs.Unnested.{unnest-inj, unclosed, unempty, leads}
+use Rattle.model.proofs.Rules.{whites-upto, Split, base-64-strip, After, strip-base-64, simple-strip, strip-simple}
 use Rattle.model.proofs.Sizes.{digits-length, verbatim-length, upto-size, base-size, whites-size, advanced-size}
 use Rattle.model.proofs.Strict.{octetsOfLexemes, unnest-octets, strict-all-sound, strict-all-complete}
 use Rattle.model.proofs.Stripped.{Base64}
 
--- ---- form 3
+-- ---- forms 3 and 4
 
-module _ {ρ : Rules} where
-  whites-lexes : {s k : List ℕ} {ls : List Lexeme} → Whitespaces s k → Lexes ρ k ls → Lexes ρ s ls
-  whites-lexes no-whitespace y = y
-  whites-lexes (Whitespaces.whitespace t w) y = white-lexes t (whites-lexes w y)
-    where
-      white-lexes : {b : ℕ} {s : List ℕ} {ls : List Lexeme} → isWhitespace b ≡ true → Lexes ρ s ls → Lexes ρ (b ∷ s) ls
-      white-lexes t (lexes-end w) = lexes-end (Whitespaces.whitespace t w)
-      white-lexes t (lexes-more w x y) = lexes-more (Whitespaces.whitespace t w) x y
+whites-lexes : {ρ : Rules} {β : Bool} {s k : List ℕ} {ls : List Lexeme} → Whitespaces s k → Lexes ρ β k ls → Lexes ρ β s ls
+whites-lexes no-whitespace y = y
+whites-lexes (Whitespaces.whitespace t w) y = white-lexes t (whites-lexes w y)
+  where
+    white-lexes : {ρ : Rules} {β : Bool} {b : ℕ} {s : List ℕ} {ls : List Lexeme} → isWhitespace b ≡ true → Lexes ρ β s ls → Lexes ρ β (b ∷ s) ls
+    white-lexes t (lexes-end w) = lexes-end (Whitespaces.whitespace t w)
+    white-lexes t (lexes-more w x y) = lexes-more (Whitespaces.whitespace t w) x y
+    white-lexes t (lexes-held e w h y z) = lexes-held e (Whitespaces.whitespace t w) h y z
 
+-- what stands in braces, by the rules and as the decoder takes it
+to-held : {ρ : Rules} {s s₁ d k : List ℕ} {t : Tree} → Whitespaces s s₁ → Base64Chars ρ 125 s₁ d k → CSexp d t [] → Held ρ s t k
+unfolding letter
+to-held {ρ} {s} {s₁} {d} {k} {t} w b x =
+    let y : Split 125 s₁ k (λ l. Base64 ρ l d) = base-64-strip 125 refl (λ e. omega arith) b in
+    record { letters = y .letters; upto = whites-upto w (y .upto); means = subst (Base64 ρ (y .letters)) (c-sexp-canon x) (y .means) }
+
+of-held : {ρ : Rules} {β : Bool} {s k : List ℕ} {t : Tree} → β ≡ true → Held ρ s t k → Value ρ β (123 ∷ s) t k
+of-held {ρ} {β} {s} {k} {t} e h =
+    let x : After s (λ r. Base64Chars ρ 125 r (canon t) k) = strip-base-64 (h .means) (h .upto) in
+    braced-value e (x .whites) (x .means) (c-sexp-sound (canon t) t (canon-complete t))
+
+module _ {ρ : Rules} {β : Bool} where
   mutual
     unfolding unnest
 
-    value-lexes : {s k : List ℕ} {t : Tree} {ls : List Lexeme} → Value ρ s t k → Lexes ρ k ls → Lexes ρ s (unnest t ls)
+    value-lexes : {s k : List ℕ} {t : Tree} {ls : List Lexeme} → Value ρ β s t k → Lexes ρ β k ls → Lexes ρ β s (unnest t ls)
     value-lexes (Value.string x) y = lexes-more no-whitespace (l-atom (simple-strip x)) y
     value-lexes (display-string (Display.display w₁ x w₂ w₃) z) y = lexes-more no-whitespace (l-hint w₁ (simple-strip x) w₂ w₃ (simple-strip z)) y
+    value-lexes (braced-value e w b x) y = lexes-held e no-whitespace (to-held w b x) y refl
     value-lexes (list-value v) y = lexes-more no-whitespace l-open (values-lexes v y)
 
-    values-lexes : {s k : List ℕ} {f : Forest} {ls : List Lexeme} → Values ρ s f k → Lexes ρ k ls → Lexes ρ s (unnests f (closing ∷ ls))
+    values-lexes : {s k : List ℕ} {f : Forest} {ls : List Lexeme} → Values ρ β s f k → Lexes ρ β k ls → Lexes ρ β s (unnests f (closing ∷ ls))
     values-lexes closing-parenthesis y = lexes-more no-whitespace l-close y
     values-lexes (a-whitespace t v) y = whites-lexes (Whitespaces.whitespace t no-whitespace) (values-lexes v y)
     values-lexes (Values.value v w) y = value-lexes v (values-lexes w y)
 
 -- what stands at the front of a text whose first lexemes are a tree's
-record Front (ρ : Rules) (s : List ℕ) (t : Tree) (ls : List Lexeme) : Type 0 where
+record Front (ρ : Rules) (β : Bool) (s : List ℕ) (t : Tree) (ls : List Lexeme) : Type 0 where
   begin : List ℕ
   rest : List ℕ
   whites : Whitespaces s begin
-  value : Value ρ begin t rest
-  others : Lexes ρ rest ls
+  value : Value ρ β begin t rest
+  others : Lexes ρ β rest ls
 
-record Inside (ρ : Rules) (s : List ℕ) (f : Forest) (ls : List Lexeme) : Type 0 where
+record Inside (ρ : Rules) (β : Bool) (s : List ℕ) (f : Forest) (ls : List Lexeme) : Type 0 where
   rest : List ℕ
-  values : Values ρ s f rest
-  others : Lexes ρ rest ls
+  values : Values ρ β s f rest
+  others : Lexes ρ β rest ls
 
-module _ {ρ : Rules} where
-  whites-values : {s r k : List ℕ} {f : Forest} → Whitespaces s r → Values ρ r f k → Values ρ s f k
+module _ {ρ : Rules} {β : Bool} where
+  whites-values : {s r k : List ℕ} {f : Forest} → Whitespaces s r → Values ρ β r f k → Values ρ β s f k
   whites-values no-whitespace v = v
   whites-values (Whitespaces.whitespace t w) v = a-whitespace t (whites-values w v)
 
-  plain-front : {s d : List ℕ} {ls : List Lexeme} → Lexes ρ s (atom d ∷ ls) → Front ρ s (plain d) ls
-  plain-front (lexes-more {r = r} {k = k} w (l-atom x) y) = record { begin = r; rest = k; whites = w; value = Value.string (strip-simple x); others = y }
+  -- the first lexeme, by itself or from braces
+  lexes-cases : {G : Type 0} {s : List ℕ} {ms : List Lexeme} (l : Lexeme) (ls : List Lexeme) → Lexes ρ β s ms → ms ≡ l ∷ ls
+      → ((r k : List ℕ) → Whitespaces s r → Lexed ρ r l k → Lexes ρ β k ls → G)
+      → ((t : Tree) (r k : List ℕ) (ns : List Lexeme) → β ≡ true → Whitespaces s (123 ∷ r) → Held ρ r t k → Lexes ρ β k ns → l ∷ ls ≡ unnest t ns → G)
+      → G
+  lexes-cases l ls (lexes-end w) e f g = none-some (ap leads e)
+  lexes-cases l ls (lexes-more {r = r} {k = k} {l = m} {ls = ms} w x y) e f g =
+      let a : m ≡ l = cc in
+      let b : ms ≡ ls = cc in
+      f r k w (subst (λ (z : Lexeme). Lexed ρ r z k) a x) (subst (Lexes ρ β k) b y)
+  lexes-cases l ls (lexes-held {r = r} {k = k} {t = t} {ls = ns} c w h y z) e f g = g t r k ns c w h y (sym e ∙ z)
 
-  hint-front : {s h d : List ℕ} {ls : List Lexeme} → Lexes ρ s (hinting h d ∷ ls) → Front ρ s (hinted h d) ls
-  hint-front (lexes-more {r = r} {k = k} w (l-hint w₁ x w₂ w₃ z) y) = record { begin = r; rest = k; whites = w; value = display-string (Display.display w₁ (strip-simple x) w₂ w₃) (strip-simple z); others = y }
+  -- a tree from braces
+  held-front : (t u : Tree) (s r k : List ℕ) (ls ns : List Lexeme) → β ≡ true → Whitespaces s (123 ∷ r) → Held ρ r u k → Lexes ρ β k ns → unnest t ls ≡ unnest u ns → Front ρ β s t ls
+  held-front t u s r k ls ns c w h y e =
+      let i : (t ≡ u) × (ls ≡ ns) = unnest-inj t u ls ns e in
+      record { begin = 123 ∷ r; rest = k; whites = w; value = of-held c (subst (λ (x : Tree). Held ρ r x k) (sym (i .0)) h); others = subst (Lexes ρ β k) (sym (i .1)) y }
 
-  none-inside : {s : List ℕ} {ls : List Lexeme} → Lexes ρ s (closing ∷ ls) → Inside ρ s nil ls
-  none-inside (lexes-more {k = k} w l-close y) = record { rest = k; values = whites-values w closing-parenthesis; others = y }
+  atom-front : {s r d k : List ℕ} {ls : List Lexeme} → Whitespaces s r → Lexed ρ r (atom d) k → Lexes ρ β k ls → Front ρ β s (plain d) ls
+  atom-front {r = r} {k = k} w (l-atom x) y = record { begin = r; rest = k; whites = w; value = Value.string (strip-simple x); others = y }
 
--- an opening parenthesis
-record Paren (ρ : Rules) (s : List ℕ) (ls : List Lexeme) : Type 0 where
-  rest : List ℕ
-  whites : Whitespaces s (40 ∷ rest)
-  others : Lexes ρ rest ls
+  hint-front : {s r h d k : List ℕ} {ls : List Lexeme} → Whitespaces s r → Lexed ρ r (hinting h d) k → Lexes ρ β k ls → Front ρ β s (hinted h d) ls
+  hint-front {r = r} {k = k} w (l-hint w₁ x w₂ w₃ z) y =
+      record { begin = r; rest = k; whites = w; value = display-string (Display.display w₁ (strip-simple x) w₂ w₃) (strip-simple z); others = y }
 
-module _ {ρ : Rules} where
-  paren : {s : List ℕ} {ls : List Lexeme} → Lexes ρ s (opening ∷ ls) → Paren ρ s ls
-  paren (lexes-more {k = k} w l-open y) = record { rest = k; whites = w; others = y }
+  none-inside : {s r k : List ℕ} {ls : List Lexeme} → Whitespaces s r → Lexed ρ r closing k → Lexes ρ β k ls → Inside ρ β s nil ls
+  none-inside {k = k} w l-close y = record { rest = k; values = whites-values w closing-parenthesis; others = y }
+
+  list-front : {s r k : List ℕ} {f : Forest} {ls : List Lexeme} → Whitespaces s r → Lexed ρ r opening k → Inside ρ β k f ls → Front ρ β s (list f) ls
+  list-front {k = k} w l-open i = record { begin = 40 ∷ k; rest = i .rest; whites = w; value = list-value (i .values); others = i .others }
 
   mutual
     unfolding unnest
 
-    lexes-value : (t : Tree) (s : List ℕ) (ls : List Lexeme) → Lexes ρ s (unnest t ls) → Front ρ s t ls
-    lexes-value (plain d) s ls x = plain-front x
-    lexes-value (hinted h d) s ls x = hint-front x
+    lexes-value : (t : Tree) (s : List ℕ) (ls : List Lexeme) → Lexes ρ β s (unnest t ls) → Front ρ β s t ls
+    lexes-value (plain d) s ls x = lexes-cases (atom d) ls x refl (λ r k w l y. atom-front w l y) (λ u r k ns c w h y e. held-front (plain d) u s r k ls ns c w h y e)
+    lexes-value (hinted g d) s ls x = lexes-cases (hinting g d) ls x refl (λ r k w l y. hint-front w l y) (λ u r k ns c w h y e. held-front (hinted g d) u s r k ls ns c w h y e)
     lexes-value (list f) s ls x =
-        let p : Paren ρ s (unnests f (closing ∷ ls)) = paren x in
-        let i : Inside ρ (p .rest) f ls = lexes-values f (p .rest) ls (p .others) in
-        record { begin = 40 ∷ p .rest; rest = i .rest; whites = p .whites; value = list-value (i .values); others = i .others }
+        lexes-cases opening (unnests f (closing ∷ ls)) x refl
+        (λ r k w l y. list-front w l (lexes-values f k ls y))
+        (λ u r k ns c w h y e. held-front (list f) u s r k ls ns c w h y e)
 
-    lexes-values : (f : Forest) (s : List ℕ) (ls : List Lexeme) → Lexes ρ s (unnests f (closing ∷ ls)) → Inside ρ s f ls
-    lexes-values nil s ls x = none-inside x
+    lexes-values : (f : Forest) (s : List ℕ) (ls : List Lexeme) → Lexes ρ β s (unnests f (closing ∷ ls)) → Inside ρ β s f ls
+    lexes-values nil s ls x = lexes-cases closing ls x refl (λ r k w l y. none-inside w l y) (λ u r k ns c w h y e. absurd (unclosed u ns ls e))
     lexes-values (cons t f) s ls x =
-        let p : Front ρ s t (unnests f (closing ∷ ls)) = lexes-value t s (unnests f (closing ∷ ls)) x in
-        let i : Inside ρ (p .rest) f ls = lexes-values f (p .rest) ls (p .others) in
+        let p : Front ρ β s t (unnests f (closing ∷ ls)) = lexes-value t s (unnests f (closing ∷ ls)) x in
+        let i : Inside ρ β (p .rest) f ls = lexes-values f (p .rest) ls (p .others) in
         record { rest = i .rest; values = whites-values (p .whites) (Values.value (p .value) (i .values)); others = i .others }
 
-  ends : {s : List ℕ} → Lexes ρ s [] → Whitespaces s []
-  ends (lexes-end w) = w
+  ends : {s : List ℕ} {ls : List Lexeme} → Lexes ρ β s ls → ls ≡ [] → Whitespaces s []
+  ends (lexes-end w) e = w
+  ends (lexes-more w x y) e = none-some (ap leads (sym e))
+  ends (lexes-held {t = t} {ls = ls} c w h y z) e = absurd (unempty t ls (sym z ∙ e))
 
-  pub sound₃ : (s : List ℕ) (t : Tree) → decode₃ ρ s ≡ some t → Advanced ρ s t
+module _ {ρ : Rules} {β : Bool} (apart : Apart ρ) where
+  pub sound₃ : (s : List ℕ) (t : Tree) → decode₃ ρ β s ≡ some t → Advanced ρ β s t
   unfolding decode₃
   sound₃ s t e =
-      chain-cases (lexemes ρ s) nest e
+      chain-cases (lexemes ρ β s) nest e
       (λ ls h₁ h₂.
-      let p : Front ρ s t [] = lexes-value t s [] (subst (Lexes ρ s) (nest-sound ls t h₂) (lexemes-sound s h₁)) in
-      sexp (p .whites) (p .value) (ends (p .others)))
+      let p : Front ρ β s t [] = lexes-value t s [] (subst (Lexes ρ β s) (nest-sound ls t h₂) (lexemes-sound apart s h₁)) in
+      sexp (p .whites) (p .value) (ends (p .others) refl))
 
-module _ {ρ : Rules} (apart : Apart ρ) where
-  pub complete₃ : {s : List ℕ} {t : Tree} → Advanced ρ s t → decode₃ ρ s ≡ some t
+  pub complete₃ : {s : List ℕ} {t : Tree} → Advanced ρ β s t → decode₃ ρ β s ≡ some t
   unfolding decode₃ chain
   complete₃ (sexp {t = t} w v x) = rw (lexemes-complete apart (whites-lexes w (value-lexes v (lexes-end x)))) (nest-complete t)
 
--- ---- form 1
-
-pub unnest-canon : (t : Tree) → octetsOfLexemes (unnest t []) ≡ canon t
-unfolding octetsOfLexemes
-unnest-canon t = unnest-octets t [] ∙ append-nil (canon t)
-
--- a text is read in form 1 exactly when it is a tree's canonical form
-pub canon-sound : (s : List ℕ) (t : Tree) → decode₁ s ≡ some t → s ≡ canon t
-unfolding decode₁
-canon-sound s t e = chain-cases (strictLexemes s) nest e (λ ls h₁ h₂. strict-all-sound s h₁ ∙ ap octetsOfLexemes (nest-sound ls t h₂) ∙ unnest-canon t)
-
-pub canon-complete : (t : Tree) → decode₁ (canon t) ≡ some t
-unfolding decode₁ chain
-canon-complete t = rw (← unnest-canon t, strict-all-complete (unnest t [])) (nest-complete t)
-
-c-sexp-canon : {s : List ℕ} {t : Tree} → CSexp s t [] → s ≡ canon t
-c-sexp-canon {s} {t} x = c-sexp-strip x ∙ append-nil (canon t)
-
-c-sexp-sound : (s : List ℕ) (t : Tree) → decode₁ s ≡ some t → CSexp s t []
-c-sexp-sound s t e = subst (λ (x : List ℕ). CSexp x t []) (append-nil (canon t) ∙ sym (canon-sound s t e)) (strip-c-sexp t [])
-
-c-sexp-complete : {s : List ℕ} {t : Tree} → CSexp s t [] → decode₁ s ≡ some t
-c-sexp-complete {s} {t} x = ap decode₁ (c-sexp-canon x) ∙ canon-complete t
-
-pub sound₁ : (s : List ℕ) (t : Tree) → decode₁ s ≡ some t → Canonical s t
-sound₁ s t e = Canonical.canonical (c-sexp-sound s t e)
-
-pub complete₁ : {s : List ℕ} {t : Tree} → Canonical s t → decode₁ s ≡ some t
-complete₁ (Canonical.canonical x) = c-sexp-complete x
-
 -- ---- form 2
-
-pub canon-two : (t : Tree) → 2 ≤ length (canon t)
-unfolding canon
-canon-two (plain d) = omega (arith, verbatim-length d, digits-length (length d))
-canon-two (hinted h d) = omega (arith, length-append (verbatim h) (93 ∷ verbatim d))
-canon-two (list f) = omega (arith, length-append (canons f) (41 ∷ []))
 
 lastly-cases : {G : Type 0} (o : Option (List ℕ)) (k : List ℕ) {d : List ℕ} → lastly o k ≡ some d → (k ≡ [] → o ≡ some d → G) → G
 unfolding lastly
@@ -212,7 +208,7 @@ module _ {ρ : Rules} where
 
 -- ---- each form
 
-module _ {ρ : Rules} where
+module _ {ρ : Rules} (apart : Apart ρ) where
   pub sound : (form : ℕ) (s : List ℕ) (t : Tree) → decodeUnder ρ form s ≡ some t → Language ρ form s t
   unfolding decodeUnder
   sound form s t e =
@@ -220,14 +216,16 @@ module _ {ρ : Rules} where
       (λ z h. let w : form ≡ 1 = eqb-true form 1 z in rw w (form-1 (sound₁ s t h)))
       (λ z h. pick-cases (eqb form 2) _ _ h
       (λ y i. let w : form ≡ 2 = eqb-true form 2 y in rw w (form-2 (sound₂ s t i)))
-      (λ y i. pick-cases (eqb form 3) _ _ i (λ x j. let w : form ≡ 3 = eqb-true form 3 x in rw w (form-3 (sound₃ s t j))) (λ x j. none-some j)))
+      (λ y i. pick-cases (eqb form 3) _ _ i
+      (λ x j. let w : form ≡ 3 = eqb-true form 3 x in rw w (form-3 (sound₃ apart s t j)))
+      (λ x j. pick-cases (eqb form 4) _ _ j (λ v k. let w : form ≡ 4 = eqb-true form 4 v in rw w (form-4 (sound₃ apart s t k))) (λ v k. none-some k))))
 
-module _ {ρ : Rules} (apart : Apart ρ) where
   pub complete : {form : ℕ} {s : List ℕ} {t : Tree} → Language ρ form s t → decodeUnder ρ form s ≡ some t
   unfolding decodeUnder
   complete (form-1 x) = complete₁ x
   complete (form-2 x) = complete₂ x
   complete (form-3 x) = complete₃ apart x
+  complete (form-4 x) = complete₃ apart x
 
   -- a text means one tree at most
   pub unique : {form : ℕ} {s : List ℕ} {t u : Tree} → Language ρ form s t → Language ρ form s u → t ≡ u
@@ -249,3 +247,4 @@ module _ {ρ : Rules} where
   language-tripled (form-1 (Canonical.canonical x)) = omega (arith, c-sexp-size x)
   language-tripled (form-2 x) = basic-tripled x
   language-tripled (form-3 x) = advanced-size x
+  language-tripled (form-4 x) = advanced-size x

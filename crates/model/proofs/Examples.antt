@@ -4,8 +4,8 @@ use mathlib.Core.Path.{_≡_, refl}
 use mathlib.Core.Option.{Option, none, some}
 use mathlib.Core.List.{List, [], _∷_, map}
 use Rattle.base.specs.Choice.{member, chain}
-use Rattle.model.specs.Decode.{onto, enclose, place, placeIn, nestings, onlyTree, onlyIn, nest, decode₁, unbrace, decode₂, decode₃, decode}
-use Rattle.model.specs.Lexemes.{closeHint, lexeme, closeStrict, strictLexeme, before, lexemesBy, lexemes, strictLexemes}
+use Rattle.model.specs.Decode.{onto, enclose, place, placeIn, nestings, onlyTree, onlyIn, nest, decode₁, unbrace, decode₂, canonicalOf, braces, lexemeIn, lexemes, decode₃, decode}
+use Rattle.model.specs.Lexemes.{closeHint, lexeme, closeStrict, strictLexeme, before, lexemesBy, strictLexemes}
 use Rattle.model.specs.Octets.{isWhitespace, isAlpha, isSimplePunc, isTokenStart, isTokenOctet, isPrintable, hexval, octval, letter, leftover, find, escape}
 use Rattle.model.specs.Strings.{bind, skip, number, decimal, first, run, past, hexOf, octalBy, octalOf, escaped, pieceOf, quotedBy, upto, also, unhex, twoOf, threeOf, lastly, fourOf, joined, unbase, decoded, marked, sized, afterNumber, simple, afterLength, verbatimOf}
 use Rattle.model.specs.Tree.{Tree, plain, hinted, list, nil, cons}
@@ -140,10 +140,34 @@ cases =
     ∷ (decode 1 (57 ∷ 57 ∷ 57 ∷ 57 ∷ 57 ∷ 57 ∷ 57 ∷ 57 ∷ 57 ∷ 57 ∷ 57 ∷ 57 ∷ 57 ∷ 57 ∷ 57 ∷ 57 ∷ 57 ∷ 57 ∷ 57 ∷ 57 ∷ 58 ∷ 97 ∷ []), none)
     -- form 0: ()
     ∷ (decode 0 (40 ∷ 41 ∷ []), none)
-    -- form 4: ()
-    ∷ (decode 4 (40 ∷ 41 ∷ []), none)
+    -- form 5: ()
+    ∷ (decode 5 (40 ∷ 41 ∷ []), none)
+    -- form 4: {MzphYmM=}
+    ∷ (decode 4 (123 ∷ 77 ∷ 122 ∷ 112 ∷ 104 ∷ 89 ∷ 109 ∷ 77 ∷ 61 ∷ 125 ∷ []), some (plain (97 ∷ 98 ∷ 99 ∷ [])))
+    -- form 3: {MzphYmM=}
+    ∷ (decode 3 (123 ∷ 77 ∷ 122 ∷ 112 ∷ 104 ∷ 89 ∷ 109 ∷ 77 ∷ 61 ∷ 125 ∷ []), none)
+    -- form 4:  (a{MTpi}c)
+    ∷ (decode 4 (32 ∷ 40 ∷ 97 ∷ 123 ∷ 77 ∷ 84 ∷ 112 ∷ 105 ∷ 125 ∷ 99 ∷ 41 ∷ 32 ∷ []), some (list (cons (plain (97 ∷ [])) (cons (plain (98 ∷ [])) (cons (plain (99 ∷ [])) nil)))))
+    -- form 4: ({ KDE 6YSk })
+    ∷ (decode 4 (40 ∷ 123 ∷ 32 ∷ 75 ∷ 68 ∷ 69 ∷ 32 ∷ 54 ∷ 89 ∷ 83 ∷ 107 ∷ 32 ∷ 125 ∷ 41 ∷ []), some (list (cons (list (cons (plain (97 ∷ [])) nil)) nil)))
+    -- form 4: [x]{MTpi}
+    ∷ (decode 4 (91 ∷ 120 ∷ 93 ∷ 123 ∷ 77 ∷ 84 ∷ 112 ∷ 105 ∷ 125 ∷ []), none)
+    -- form 4: [{MTpi}]x
+    ∷ (decode 4 (91 ∷ 123 ∷ 77 ∷ 84 ∷ 112 ∷ 105 ∷ 125 ∷ 93 ∷ 120 ∷ []), none)
+    -- form 4: 3{MTpi}
+    ∷ (decode 4 (51 ∷ 123 ∷ 77 ∷ 84 ∷ 112 ∷ 105 ∷ 125 ∷ []), none)
+    -- form 4: ({MTpiMTpi})
+    ∷ (decode 4 (40 ∷ 123 ∷ 77 ∷ 84 ∷ 112 ∷ 105 ∷ 77 ∷ 84 ∷ 112 ∷ 105 ∷ 125 ∷ 41 ∷ []), none)
+    -- form 4: {KA==}{KQ==}
+    ∷ (decode 4 (123 ∷ 75 ∷ 65 ∷ 61 ∷ 61 ∷ 125 ∷ 123 ∷ 75 ∷ 81 ∷ 61 ∷ 61 ∷ 125 ∷ []), none)
+    -- form 4: {e01UcGl9}
+    ∷ (decode 4 (123 ∷ 101 ∷ 48 ∷ 49 ∷ 85 ∷ 99 ∷ 71 ∷ 108 ∷ 57 ∷ 125 ∷ []), none)
+    -- form 4: {KDE6YTE6YjE6YykA}
+    ∷ (decode 4 (123 ∷ 75 ∷ 68 ∷ 69 ∷ 54 ∷ 89 ∷ 84 ∷ 69 ∷ 54 ∷ 89 ∷ 106 ∷ 69 ∷ 54 ∷ 89 ∷ 121 ∷ 107 ∷ 65 ∷ 125 ∷ []), none)
+    -- form 4: ({3Rt=} "1997" murphy 3:{XC++})
+    ∷ (decode 4 (40 ∷ 123 ∷ 51 ∷ 82 ∷ 116 ∷ 61 ∷ 125 ∷ 32 ∷ 34 ∷ 49 ∷ 57 ∷ 57 ∷ 55 ∷ 34 ∷ 32 ∷ 109 ∷ 117 ∷ 114 ∷ 112 ∷ 104 ∷ 121 ∷ 32 ∷ 51 ∷ 58 ∷ 123 ∷ 88 ∷ 67 ∷ 43 ∷ 43 ∷ 125 ∷ 41 ∷ []), none)
     ∷ []
 
 read : map (λ c. c .0) cases ≡ map (λ c. c .1) cases
-unfolding cases member chain isWhitespace isAlpha isSimplePunc isTokenStart isTokenOctet isPrintable hexval octval letter leftover find escape bind skip number decimal first run past hexOf octalBy octalOf escaped pieceOf quotedBy upto also unhex twoOf threeOf lastly fourOf joined unbase decoded marked sized afterNumber simple afterLength verbatimOf closeHint lexeme closeStrict strictLexeme before lexemesBy lexemes strictLexemes onto enclose place placeIn nestings onlyTree onlyIn nest decode₁ unbrace decode₂ decode₃ decode
+unfolding cases member chain isWhitespace isAlpha isSimplePunc isTokenStart isTokenOctet isPrintable hexval octval letter leftover find escape bind skip number decimal first run past hexOf octalBy octalOf escaped pieceOf quotedBy upto also unhex twoOf threeOf lastly fourOf joined unbase decoded marked sized afterNumber simple afterLength verbatimOf closeHint lexeme closeStrict strictLexeme before lexemesBy lexemes strictLexemes onto enclose place placeIn nestings onlyTree onlyIn nest decode₁ unbrace decode₂ canonicalOf braces lexemeIn decode₃ decode
 read = refl

@@ -12,7 +12,7 @@ use borrow.Author.Tests.{ne-eqb, leb-true}
 use Rattle.base.specs.Choice.{both}
 use Rattle.base.proofs.Cases.{by-eq, both-true, not-false, among-true}
 use Rattle.model.specs.Amended.{Wider, Apart}
-use Rattle.model.specs.Answers.{noForm, fits}
+use Rattle.model.specs.Answers.{noOutForm, fits}
 use Rattle.model.specs.Decode.{decodeUnder, decode}
 use Rattle.model.specs.Grammar.{Rules, CSexp, Language, rules}
 use Rattle.model.specs.Limits.{maxSource, maxDepth, maxCanonical, mostNodes}
@@ -40,9 +40,9 @@ canonical-prefix-free t u k e = prefix-free t u k e
 pub canonical-rule : (s : List ℕ) (t : Tree) (k : List ℕ) → CSexp s t k ↔ (s ≡ canon t ++ k)
 canonical-rule s t k = (λ x. c-sexp-strip x, λ e. subst (λ (x : List ℕ). CSexp x t k) (sym e) (strip-c-sexp t k))
 
--- 01, "The three forms that come in": under any rules the decoder reads each form's language and nothing else.
+-- 01, "The three forms that come in", and form 4 of 02: under any rules the decoder reads each form's language and nothing else.
 pub decoder-exact : (ρ : Rules) → Apart ρ → (form : ℕ) (s : List ℕ) (t : Tree) → (decodeUnder ρ form s ≡ some t) ↔ Language ρ form s t
-decoder-exact ρ a form s t = (sound form s t, λ x. complete a x)
+decoder-exact ρ a form s t = (sound a form s t, λ x. complete a x)
 
 -- under those in force
 pub decode-exact : (form : ℕ) (s : List ℕ) (t : Tree) → (decode form s ≡ some t) ↔ Language rules form s t
@@ -54,12 +54,12 @@ pub one-tree : (ρ : Rules) → Apart ρ → (form : ℕ) (s : List ℕ) (t u : 
 one-tree ρ a form s t u x y = unique a x y
 
 -- wider rules accept what the others do, with the same tree: the decoder of both
-pub decoder-wider : (ρ σ : Rules) → Wider ρ σ → Apart σ → (form : ℕ) (s : List ℕ) (t : Tree) → decodeUnder ρ form s ≡ some t → decodeUnder σ form s ≡ some t
-decoder-wider ρ σ w a form s t e = complete a (language-wider w (sound form s t e))
+pub decoder-wider : (ρ σ : Rules) → Wider ρ σ → Apart ρ → Apart σ → (form : ℕ) (s : List ℕ) (t : Tree) → decodeUnder ρ form s ≡ some t → decodeUnder σ form s ≡ some t
+decoder-wider ρ σ w a b form s t e = complete b (language-wider w (sound a form s t e))
 
 -- Demand 2: what goes out in any form is read back, for a tree of octets.
-pub round-trip : (form : ℕ) (t : Tree) → noForm form ≡ false → TreeBytes t → decode form (encode form t) ≡ some t
-unfolding decode encode noForm
+pub round-trip : (form : ℕ) (t : Tree) → noOutForm form ≡ false → TreeBytes t → decode form (encode form t) ≡ some t
+unfolding decode encode noOutForm
 round-trip form t f x =
     by-eq form 1
     (λ e. rw e (canon-complete t))

@@ -2,13 +2,15 @@
 use Prim.Native.Nat.{ℕ, zero, suc, _≤_, _<_}
 use native.Mathlib.Omega.{arith}
 use mathlib.Core.Path.{_≡_, refl, ap, _∙_}
+use mathlib.Core.Bool.{Bool}
 use mathlib.Core.Option.{Option, none, some}
 use mathlib.Core.List.{List, [], _∷_}
 use lib.ListN.{length, length-append}
-use Rattle.model.specs.Grammar.{rules}
-use Rattle.model.specs.Lexemes.{Lexeme, lexeme, stay, strictLexeme, before, lexemesBy, lexemes, strictLexemes}
+use Rattle.model.specs.Decode.{lexemeIn, lexemes}
+use Rattle.model.specs.Grammar.{Rules}
+use Rattle.model.specs.Lexemes.{Lexeme, stay, strictLexeme, before, lexemesBy, strictLexemes}
 use Rattle.model.specs.Strings.{Read, got, refused, skip}
-use Rattle.model.proofs.Lexemes.{lexeme-sound, lexed-short}
+use Rattle.model.proofs.Held.{lexeme-in-short}
 use Rattle.model.proofs.Marks.{skip-whites}
 use Rattle.model.proofs.ReadCases.{never, pickList, list-nil, list-cons, pickRead, read-got}
 use Rattle.model.proofs.Sizes.{whites-size}
@@ -60,25 +62,23 @@ module _
     at-other : (s : List ℕ) (b : ℕ) (r : List ℕ) → over s ≡ b ∷ r → lex (b ∷ r) ≡ refused → all s ≡ none
     at-other s b r e h = one-step s ∙ list-cons _ _ b r e ∙ rw h
 
--- ---- form 3
+-- ---- forms 3 and 4
 
 skip-short : (s : List ℕ) → length (skip s) ≤ length s
 skip-short s = whites-size (skip-whites s)
 
-lexeme-short : (s : List ℕ) (l : Lexeme) (k : List ℕ) → lexeme rules s ≡ got l k → length k < length s
-lexeme-short s l k e = lexed-short (lexeme-sound s e)
+module _ (ρ : Rules) (β : Bool) where
+  pub lexemes-end : (s : List ℕ) → skip s ≡ [] → lexemes ρ β s ≡ some []
+  unfolding lexemes
+  lexemes-end s e = at-end skip (lexemeIn ρ β) skip-short (lexeme-in-short ρ β) s e
 
-pub lexemes-end : (s : List ℕ) → skip s ≡ [] → lexemes rules s ≡ some []
-unfolding lexemes
-lexemes-end s e = at-end skip (lexeme rules) skip-short lexeme-short s e
+  pub lexemes-next : (s : List ℕ) (b : ℕ) (r k : List ℕ) (l : Lexeme) → skip s ≡ b ∷ r → lexemeIn ρ β (b ∷ r) ≡ got l k → lexemes ρ β s ≡ before l (lexemes ρ β k)
+  unfolding lexemes
+  lexemes-next s b r k l e h = at-lexeme skip (lexemeIn ρ β) skip-short (lexeme-in-short ρ β) s b r k l e h
 
-pub lexemes-next : (s : List ℕ) (b : ℕ) (r k : List ℕ) (l : Lexeme) → skip s ≡ b ∷ r → lexeme rules (b ∷ r) ≡ got l k → lexemes rules s ≡ before l (lexemes rules k)
-unfolding lexemes
-lexemes-next s b r k l e h = at-lexeme skip (lexeme rules) skip-short lexeme-short s b r k l e h
-
-pub lexemes-none : (s : List ℕ) (b : ℕ) (r : List ℕ) → skip s ≡ b ∷ r → lexeme rules (b ∷ r) ≡ refused → lexemes rules s ≡ none
-unfolding lexemes
-lexemes-none s b r e h = at-other skip (lexeme rules) skip-short lexeme-short s b r e h
+  pub lexemes-none : (s : List ℕ) (b : ℕ) (r : List ℕ) → skip s ≡ b ∷ r → lexemeIn ρ β (b ∷ r) ≡ refused → lexemes ρ β s ≡ none
+  unfolding lexemes
+  lexemes-none s b r e h = at-other skip (lexemeIn ρ β) skip-short (lexeme-in-short ρ β) s b r e h
 
 -- ---- form 1
 

@@ -11,7 +11,7 @@ use Rattle.base.specs.Choice.{member}
 use Rattle.base.proofs.Cases.{pick-cases, unpicked, some-same, none-some}
 use Rattle.model.specs.Amended.{Apart}
 use Rattle.model.specs.Grammar.{Whitespaces, Rules}
-use Rattle.model.specs.Lexemes.{Lexeme, opening, closing, atom, hinting, closeHint, lexeme, before, lexemesBy, lexemes}
+use Rattle.model.specs.Lexemes.{Lexeme, opening, closing, atom, hinting, closeHint, lexeme, before}
 use Rattle.model.specs.Octets.{isWhitespace, isAlpha, isSimplePunc, isTokenStart}
 use Rattle.model.specs.Strings.{got, refused, bind, skip, first, marked, simple}
 use Rattle.model.proofs.Marks.{skip-whites, whites-skip}
@@ -54,7 +54,7 @@ module _ {ρ : Rules} where
       (λ v j. bind-cases (simple ρ (b ∷ s)) _ j (λ d k' h₁ h₂. got-same (Lexed ρ (b ∷ s)) h₂ (l-atom (simple-sound (b ∷ s) h₁))))))
 
 -- no simple string begins with a parenthesis or a bracket
-refuses : (ρ : Rules) (c b : ℕ) (s : List ℕ) {d k : List ℕ} → ((r : List ℕ) → simple ρ (c ∷ r) ≡ refused) → simple ρ (b ∷ s) ≡ got d k → b ≡ c → ⊥
+pub refuses : (ρ : Rules) (c b : ℕ) (s : List ℕ) {d k : List ℕ} → ((r : List ℕ) → simple ρ (c ∷ r) ≡ refused) → simple ρ (b ∷ s) ≡ got d k → b ≡ c → ⊥
 refuses ρ c b s x e z = never (sym (x s) ∙ ap (λ (y : ℕ). simple ρ (y ∷ s)) (sym z) ∙ e)
 
 module _ {ρ : Rules} (apart : Apart ρ) where
@@ -82,7 +82,7 @@ module _ {ρ : Rules} (apart : Apart ρ) where
   lexeme-complete (l-hint {s₃ = s₃} w₁ x w₂ w₃ y) =
       rw (whites-skip w₁, simple-skip apart x, simple-complete apart x, whites-skip w₂, skip-bracket s₃, whites-skip w₃, simple-skip apart y, simple-complete apart y)
 
-  lexed-skip : {s k : List ℕ} {l : Lexeme} → Lexed ρ s l k → skip s ≡ s
+  pub lexed-skip : {s k : List ℕ} {l : Lexeme} → Lexed ρ s l k → skip s ≡ s
   unfolding skip isWhitespace member
   lexed-skip l-open = refl
   lexed-skip l-close = refl
@@ -96,48 +96,7 @@ module _ {ρ : Rules} where
   lexed-short (l-atom x) = simple-short x
   lexed-short (l-hint w₁ x w₂ w₃ y) = omega (arith, whites-size w₁, simple-short x, whites-size w₂, whites-size w₃, simple-short y)
 
--- ---- all of them
-
-pub data Lexes (ρ : Rules) : List ℕ → List Lexeme → Type 0 where
-  lexes-end : {s : List ℕ} → Whitespaces s [] → Lexes ρ s []
-  lexes-more : {s r k : List ℕ} {l : Lexeme} {ls : List Lexeme} → Whitespaces s r → Lexed ρ r l k → Lexes ρ k ls → Lexes ρ s (l ∷ ls)
-
 pub before-cases : {G : Type 0} (l : Lexeme) (o : Option (List Lexeme)) {ls : List Lexeme} → before l o ≡ some ls → ((x : List Lexeme) → o ≡ some x → some (l ∷ x) ≡ some ls → G) → G
 unfolding before
 before-cases l none e g = none-some e
 before-cases l (some x) e g = g x refl e
-
-module _ {ρ : Rules} where
-  by-lexemes : (f : ℕ) (s : List ℕ) {ls : List Lexeme} → lexemesBy skip (lexeme ρ) f s ≡ some ls → Lexes ρ s ls
-  unfolding lexemesBy
-  by-lexemes zero s e = none-some e
-  by-lexemes (suc f) s e =
-      list-cases (skip s) _ _ e
-      (λ z h. some-same (Lexes ρ s) h (lexes-end (subst (Whitespaces s) z (skip-whites s))))
-      (λ b t z h. read-cases (lexeme ρ (b ∷ t)) _ _ h
-      (λ l k i j. before-cases l (lexemesBy skip (lexeme ρ) f k) j
-      (λ x p q. some-same (Lexes ρ s) q (lexes-more (subst (Whitespaces s) z (skip-whites s)) (lexeme-sound (b ∷ t) i) (by-lexemes f k p))))
-      (λ i j. none-some j))
-
-module _ {ρ : Rules} (apart : Apart ρ) where
-  lexemes-step : (f : ℕ) (s r : List ℕ) {k : List ℕ} {l : Lexeme} {ls : List Lexeme} → skip s ≡ r → Lexed ρ r l k → lexemesBy skip (lexeme ρ) f k ≡ some ls → lexemesBy skip (lexeme ρ) (suc f) s ≡ some (l ∷ ls)
-  unfolding lexemesBy before
-  lexemes-step f s [] z x e = absurd (omega (arith, lexed-short x))
-  lexemes-step f s (b ∷ r) {k} {l} {ls} z x e = list-cons _ _ b r z ∙ read-got _ _ (lexeme-complete apart x) ∙ ap (before l) e
-
-  to-lexemes : (f : ℕ) {s : List ℕ} {ls : List Lexeme} → Lexes ρ s ls → length s < f → lexemesBy skip (lexeme ρ) f s ≡ some ls
-  unfolding lexemesBy skip
-  to-lexemes zero x h = absurd (omega arith)
-  to-lexemes (suc f) (lexes-end w) h = list-nil _ _ (whites-skip w)
-  to-lexemes (suc f) (lexes-more {s = s} {r = r} w x y) h =
-      lexemes-step f s r (whites-skip w ∙ lexed-skip apart x) x (to-lexemes f y (omega (arith, whites-size w, lexed-short x)))
-
-module _ {ρ : Rules} where
-  pub lexemes-sound : (s : List ℕ) {ls : List Lexeme} → lexemes ρ s ≡ some ls → Lexes ρ s ls
-  unfolding lexemes
-  lexemes-sound s e = by-lexemes (suc (length s)) s e
-
-module _ {ρ : Rules} (apart : Apart ρ) where
-  pub lexemes-complete : {s : List ℕ} {ls : List Lexeme} → Lexes ρ s ls → lexemes ρ s ≡ some ls
-  unfolding lexemes
-  lexemes-complete {s} x = to-lexemes apart (suc (length s)) x (omega arith)

@@ -12,8 +12,12 @@ pub mod Sizes
 pub mod Nesting
 pub mod Lexemes
 pub mod Strict
+pub mod Canonical
+pub mod Held
 pub mod LexemeLoop
+pub mod Braces
 pub mod Unique
+pub mod Unnested
 pub mod Exact
 pub mod Bytes
 pub mod Written

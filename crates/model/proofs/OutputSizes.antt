@@ -7,7 +7,7 @@ use lib.ListN.{length, length-append}
 use lib.Dec.{eqb}
 use Rattle.base.specs.Choice.{among, every}
 use Rattle.base.proofs.Cases.{by-bool}
-use Rattle.model.specs.Tree.{Tree, plain, hinted, list, Forest, nil, cons, verbatim, canon, canons, nodes, nodess}
+use Rattle.model.specs.Tree.{Tree, plain, hinted, list, Forest, nil, cons, verbatim, canon, canons, nodes, nodess, depth, depths}
 use Rattle.model.specs.Write.{isToken, quoteOne, quoteAll, hexAll, shown, advanced, elements, following, baseAll, basic}
 use Rattle.model.proofs.Sizes.{digits-length, verbatim-length}
 
@@ -82,3 +82,16 @@ mutual
   pub nodess-half : (f : Forest) → 2 * nodess f ≤ length (canons f)
   nodess-half nil = omega arith
   nodess-half (cons t f) = omega (arith, nodes-half t, nodess-half f, length-append (canon t) (canons f))
+
+-- ---- a tree is no deeper than it has nodes
+mutual
+  unfolding depth nodes
+
+  pub depth-within : (t : Tree) → depth t ≤ nodes t
+  depth-within (plain d) = omega arith
+  depth-within (hinted h d) = omega arith
+  depth-within (list f) = omega (arith, depths-within f)
+
+  depths-within : (f : Forest) → depths f ≤ nodess f
+  depths-within nil = omega arith
+  depths-within (cons t f) = omega (arith, depth-within t, depths-within f)

@@ -41,7 +41,7 @@ run-complete (run-stop t) = rw (t, run)
 
 -- ---- the strings between marks
 
-reading-cases : {G : Type 0} {d k' : List ℕ} (o : Option (List ℕ)) (k : List ℕ) → decoded o k ≡ got d k' → ((e : List ℕ) → o ≡ some e → got e k ≡ got d k' → G) → G
+pub reading-cases : {G : Type 0} {d k' : List ℕ} (o : Option (List ℕ)) (k : List ℕ) → decoded o k ≡ got d k' → ((e : List ℕ) → o ≡ some e → got e k ≡ got d k' → G) → G
 unfolding decoded
 reading-cases none k h g = never h
 reading-cases (some e) k h g = g e refl h

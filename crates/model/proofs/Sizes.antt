@@ -2,13 +2,15 @@
 use Prim.Native.Nat.{ℕ, _+_, _*_, _/_, _≤_, _<_, max}
 use native.Mathlib.Omega.{arith}
 use mathlib.Core.Path.{_≡_, refl, ap, _∙_}
-use mathlib.Core.List.{List, [], _∷_}
+use mathlib.Core.Bool.{Bool}
+use mathlib.Core.List.{List, [], _∷_, append-nil}
 use lib.ListN.{length, length-append}
-use Rattle.model.specs.Grammar.{Whitespaces, no-whitespace, Quotables, dquote, quotable, Run, run-more, run-end, run-stop, Display, Value, display-string, list-value, Values, closing-parenthesis, a-whitespace, Advanced, sexp, Rules}
+use Rattle.model.specs.Grammar.{Whitespaces, no-whitespace, Quotables, dquote, quotable, Run, run-more, run-end, run-stop, Display, Value, display-string, list-value, braced-value, Base64Chars, CSexp, Values, closing-parenthesis, a-whitespace, Advanced, sexp, Rules}
+use Rattle.model.specs.Octets.{letter}
 use Rattle.model.specs.Tree.{Tree, Forest, digits, verbatim, canon, canons}
 use Rattle.model.proofs.Digits.{digits-small, digits-more, digits-ind}
 use Rattle.model.proofs.Quoted.{piece-size}
-use Rattle.model.proofs.Rules.{simple-strip}
+use Rattle.model.proofs.Rules.{Split, base-64-strip, simple-strip, c-sexp-strip}
 use Rattle.model.proofs.Stripped.{Upto, upto-mark, upto-white, upto-other, Hex, no-hex, two-hex, Base64, no-letter, four, three, two, Marked, in-quotes, in-hashes, in-bars, Simple, simple-verbatim, simple-token, unmeasured, measured}
 
 pub digits-length : (n : ℕ) → (1 ≤ length (digits n)) × (length (digits n) ≤ max 1 n)
@@ -66,21 +68,29 @@ pub whites-size : {s k : List ℕ} → Whitespaces s k → length k ≤ length s
 whites-size no-whitespace = omega arith
 whites-size (Whitespaces.whitespace t w) = omega (arith, whites-size w)
 
+-- a tree in braces has fewer octets than the letters there
+braced-size : {ρ : Rules} {s d k : List ℕ} {t : Tree} → Base64Chars ρ 125 s d k → CSexp d t [] → length (canon t) + 1 + length k ≤ length s
+unfolding letter
+braced-size {ρ} {s} {d} {k} {t} b x =
+    let y : Split 125 s k (λ l. Base64 ρ l d) = base-64-strip 125 refl (λ e. omega arith) b in
+    omega (arith, upto-size (y .upto), base-size (y .means), ap length (c-sexp-strip x ∙ append-nil (canon t)))
+
 -- a source of n octets has a canonical form of at most 3 n
-module _ {ρ : Rules} where
+module _ {ρ : Rules} {β : Bool} where
   mutual
     unfolding canon
 
-    pub value-size : {s k : List ℕ} {t : Tree} → Value ρ s t k → length (canon t) + 3 * length k ≤ 3 * length s
+    pub value-size : {s k : List ℕ} {t : Tree} → Value ρ β s t k → length (canon t) + 3 * length k ≤ 3 * length s
     value-size (Value.string x) = simple-size (simple-strip x)
     value-size (display-string {h = h} {d = d} (Display.display w₁ x w₂ w₃) y) =
         omega (arith, whites-size w₁, simple-size (simple-strip x), whites-size w₂, whites-size w₃, simple-size (simple-strip y), length-append (verbatim h) (93 ∷ verbatim d))
+    value-size (braced-value {s₁ = s₁} {d = d} {k = k} {t = t} e w b x) = omega (arith, whites-size w, braced-size b x)
     value-size (list-value {f = f} v) = omega (arith, values-size v, length-append (canons f) (41 ∷ []))
 
-    pub values-size : {s k : List ℕ} {f : Forest} → Values ρ s f k → length (canons f) + 3 + 3 * length k ≤ 3 * length s
+    pub values-size : {s k : List ℕ} {f : Forest} → Values ρ β s f k → length (canons f) + 3 + 3 * length k ≤ 3 * length s
     values-size closing-parenthesis = omega arith
     values-size (a-whitespace t v) = omega (arith, values-size v)
     values-size (Values.value {t = t} {f = f} v w) = omega (arith, value-size v, values-size w, length-append (canon t) (canons f))
 
-  pub advanced-size : {s : List ℕ} {t : Tree} → Advanced ρ s t → length (canon t) ≤ 3 * length s
+  pub advanced-size : {s : List ℕ} {t : Tree} → Advanced ρ β s t → length (canon t) ≤ 3 * length s
   advanced-size (sexp w v x) = omega (arith, whites-size w, value-size v)

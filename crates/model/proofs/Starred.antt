@@ -5,12 +5,12 @@ use mathlib.Core.Bool.{true}
 use mathlib.Core.List.{List, [], _∷_, _++_, map}
 use lib.ListN.{length, drop, replicate}
 use Rattle.base.specs.Choice.{member, every, equal, chain, isNone}
-use Rattle.model.specs.Answers.{verdict, judged, noForm, the, roomChecks, textChecks, settled, fits, fitting, sheetTree, owns, ownTree, Outcome, unchangedAt, unchanged, braced, placeOf, telling, filled, readingChecks, reading, replaced, replacingChecks, replacing, Output, written, writingChecks, writing}
+use Rattle.model.specs.Answers.{verdict, judged, noForm, noOutForm, the, roomChecks, textChecks, settled, fits, fitting, sheetTree, owns, ownTree, Outcome, unchangedAt, unchanged, braced, placeOf, telling, filled, readingChecks, reading, replaced, replacingChecks, replacing, Output, written, writingChecks, writing}
 use Rattle.model.specs.Automaton.{ended, coming, stepAt, run as goes, place as begun}
 use Rattle.model.specs.Count.{shutBy}
-use Rattle.model.specs.Decode.{onto, enclose, place, placeIn, nestings, onlyTree, onlyIn, nest, decode₁, unbrace, decode₂, decode₃, decode}
+use Rattle.model.specs.Decode.{onto, enclose, place, placeIn, nestings, onlyTree, onlyIn, nest, decode₁, unbrace, decode₂, canonicalOf, braces, lexemeIn, lexemes, decode₃, decode}
 use Rattle.model.specs.Edit.{join, within, replace}
-use Rattle.model.specs.Lexemes.{closeHint, lexeme, closeStrict, strictLexeme, before, lexemesBy, lexemes, strictLexemes}
+use Rattle.model.specs.Lexemes.{closeHint, lexeme, closeStrict, strictLexeme, before, lexemesBy, strictLexemes}
 use Rattle.model.specs.Octets.{isWhitespace, isAlpha, isSimplePunc, isTokenStart, isTokenOctet, isPrintable, hexval, octval, letter, leftover, find, escape}
 use Rattle.model.specs.Strings.{bind, skip, number, decimal, first, run, past, hexOf, octalBy, octalOf, escaped, pieceOf, quotedBy, upto, also, unhex, twoOf, threeOf, lastly, fourOf, joined, unbase, decoded, marked, sized, afterNumber, simple, afterLength, verbatimOf}
 use Rattle.model.specs.Table.{numbers, rows, flat, tableOf}
@@ -74,6 +74,9 @@ cases =
     ∷ (outcome (reading 2 (40 ∷ 51 ∷ 58 ∷ 97 ∷ 98 ∷ []) sheet table), outcome (unchangedAt 3 5 sheet table))
     ∷ (outcome (reading 3 (51 ∷ 58 ∷ 97 ∷ 98 ∷ 99 ∷ 88 ∷ []) sheet table), outcome (unchangedAt 3 0 sheet table))
     ∷ (outcome (replacing 1 (48 ∷ 51 ∷ 58 ∷ []) (lent sheet (40 ∷ 41 ∷ [])) (lent table (2 ∷ 0 ∷ 2 ∷ 1 ∷ 0 ∷ 0 ∷ 1 ∷ 1 ∷ [])) 2 1 0), outcome (unchangedAt 3 1 (lent sheet (40 ∷ 41 ∷ [])) (lent table (2 ∷ 0 ∷ 2 ∷ 1 ∷ 0 ∷ 0 ∷ 1 ∷ 1 ∷ []))))
+    -- Ask 13: {MzphYmM=} in form 4, and in form 3
+    ∷ (outcome (reading 4 (123 ∷ 77 ∷ 122 ∷ 112 ∷ 104 ∷ 89 ∷ 109 ∷ 77 ∷ 61 ∷ 125 ∷ []) sheet table), outcome (accepted 5 1 (51 ∷ 58 ∷ 97 ∷ 98 ∷ 99 ∷ []) (0 ∷ 0 ∷ 5 ∷ 1 ∷ 0 ∷ 0 ∷ 2 ∷ 5 ∷ [])))
+    ∷ (outcome (reading 3 (123 ∷ 77 ∷ 122 ∷ 112 ∷ 104 ∷ 89 ∷ 109 ∷ 77 ∷ 61 ∷ 125 ∷ []) sheet table), outcome (unchanged 3 sheet table))
     -- 3"ab"
     ∷ (outcome (reading 3 (51 ∷ 34 ∷ 97 ∷ 98 ∷ 34 ∷ []) sheet table), outcome (unchanged 3 sheet table))
     -- #616#
@@ -95,5 +98,5 @@ wanted : List Answer
 wanted = map (λ c. c .1) cases
 
 starred : answers ≡ wanted
-unfolding answers wanted cases begun goes stepAt coming ended shutBy member every equal chain isNone digitsUpTo digits verbatim canon nodes depth flat tableOf rows isWhitespace isAlpha isSimplePunc isTokenStart isTokenOctet isPrintable hexval octval letter leftover find escape bind skip number decimal first run past hexOf octalBy octalOf escaped pieceOf quotedBy upto also unhex twoOf threeOf lastly fourOf joined unbase decoded marked sized afterNumber simple afterLength verbatimOf closeHint lexeme closeStrict strictLexeme before lexemesBy lexemes strictLexemes onto enclose place placeIn nestings onlyTree onlyIn nest decode₁ unbrace decode₂ decode₃ decode isToken quoteOne quoteAll hexDigit hexAll shown letterOf baseAll basic encode advanced join replace within verdict judged noForm the roomChecks textChecks settled fits fitting sheetTree owns ownTree braced placeOf telling filled readingChecks reading replaced replacingChecks replacing written writingChecks writing
+unfolding answers wanted cases begun goes stepAt coming ended shutBy member every equal chain isNone digitsUpTo digits verbatim canon nodes depth flat tableOf rows isWhitespace isAlpha isSimplePunc isTokenStart isTokenOctet isPrintable hexval octval letter leftover find escape bind skip number decimal first run past hexOf octalBy octalOf escaped pieceOf quotedBy upto also unhex twoOf threeOf lastly fourOf joined unbase decoded marked sized afterNumber simple afterLength verbatimOf closeHint lexeme closeStrict strictLexeme before lexemesBy lexemes strictLexemes onto enclose place placeIn nestings onlyTree onlyIn nest decode₁ unbrace decode₂ canonicalOf braces lexemeIn decode₃ decode isToken quoteOne quoteAll hexDigit hexAll shown letterOf baseAll basic encode advanced join replace within verdict judged noForm the roomChecks textChecks settled fits fitting sheetTree owns ownTree braced placeOf telling filled readingChecks reading replaced replacingChecks replacing written writingChecks noOutForm writing
 starred = refl

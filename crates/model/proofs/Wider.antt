@@ -1,9 +1,10 @@
 -- Wider rules accept at least the same texts, with the same trees.
 use Prim.Native.Nat.{ℕ, _<_}
-use mathlib.Core.Path.{_≡_, subst}
+use mathlib.Core.Path.{_≡_, refl, subst}
+use mathlib.Core.Bool.{Bool, true}
 use mathlib.Core.List.{List, [], _∷_}
 use Rattle.model.specs.Tree.{Tree, Forest}
-use Rattle.model.specs.Grammar.{Rules, Quotable, escaped-octet, escaped-octal, escaped-hex, escaped-cr, escaped-lf, escaped-cr-lf, escaped-lf-cr, Quotables, dquote, quotable, Base64Chars, closing-mark, base-64-chars, base-64-end-3, base-64-end-2, SimpleString, verbatim-string, quoted-string, token, hexadecimal, base-64, Display, Value, display-string, list-value, Values, closing-parenthesis, a-whitespace, Basic, b-c-sexp, b-base-64, Advanced, sexp, Language, form-1, form-2, form-3}
+use Rattle.model.specs.Grammar.{Rules, Quotable, escaped-octet, escaped-octal, escaped-hex, escaped-cr, escaped-lf, escaped-cr-lf, escaped-lf-cr, Quotables, dquote, quotable, Base64Chars, closing-mark, base-64-chars, base-64-end-3, base-64-end-2, SimpleString, verbatim-string, quoted-string, token, hexadecimal, base-64, Display, Value, display-string, list-value, Values, closing-parenthesis, a-whitespace, Basic, b-c-sexp, b-base-64, Advanced, sexp, Language, form-1, form-2, form-3, form-4, braced-value}
 use Rattle.model.specs.Amended.{Wider}
 
 module _ {ρ σ : Rules} (w : Wider ρ σ) where
@@ -40,19 +41,29 @@ module _ {ρ σ : Rules} (w : Wider ρ σ) where
   display-wider : {s h k : List ℕ} → Display ρ s h k → Display σ s h k
   display-wider (Display.display a x b c) = Display.display a (string-wider x) b c
 
-  mutual
-    value-wider : {s k : List ℕ} {t : Tree} → Value ρ s t k → Value σ s t k
-    value-wider (Value.string x) = Value.string (string-wider x)
-    value-wider (display-string h x) = display-string (display-wider h) (string-wider x)
-    value-wider (list-value v) = list-value (values-wider v)
+  module _ {β γ : Bool} (u : β ≡ true → γ ≡ true) where
+    mutual
+      value-wider : {s k : List ℕ} {t : Tree} → Value ρ β s t k → Value σ γ s t k
+      value-wider (Value.string x) = Value.string (string-wider x)
+      value-wider (display-string h x) = display-string (display-wider h) (string-wider x)
+      value-wider (braced-value e a h c) = braced-value (u e) a (letters-wider h) c
+      value-wider (list-value v) = list-value (values-wider v)
 
-    values-wider : {s k : List ℕ} {f : Forest} → Values ρ s f k → Values σ s f k
-    values-wider closing-parenthesis = closing-parenthesis
-    values-wider (a-whitespace t v) = a-whitespace t (values-wider v)
-    values-wider (Values.value x v) = Values.value (value-wider x) (values-wider v)
+      values-wider : {s k : List ℕ} {f : Forest} → Values ρ β s f k → Values σ γ s f k
+      values-wider closing-parenthesis = closing-parenthesis
+      values-wider (a-whitespace t v) = a-whitespace t (values-wider v)
+      values-wider (Values.value x v) = Values.value (value-wider x) (values-wider v)
+
+    pub advanced-wider : {s : List ℕ} {t : Tree} → Advanced ρ β s t → Advanced σ γ s t
+    advanced-wider (sexp a v b) = sexp a (value-wider v) b
 
   pub language-wider : {form : ℕ} {s : List ℕ} {t : Tree} → Language ρ form s t → Language σ form s t
   language-wider (form-1 c) = form-1 c
   language-wider (form-2 (b-c-sexp c)) = form-2 (b-c-sexp c)
   language-wider (form-2 (b-base-64 a h n c)) = form-2 (b-base-64 a (letters-wider h) n c)
-  language-wider (form-3 (sexp a v b)) = form-3 (sexp a (value-wider v) b)
+  language-wider (form-3 x) = form-3 (advanced-wider (λ e. e) x)
+  language-wider (form-4 x) = form-4 (advanced-wider (λ e. e) x)
+
+-- 02, Ask 13, "Form 4 accepts all that form 3 accepts, with the same tree"
+pub form-3-in-4 : {ρ : Rules} {s : List ℕ} {t : Tree} → Language ρ 3 s t → Language ρ 4 s t
+form-3-in-4 (form-3 x) = form-4 (advanced-wider (record { leftovers = λ n h. h; escapes = λ e h. refl }) (λ e. refl) x)

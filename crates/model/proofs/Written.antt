@@ -131,28 +131,28 @@ unfolding following
 following-ends nil k = paren-ends k
 following-ends (cons t f) k = space-ends _
 
-hinted-shown : (h d : List ℕ) {k : List ℕ} → Bytes h → Bytes d → Ends k → Value rules (91 ∷ (shown h ++ 93 ∷ (shown d ++ k))) (hinted h d) k
+hinted-shown : (h d : List ℕ) {k : List ℕ} → Bytes h → Bytes d → Ends k → Value rules false (91 ∷ (shown h ++ 93 ∷ (shown d ++ k))) (hinted h d) k
 hinted-shown h d x y z = display-string (Display.display no-whitespace (strip-simple (simple-shown h x (bracket-ends _))) no-whitespace no-whitespace) (strip-simple (simple-shown d y z))
 
 mutual
   unfolding advanced
 
-  value-shown : (t : Tree) (k : List ℕ) → TreeBytes t → Ends k → Value rules (advanced t ++ k) t k
+  value-shown : (t : Tree) (k : List ℕ) → TreeBytes t → Ends k → Value rules false (advanced t ++ k) t k
   value-shown (plain d) k (plain-bytes x) z = Value.string (strip-simple (simple-shown d x z))
   value-shown (hinted h d) k (hinted-bytes x y) z = rw (append-assoc (shown h)) (hinted-shown h d x y z)
   value-shown (list f) k (list-bytes x) z = rw (append-assoc (elements f)) (list-value (elements-shown f k x))
 
-  elements-shown : (f : Forest) (k : List ℕ) → ForestBytes f → Values rules (elements f ++ 41 ∷ k) f k
+  elements-shown : (f : Forest) (k : List ℕ) → ForestBytes f → Values rules false (elements f ++ 41 ∷ k) f k
   elements-shown nil k nil-bytes = closing-parenthesis
   elements-shown (cons t f) k (cons-bytes x y) = rw (append-assoc (advanced t)) (Values.value (value-shown t _ x (following-ends f k)) (following-shown f k y))
 
-  following-shown : (f : Forest) (k : List ℕ) → ForestBytes f → Values rules (following f ++ 41 ∷ k) f k
+  following-shown : (f : Forest) (k : List ℕ) → ForestBytes f → Values rules false (following f ++ 41 ∷ k) f k
   following-shown nil k nil-bytes = closing-parenthesis
   following-shown (cons t f) k (cons-bytes x y) =
       rw (append-assoc (advanced t)) (a-whitespace space-white (Values.value (value-shown t _ x (following-ends f k)) (following-shown f k y)))
 
-pub advanced-is : (t : Tree) → TreeBytes t → Advanced rules (advanced t) t
-advanced-is t x = sexp no-whitespace (subst (λ (s : List ℕ). Value rules s t []) (append-nil (advanced t)) (value-shown t [] x at-end)) no-whitespace
+pub advanced-is : (t : Tree) → TreeBytes t → Advanced rules false (advanced t) t
+advanced-is t x = sexp no-whitespace (subst (λ (s : List ℕ). Value rules false s t []) (append-nil (advanced t)) (value-shown t [] x at-end)) no-whitespace
 
-pub round-trip₃ : (t : Tree) → TreeBytes t → decode₃ rules (advanced t) ≡ some t
+pub round-trip₃ : (t : Tree) → TreeBytes t → decode₃ rules false (advanced t) ≡ some t
 round-trip₃ t x = complete₃ rules-apart (advanced-is t x)

@@ -35,9 +35,13 @@ verdict (c ∷ cs) = pick (c .applies) (c .row) (verdict cs)
 unfoldable pub judged : {A : Type 0} → List Check → A → (ℕ → A) → A
 judged cs accepted refused = elim (verdict cs) [ zero ↦ accepted | suc n ↦ refused (suc n) ]
 
--- row 1: form not 1, 2 or 3
+-- row 1 of what comes in; 02, Ask 13, "row 1 otherwise reads “not 1 to 4”"
 unfoldable pub noForm : ℕ → Bool
-noForm form = not (among 1 3 form)
+noForm form = not (among 1 4 form)
+
+-- row 1 of what goes out; 02, Ask 13, "We write no form 4: writing refuses it with 1"
+unfoldable pub noOutForm : ℕ → Bool
+noOutForm form = not (among 1 3 form)
 
 -- the tree, where there is one; without one an earlier row applies, and this one is never looked at
 unfoldable pub the : Option Tree → Tree
@@ -197,7 +201,7 @@ written form canonical len = encode form (the (sheetTree canonical len))
 -- 01, "writing 1, 7, 6"
 unfoldable pub writingChecks : ℕ → List ℕ → ℕ → List ℕ → List Check
 writingChecks form canonical len out =
-    when Form (noForm form)
+    when Form (noOutForm form)
     ∷ when NotOwn (isNone (sheetTree canonical len))
     ∷ when Size (ltb (length out) (length (written form canonical len)))
     ∷ []

@@ -1,14 +1,15 @@
--- The three forms decoded: lexemes below, their nesting above. No limit of depth, nodes or octets plays a part.
-use Prim.Native.Nat.{ℕ}
-use mathlib.Core.Bool.{true, false}
+-- The forms decoded: lexemes below, their nesting above. No limit of depth, nodes or octets plays a part.
+use Prim.Native.Nat.{ℕ, suc}
+use mathlib.Core.Bool.{Bool, true, false}
 use mathlib.Core.Option.{Option, none, some}
-use mathlib.Core.List.{List, [], _∷_}
+use mathlib.Core.List.{List, [], _∷_, _++_}
+use lib.ListN.{length}
 use lib.Dec.{eqb}
-use Rattle.base.specs.Choice.{pick, chain}
+use Rattle.base.specs.Choice.{pick, both, chain}
 use Rattle.model.specs.Grammar.{Rules, rules}
 use Rattle.model.specs.Tree.{Tree, plain, hinted, list, Forest, nil, cons}
-use Rattle.model.specs.Strings.{Read, got, refused, upto, unbase, lastly}
-use Rattle.model.specs.Lexemes.{Lexeme, opening, closing, atom, hinting, lexemes, strictLexemes}
+use Rattle.model.specs.Strings.{Read, got, refused, bind, skip, upto, unbase, decoded, lastly}
+use Rattle.model.specs.Lexemes.{Lexeme, opening, closing, atom, hinting, lexeme, lexemesBy, strictLexemes}
 
 -- ---- nesting, from the last lexeme to the first: the trees up to each closing parenthesis that has not met its opening one
 
@@ -48,7 +49,7 @@ onlyIn (f ∷ g ∷ fs) = none
 unfoldable pub nest : List Lexeme → Option Tree
 nest ls = chain (nestings ls) onlyIn
 
--- ---- the three forms
+-- ---- the forms
 
 unfoldable pub decode₁ : List ℕ → Option Tree
 decode₁ s = chain (strictLexemes s) nest
@@ -62,12 +63,29 @@ unfoldable pub decode₂ : Rules → List ℕ → Option Tree
 decode₂ ρ [] = none
 decode₂ ρ (b ∷ s) = elim (eqb b 123) [ true ↦ chain (unbrace ρ (upto 125 s)) decode₁ | false ↦ decode₁ (b ∷ s) ]
 
-unfoldable pub decode₃ : Rules → List ℕ → Option Tree
-decode₃ ρ s = chain (lexemes ρ s) nest
+-- ---- forms 3 and 4: whether braces may stand where a value may is β
+
+-- the octets in braces, after the opening one, where they are one canonical tree
+unfoldable pub canonicalOf : List ℕ → List ℕ → Read (List ℕ)
+canonicalOf d k = elim (decode₁ d) [ some t ↦ got d k | none ↦ refused ]
+
+unfoldable pub braces : Rules → List ℕ → Read (List ℕ)
+braces ρ s = bind (bind (upto 125 s) (λ l k. decoded (unbase ρ l) k)) canonicalOf
+
+-- 02, Ask 13, "`{MzphYmM=}` is then `3:abc`": the octets in braces take their place
+unfoldable pub lexemeIn : Rules → Bool → List ℕ → Read Lexeme
+lexemeIn ρ β [] = refused
+lexemeIn ρ β (b ∷ s) = pick (both β (eqb b 123)) (bind (braces ρ s) (λ d k. lexeme ρ (d ++ k))) (lexeme ρ (b ∷ s))
+
+unfoldable pub lexemes : Rules → Bool → List ℕ → Option (List Lexeme)
+lexemes ρ β s = lexemesBy skip (lexemeIn ρ β) (suc (length s)) s
+
+unfoldable pub decode₃ : Rules → Bool → List ℕ → Option Tree
+decode₃ ρ β s = chain (lexemes ρ β s) nest
 
 -- the tree that a text means in a form under these rules, if it is in that form's language
 unfoldable pub decodeUnder : Rules → ℕ → List ℕ → Option Tree
-decodeUnder ρ form s = pick (eqb form 1) (decode₁ s) (pick (eqb form 2) (decode₂ ρ s) (pick (eqb form 3) (decode₃ ρ s) none))
+decodeUnder ρ form s = pick (eqb form 1) (decode₁ s) (pick (eqb form 2) (decode₂ ρ s) (pick (eqb form 3) (decode₃ ρ false s) (pick (eqb form 4) (decode₃ ρ true s) none)))
 
 -- under those in force, which every promise means
 unfoldable pub decode : ℕ → List ℕ → Option Tree

@@ -1,4 +1,4 @@
--- The language of the three forms: RFC 9804's ABNF rule by rule, with 01's narrowing.
+-- The language of the forms: RFC 9804's ABNF rule by rule, with 01's narrowing, and form 4 of 1997.
 -- `R s x k` says: the octets s begin with what the rule R names, x is what that means, and k is the rest of s.
 -- A constructor is a rule, or one of its alternatives, and has the rule's name.
 use Prim.Native.Nat.{ℕ, suc, _+_, _*_, _-_, _/_, _%_, _≤_, _<_}
@@ -143,19 +143,6 @@ pub data Display (ρ : Rules) : List ℕ → List ℕ → List ℕ → Type 0 wh
   display : {s s₁ s₂ s₃ h k : List ℕ} → Whitespaces s s₁ → SimpleString ρ s₁ h s₂ → Whitespaces s₂ (93 ∷ s₃) → Whitespaces s₃ k → Display ρ (91 ∷ s) h k
 
 mutual
-  -- value = string / ("(" *(value / whitespace) ")"), where string = [display] simple-string
-  pub data Value (ρ : Rules) : List ℕ → Tree → List ℕ → Type 0 where
-    string : {s d k : List ℕ} → SimpleString ρ s d k → Value ρ s (plain d) k
-    display-string : {s s₁ h d k : List ℕ} → Display ρ s h s₁ → SimpleString ρ s₁ d k → Value ρ s (hinted h d) k
-    list-value : {s k : List ℕ} {f : Forest} → Values ρ s f k → Value ρ (40 ∷ s) (list f) k
-
-  -- *(value / whitespace) ")"
-  pub data Values (ρ : Rules) : List ℕ → Forest → List ℕ → Type 0 where
-    closing-parenthesis : {k : List ℕ} → Values ρ (41 ∷ k) nil k
-    a-whitespace : {b : ℕ} {s k : List ℕ} {f : Forest} → isWhitespace b ≡ true → Values ρ s f k → Values ρ (b ∷ s) f k
-    value : {s r k : List ℕ} {t : Tree} {f : Forest} → Value ρ s t r → Values ρ r f k → Values ρ s (cons t f) k
-
-mutual
   -- c-sexp = c-string / ("(" *c-sexp ")"), where c-string = [ "[" verbatim "]" ] verbatim
   pub data CSexp : List ℕ → Tree → List ℕ → Type 0 where
     c-string : {s d k : List ℕ} → Verbatim s d k → CSexp s (plain d) k
@@ -167,7 +154,23 @@ mutual
     c-closing-parenthesis : {k : List ℕ} → CSexps (41 ∷ k) nil k
     c-sexp : {s r k : List ℕ} {t : Tree} {f : Forest} → CSexp s t r → CSexps r f k → CSexps s (cons t f) k
 
--- ---- the three forms: nothing is left after them
+-- forms 3 and 4: whether braces may stand where a value may is β
+mutual
+  -- value = string / ("(" *(value / whitespace) ")"), where string = [display] simple-string
+  pub data Value (ρ : Rules) (β : Bool) : List ℕ → Tree → List ℕ → Type 0 where
+    string : {s d k : List ℕ} → SimpleString ρ s d k → Value ρ β s (plain d) k
+    display-string : {s s₁ h d k : List ℕ} → Display ρ s h s₁ → SimpleString ρ s₁ d k → Value ρ β s (hinted h d) k
+    -- 02, Ask 13, "`{`, base-64, `}` may stand too if it decodes to one canonical tree, and its tree is the value"
+    braced-value : {s s₁ d k : List ℕ} {t : Tree} → β ≡ true → Whitespaces s s₁ → Base64Chars ρ 125 s₁ d k → CSexp d t [] → Value ρ β (123 ∷ s) t k
+    list-value : {s k : List ℕ} {f : Forest} → Values ρ β s f k → Value ρ β (40 ∷ s) (list f) k
+
+  -- *(value / whitespace) ")"
+  pub data Values (ρ : Rules) (β : Bool) : List ℕ → Forest → List ℕ → Type 0 where
+    closing-parenthesis : {k : List ℕ} → Values ρ β (41 ∷ k) nil k
+    a-whitespace : {b : ℕ} {s k : List ℕ} {f : Forest} → isWhitespace b ≡ true → Values ρ β s f k → Values ρ β (b ∷ s) f k
+    value : {s r k : List ℕ} {t : Tree} {f : Forest} → Value ρ β s t r → Values ρ β r f k → Values ρ β s (cons t f) k
+
+-- ---- the forms: nothing is left after them
 
 -- 01, "Form 1, canonical: exactly one tree as above, nothing after it"
 pub data Canonical : List ℕ → Tree → Type 0 where
@@ -180,10 +183,12 @@ pub data Basic (ρ : Rules) : List ℕ → Tree → Type 0 where
   b-base-64 : {s s₁ d : List ℕ} {t : Tree} → Whitespaces s s₁ → Base64Chars ρ 125 s₁ d [] → 0 < length d → CSexp d t [] → Basic ρ (123 ∷ s) t
 
 -- sexp = *whitespace value *whitespace
-pub data Advanced (ρ : Rules) : List ℕ → Tree → Type 0 where
-  sexp : {s s₁ s₂ : List ℕ} {t : Tree} → Whitespaces s s₁ → Value ρ s₁ t s₂ → Whitespaces s₂ [] → Advanced ρ s t
+pub data Advanced (ρ : Rules) (β : Bool) : List ℕ → Tree → Type 0 where
+  sexp : {s s₁ s₂ : List ℕ} {t : Tree} → Whitespaces s s₁ → Value ρ β s₁ t s₂ → Whitespaces s₂ [] → Advanced ρ β s t
 
 pub data Language (ρ : Rules) : ℕ → List ℕ → Tree → Type 0 where
   form-1 : {s : List ℕ} {t : Tree} → Canonical s t → Language ρ 1 s t
   form-2 : {s : List ℕ} {t : Tree} → Basic ρ s t → Language ρ 2 s t
-  form-3 : {s : List ℕ} {t : Tree} → Advanced ρ s t → Language ρ 3 s t
+  form-3 : {s : List ℕ} {t : Tree} → Advanced ρ false s t → Language ρ 3 s t
+  -- 02, Ask 13, "Add form 4: form 3, except that …"
+  form-4 : {s : List ℕ} {t : Tree} → Advanced ρ true s t → Language ρ 4 s t

@@ -68,8 +68,5 @@ unfoldable pub lexemesBy : (List ℕ → List ℕ) → (List ℕ → Read Lexeme
 lexemesBy over lex zero s = none
 lexemesBy over lex (suc f) s = elim (over s) [ [] ↦ some [] | b ∷ r ↦ elim (lex (b ∷ r)) [ got l k ↦ before l (lexemesBy over lex f k) | refused ↦ none ] ]
 
-unfoldable pub lexemes : Rules → List ℕ → Option (List Lexeme)
-lexemes ρ s = lexemesBy skip (lexeme ρ) (suc (length s)) s
-
 unfoldable pub strictLexemes : List ℕ → Option (List Lexeme)
 strictLexemes s = lexemesBy stay strictLexeme (suc (length s)) s

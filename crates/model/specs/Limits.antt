@@ -21,7 +21,7 @@ mostNodes = 8192
 abbrev pub Accepted : ℕ
 Accepted = 0
 
--- form not 1, 2 or 3
+-- 02, Ask 13, "row 1 otherwise reads “not 1 to 4”"; in writing not 1 to 3
 abbrev pub Form : ℕ
 Form = 1
 

@@ -1,11 +1,12 @@
 -- How a text of each form is taken.
-use Prim.Native.Nat.{ℕ, _*_, _≤_}
+use Prim.Native.Nat.{ℕ, _*_, _≤_, _<_}
 use native.Mathlib.Omega.{arith}
 use mathlib.Core.Path.{_≡_, refl, sym, ap, _∙_, subst}
 use mathlib.Core.Bool.{Bool, true, false}
 use mathlib.Core.Option.{Option, some}
 use mathlib.Core.List.{List, [], _∷_}
 use lib.ListN.{length, getD}
+use lib.Dec.{eqb}
 use borrow.Author.Tests.{eq-eqb, ne-eqb}
 use Rattle.base.specs.Choice.{chain}
 use Rattle.base.proofs.Cases.{by-eq, unpicked, differ}
@@ -16,9 +17,7 @@ use Rattle.model.specs.Decode.{nestings, onlyTree, onlyIn, nest, decode₁, dec
 use Rattle.model.specs.Lexemes.{lexemesBy, strictLexemes}
 use Rattle.model.specs.Tree.{Tree, canon}
 use Rattle.walk.specs.declared.Extent.{Extent}
-use Rattle.advanced.specs.Converted.{Converts}
 use Rattle.texts.specs.Texts.{Takeable, Braced, Enclosed, Opens, Bare, Taken}
-use Rattle.texts.proofs.Taking.{converted}
 
 -- ---- form 2 with a brace, or another text
 
@@ -84,11 +83,14 @@ module _ (form : ℕ) (text : List ℕ) (room : ℕ) (g : Takeable form (length 
     as-form : (y : Option Tree) (p : ℕ) → decode form text ≡ y → placeOf form text ≡ p → Taken y p scratch notes notes′ r → Taken (decode form text) (placeOf form text) scratch notes notes′ r
     as-form y p e f t = rw (e, f) t
 
-    pub form-advanced : form ≡ 3 → Converts (decode₃ rules text) scratch notes notes′ r → Taken (decode form text) (placeOf form text) scratch notes notes′ r
+    pub form-advanced : 3 ≤ form → Taken (decode₃ rules (eqb form 4) text) 0 scratch notes notes′ r → Taken (decode form text) (placeOf form text) scratch notes notes′ r
     unfolding decode placeOf
-    form-advanced e t = as-form (decode₃ rules text) 0 (rw e) (rw e) (converted (decode₃ rules text) scratch notes notes′ r t)
+    form-advanced h t =
+        as-form (decode₃ rules (eqb form 4) text) 0
+        (by-eq form 4 (λ e. rw e) (λ e. let z : form ≡ 3 = omega (arith, g .high) in rw z))
+        (by-eq form 4 (λ e. rw e) (λ e. let z : form ≡ 3 = omega (arith, g .high) in rw z)) t
 
-  module _ (n : form ≡ 3 → ⊥) (b : Bool) (o : Opens form text b) where
+  module _ (n : form < 3) (b : Bool) (o : Opens form text b) where
     enclosed : b ≡ true → Enclosed form text
     unfolding Opens
     enclosed e = subst (Opens form text) e o
@@ -104,5 +106,5 @@ module _ (form : ℕ) (text : List ℕ) (room : ℕ) (g : Takeable form (length 
       unfolding Opens
       form-canonical e t =
           let q : Opens form text false = subst (Opens form text) e o in
-          let y : (decode form text ≡ decode₁ text) × (placeOf form text ≡ place text) = q (g .low) (omega (arith, g .high)) in
+          let y : (decode form text ≡ decode₁ text) × (placeOf form text ≡ place text) = q (g .low) (omega arith) in
           as-form scratch notes notes′ r (decode₁ text) (place text) (y .0) (y .1) t

@@ -20,21 +20,21 @@ use Rattle.texts.specs.Texts.{textVerdict}
 module _ (form len : ℕ) where
   pub row-low : form < 1 → 1 ≡ textVerdict form len
   unfolding textVerdict noForm
-  row-low h = sym (picked _ _ (unpicked _ _ (among-low 1 3 form h)))
+  row-low h = sym (picked _ _ (unpicked _ _ (among-low 1 4 form h)))
 
-  pub row-high : 3 < form → 1 ≡ textVerdict form len
+  pub row-high : 4 < form → 1 ≡ textVerdict form len
   unfolding textVerdict noForm
-  row-high h = sym (picked _ _ (unpicked _ _ (among-high 1 3 form h)))
+  row-high h = sym (picked _ _ (unpicked _ _ (among-high 1 4 form h)))
 
-  known : 1 ≤ form → form ≤ 3 → noForm form ≡ false
+  known : 1 ≤ form → form ≤ 4 → noForm form ≡ false
   unfolding noForm
-  known lo hi = picked _ _ (among-in 1 3 form lo hi)
+  known lo hi = picked _ _ (among-in 1 4 form lo hi)
 
-  pub row-long : 1 ≤ form → form ≤ 3 → maxSource < len → 2 ≡ textVerdict form len
+  pub row-long : 1 ≤ form → form ≤ 4 → maxSource < len → 2 ≡ textVerdict form len
   unfolding textVerdict
   row-long lo hi h = sym (unpicked _ _ (known lo hi) ∙ picked _ _ (lt-ltb maxSource len h))
 
-  pub row-none : 1 ≤ form → form ≤ 3 → len ≤ maxSource → 0 ≡ textVerdict form len
+  pub row-none : 1 ≤ form → form ≤ 4 → len ≤ maxSource → 0 ≡ textVerdict form len
   unfolding textVerdict
   row-none lo hi h = sym (unpicked _ _ (known lo hi) ∙ unpicked _ _ (le-ltb maxSource len h))
 
@@ -49,7 +49,7 @@ row-other form len n e =
 pub record Taken (form len : ℕ) : Type 0 where
   pub formed : noForm form ≡ false
   pub low : 1 ≤ form
-  pub high : form ≤ 3
+  pub high : form ≤ 4
   pub short : len ≤ maxSource
 
 pub taken : (form len n : ℕ) → n ≡ textVerdict form len → n ≤ 0 → Taken form len
@@ -59,7 +59,7 @@ taken form len n e h =
     (λ t. absurd (omega (arith, e ∙ picked _ _ t)))
     (λ f. by-bool (ltb maxSource len)
     (λ t. absurd (omega (arith, e ∙ unpicked _ _ f ∙ picked _ _ t)))
-    (λ g. let a = among-true 1 3 form (not-false f) in record { formed = f; low = a .0; high = a .1; short = ltb-false maxSource len g }))
+    (λ g. let a = among-true 1 4 form (not-false f) in record { formed = f; low = a .0; high = a .1; short = ltb-false maxSource len g }))
 
 module _ {A : Type 0} (form : ℕ) (text : List ℕ) (more : List Check) (accepted : A) (refused : ℕ → A) (n : ℕ) (e : n ≡ textVerdict form (length text)) where
   pub text-refused : 0 < n → judged (textChecks form text more) accepted refused ≡ refused n

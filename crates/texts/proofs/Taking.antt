@@ -2,9 +2,10 @@
 use Prim.Native.Nat.{ℕ, _+_, _*_, _-_, _≤_, _<_}
 use native.Mathlib.Omega.{arith}
 use mathlib.Core.Path.{_≡_, refl, sym, ap, _∙_, subst}
+use mathlib.Core.Bool.{Bool, true, false}
 use mathlib.Core.Option.{Option, none, some}
 use mathlib.Core.List.{List}
-use lib.ListN.{length, take, drop}
+use lib.ListN.{length, take, drop, length-take}
 use lib.Seq.{take-length, take-at}
 use Rattle.base.proofs.Cases.{none-some}
 use Rattle.base.proofs.Stores.{sets-all}
@@ -12,10 +13,10 @@ use Rattle.model.specs.Automaton.{place}
 use Rattle.model.specs.Decode.{decode₁}
 use Rattle.model.specs.Limits.{maxSource, maxCanonical}
 use Rattle.model.specs.Tree.{Tree, canon, nodes}
-use Rattle.model.proofs.Exact.{canon-sound}
-use Rattle.walk.specs.Extent.{Measures}
+use Rattle.model.proofs.Canonical.{canon-sound, canon-complete}
+use Rattle.walk.specs.Extent.{Wholly, Measures}
 use Rattle.walk.specs.declared.Extent.{Extent}
-use Rattle.walk.specs.declared.Extent.the-variants.{Refused}
+use Rattle.walk.specs.declared.Extent.the-variants.{Whole, Refused}
 use Rattle.scan.specs.Writes.{Wrote}
 use Rattle.blocks.specs.Fronts.{Front}
 use Rattle.blocks.proofs.Laws.{front-wrote}
@@ -23,6 +24,7 @@ use Rattle.advanced.specs.Converted.{Converts, Enough, thrice, largest, Lent}
 use Rattle.sheets.specs.Notes.{noted, Noted}
 use Rattle.sheets.proofs.Keeping.{noted-length}
 use Rattle.sheets.proofs.Held.{note-holds}
+use Rattle.sheets.proofs.Noting.{whole-refused}
 use Rattle.texts.specs.Texts.{Taken}
 
 -- scratch has room for the text as it stands, and more
@@ -46,6 +48,11 @@ module _ (o : Option Tree) (part scratch notes notes′ : List ℕ) (r : Extent)
         noted = λ t z h d k. note-holds part notes notes′ r v short (record { tree = t; is = sym e ∙ z; deep = d; fits = k });
       }
 
+-- where a place is told, nothing is meant
+measured-none : (o : Option Tree) (r : Extent) → Measures o r → (q : ℕ) → r ≡ Refused q → o ≡ none
+unfolding Measures
+measured-none o r m q e = subst (Measures o) e m
+
 -- nothing is meant
 pub taken-none : (o : Option Tree) (p : ℕ) (scratch notes notes′ : List ℕ) → o ≡ none → Taken o p scratch notes notes′ (Refused p)
 unfolding Measures
@@ -68,8 +75,8 @@ module _ (text scratch : List ℕ) (g : Lent (length text) (length scratch)) whe
       through (decode₁ text) text scratch′ notes notes′ r v (g .short) refl (place text) r (v .measures) (v .fails) (λ _. let z : length text ≡ p = omega (arith, f .place) in rw z (f .same))
 
 -- ---- advanced text
-pub converted : (o : Option Tree) (scratch notes notes′ : List ℕ) (r : Extent) → Converts o scratch notes notes′ r → Taken o 0 scratch notes notes′ r
-converted o scratch notes notes′ r c =
+pub converted : (β : Bool) (o : Option Tree) (scratch notes notes′ : List ℕ) (r : Extent) → Converts β o scratch notes notes′ r → β ≡ false → Taken o 0 scratch notes notes′ r
+converted β o scratch notes notes′ r c b =
     record {
       measures = c .measures;
       fails = c .fails;
@@ -77,8 +84,50 @@ converted o scratch notes notes′ r c =
       noted = λ t z h d k.
           record {
             counted = refl;
-            kept = ap (take (nodes t)) (c .kept (record { tree = t; is = z; short = h; deep = d; fits = k }) ∙ sets-all notes (noted t) (omega (arith, noted-length t)))
+            kept = ap (take (nodes t)) (c .kept b (record { tree = t; is = z; short = h; deep = d; fits = k }) ∙ sets-all notes (noted t) (omega (arith, noted-length t)))
                 ∙ take-at (noted t) (drop (length (noted t)) notes) (nodes t) (noted-length t);
             short = omega arith;
           };
     }
+
+-- ---- text with braces: sizes are told, and the canonical octets are noted afterwards
+module _ (β : Bool) (o : Option Tree) (scratch notes notes′ : List ℕ) (x : Extent) (c : Converts β o scratch notes notes′ x) where
+  pub terminal-none : (q : ℕ) → x ≡ Refused q → Taken o 0 scratch notes notes′ (Refused 0)
+  unfolding Measures
+  terminal-none q e = taken-none o 0 scratch notes notes′ (subst (Measures o) e (c .measures))
+
+  module _ (len n d : ℕ) (e : x ≡ Whole len n d) where
+    whole : Wholly o len n d
+    unfolding Measures
+    whole = subst (Measures o) e (c .measures)
+
+    pub terminal-long : maxCanonical < len → Taken o 0 scratch notes notes′ (Whole len n d)
+    unfolding Measures
+    terminal-long h =
+        record {
+          measures = whole;
+          fails = λ q f. whole-refused f;
+          octets = c .octets;
+          noted = λ t z k e f. let q : t ≡ whole .tree = cc (z, whole .is) in absurd (omega (arith, whole .long, ap (λ (x : Tree). length (canon x)) q));
+        }
+
+    module _ (h : len ≤ maxCanonical) where
+      front-is : take len scratch ≡ canon (whole .tree)
+      front-is = ap (λ (k : ℕ). take k scratch) (whole .long) ∙ c .octets (whole .tree) (whole .is) (omega (arith, whole .long))
+
+      pub terminal-part : len ≡ length (take len scratch)
+      terminal-part = whole .long ∙ sym (ap length front-is)
+
+      pub terminal-lent : len ≤ length scratch
+      terminal-lent = omega (arith, terminal-part, length-take len scratch)
+
+      pub terminal-short : length (take len scratch) ≤ maxSource
+      terminal-short = omega (arith, terminal-part)
+
+      pub terminal-noted : length notes′ ≡ length notes → (notes₂ : List ℕ) (r : Extent) → Noted (take len scratch) notes′ notes₂ r → Taken o 0 scratch notes notes₂ r
+      terminal-noted k notes₂ r v =
+          let e : o ≡ decode₁ (take len scratch) = whole .is ∙ sym (ap decode₁ front-is ∙ canon-complete (whole .tree)) in
+          let m : Measures o r = subst (λ (y : Option Tree). Measures y r) (sym e) (v .measures) in
+          let n : (q : ℕ) → r ≡ Refused q → q ≡ 0 = λ q f. none-some (sym (measured-none o r m q f) ∙ whole .is) in
+          let t : Taken o 0 scratch notes′ notes₂ r = through o (take len scratch) scratch notes′ notes₂ r v terminal-short e 0 r m n (λ _. ap (λ (k : ℕ). take k scratch) (sym terminal-part)) in
+          record { measures = t .measures; fails = t .fails; octets = t .octets; noted = λ u z x y w. t .noted u z x y (omega arith) }

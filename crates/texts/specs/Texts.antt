@@ -29,13 +29,13 @@ textVerdict form len = pick (noForm form) Form (pick (ltb maxSource len) SourceS
 -- a text that rows 1 and 2 don't apply to, and scratch for it
 pub record Takeable (form n room : ℕ) : Type 0 where
   pub low : 1 ≤ form
-  pub high : form ≤ 3
+  pub high : form ≤ 4
   pub lent : Lent n room
 
 -- a text of n octets, no more than a bound, to which rows 1 and 2 don't apply
 pub record Formed (form n bound : ℕ) : Type 0 where
   pub low : 1 ≤ form
-  pub high : form ≤ 3
+  pub high : form ≤ 4
   pub short : n ≤ bound
 
 -- a text that begins with a brace

@@ -5,7 +5,7 @@ ghost use lib.ListN.{length};
 ghost use Rattle.model.specs.Grammar.{rules};
 ghost use Rattle.model.specs.Answers.{placeOf};
 ghost use Rattle.model.specs.Automaton.{place};
-ghost use Rattle.model.specs.Decode.{decode₁, decode₂, decode};
+ghost use Rattle.model.specs.Decode.{decode₁, decode₂, decode₃, decode};
 ghost use Rattle.octets.specs.Classes.{Classed, Lettered};
 ghost use Rattle.advanced.specs.Converted.{Lent};
 ghost use Rattle.texts.specs.Texts.{textVerdict, Takeable, Braced, Opens, Bare, Taken};
@@ -18,7 +18,7 @@ pub fn row(form: u32, len: usize) -> u32
     if form < 1 {
         return 1;
     }
-    if form > 3 {
+    if form > 4 {
         return 1;
     }
     if len > limits::SOURCE {
@@ -105,6 +105,43 @@ fn take_braced(
     }
 }
 
+// Text of form 3, or with braces of form 4: what is in braces has octets of its own, so that the notes are then those of the canonical
+// octets that the text becomes.
+fn take_advanced(
+    classes: &[u8; 256],
+    letters: &[u8; 256],
+    braces: bool,
+    text: &[u8],
+    scratch: &mut [u8],
+    notes: &mut [usize],
+) -> Extent
+    requires { ⌜ Classed (now classes) ⌝ }
+    requires { ⌜ Lettered (now letters) ⌝ }
+    requires { ⌜ Lent (length (now text)) (length (now scratch)) ⌝ }
+    ensures { λ r. ⌜ Taken (decode₃ rules braces (now (text .entry))) 0 (now (scratch .exit)) (now (notes .entry)) (now (notes .exit)) r ⌝ }
+{
+    let found = advanced::convert(classes, letters, braces, text, scratch, notes);
+    if braces {
+        match found {
+            Extent::Whole { len, nodes, depth } => {
+                if len > limits::CANONICAL {
+                    return Extent::Whole {
+                        len: len,
+                        nodes: nodes,
+                        depth: depth,
+                    };
+                }
+                let part = &scratch[..len];
+                return sheets::note(part, notes);
+            }
+            Extent::Refused { place: _ } => {
+                return Extent::Refused { place: 0 };
+            }
+        }
+    }
+    found
+}
+
 // The canonical octets of a text at the front of scratch, the sizes of the tree that it means, and the tree's notes as far as they
 // have room. No limit of depth, nodes or octets decides whether the text is one.
 pub fn take(
@@ -120,8 +157,8 @@ pub fn take(
     requires { ⌜ Takeable form (length (now text)) (length (now scratch)) ⌝ }
     ensures { λ r. ⌜ Taken (decode form (now (text .entry))) (placeOf form (now (text .entry))) (now (scratch .exit)) (now (notes .entry)) (now (notes .exit)) r ⌝ }
 {
-    if form == 3 {
-        return advanced::convert(classes, letters, text, scratch, notes);
+    if form >= 3 {
+        return take_advanced(classes, letters, form == 4, text, scratch, notes);
     }
     if braced(form, text) {
         return take_braced(classes, letters, text, scratch, notes);

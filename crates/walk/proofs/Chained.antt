@@ -12,7 +12,8 @@ use Rattle.model.specs.Decode.{nest}
 use Rattle.model.specs.Lexemes.{Lexeme, opening, closing, atom, hinting, before}
 use Rattle.model.specs.Tree.{Tree, nodes, depth}
 use Rattle.model.specs.Count.{Count, begin, shut, step, walk, counts}
-use Rattle.walk.proofs.Walked.{walk-nest}
+use Rattle.model.proofs.Braces.{unnesting}
+use Rattle.walk.proofs.Walked.{walk-nest, after, tree-walk}
 
 abbrev pub walking : Option (List Lexeme) → Count → Option Count
 walking o c = chain o (λ ls. walk ls c)
@@ -41,6 +42,12 @@ module _ (l : Lexeme) (o : Option (List Lexeme)) (c : Count) where
       by : (o : Option (List Lexeme)) → walking (before l o) c ≡ none
       by none = refl
       by (some ls) = unpicked _ _ e ∙ rw f
+
+-- all the lexemes of a tree
+pub walking-tree : (t : Tree) (o : Option (List Lexeme)) (c : Count) → shut c ≡ false → c .opened ≤ c .deepest → walking (unnesting t o) c ≡ walking o (after c (depth t) (nodes t))
+unfolding chain unnesting
+walking-tree t none c s h = refl
+walking-tree t (some ls) c s h = tree-walk t ls c s h
 
 pub walking-end : (c : Count) → walking (some []) c ≡ pick (shut c) (some c) none
 unfolding chain walk

@@ -121,7 +121,7 @@ unfolding walk chain
 walk-stop l ls c s e = unpicked _ _ s ∙ rw e
 
 -- the state past something of depth d and n nodes
-abbrev after : Count → ℕ → ℕ → Count
+abbrev pub after : Count → ℕ → ℕ → Count
 after c d n = record { opened = c .opened; deepest = max (c .deepest) (c .opened + d); seen = c .seen + n }
 
 same-count : {o o' d d' n n' : ℕ} → o ≡ o' → d ≡ d' → n ≡ n' → _≡_ {A = Count} (record { opened = o; deepest = d; seen = n }) (record { opened = o'; deepest = d'; seen = n' })
@@ -149,7 +149,7 @@ open-walk ls c s = walk-step opening ls c _ s refl
 mutual
   unfolding unnest nodes depth
 
-  tree-walk : (t : Tree) (ls : List Lexeme) (c : Count) → shut c ≡ false → c .opened ≤ c .deepest → walk (unnest t ls) c ≡ walk ls (after c (depth t) (nodes t))
+  pub tree-walk : (t : Tree) (ls : List Lexeme) (c : Count) → shut c ≡ false → c .opened ≤ c .deepest → walk (unnest t ls) c ≡ walk ls (after c (depth t) (nodes t))
   tree-walk (plain d) ls c s h = atom-walk d ls c s h
   tree-walk (hinted x d) ls c s h = hint-walk x d ls c s h
   tree-walk (list f) ls c s h =

@@ -8,7 +8,7 @@ use lib.ListN.{length}
 use lib.Dec.{ltb}
 use Rattle.base.specs.Choice.{pick, not, isNone}
 use Rattle.base.proofs.Cases.{picked, unpicked, among-in, among-low, among-high}
-use Rattle.model.specs.Answers.{verdict, judged, noForm, sheetTree, settled, unwritten, written, writingChecks, writing}
+use Rattle.model.specs.Answers.{verdict, judged, noOutForm, sheetTree, settled, unwritten, written, writingChecks, writing}
 use Rattle.model.proofs.Judging.{judged-refused, verdict-here, verdict-past}
 use Rattle.lookup.proofs.Sheets.{tree-of, none-of}
 use Rattle.answers.specs.Cases.{RefusesWriting, output}
@@ -24,29 +24,29 @@ by-size true x out = refl
 by-size false x out = refl
 
 module _ (form : ℕ) (c : List ℕ) (n : ℕ) (out : List ℕ) where
-  form-refused : noForm form ≡ true → writing form c n out ≡ unwritten 1 out
+  form-refused : noOutForm form ≡ true → writing form c n out ≡ unwritten 1 out
   unfolding writing writingChecks output
-  form-refused e = judged-refused _ _ _ 1 (verdict-here 1 (noForm form) _ e) (omega arith)
+  form-refused e = judged-refused _ _ _ 1 (verdict-here 1 (noOutForm form) _ e) (omega arith)
 
   pub write-low : form < 1 → (a : Writing) → RefusesWriting 1 a → output a out ≡ writing form c n out
-  unfolding noForm
+  unfolding noOutForm
   write-low h a f = f .is out ∙ sym (form-refused (unpicked _ _ (among-low 1 3 form h)))
 
   module _ (lo : 1 ≤ form) where
     pub write-high : 3 < form → (a : Writing) → RefusesWriting 1 a → output a out ≡ writing form c n out
-    unfolding noForm
+    unfolding noOutForm
     write-high h a f = f .is out ∙ sym (form-refused (unpicked _ _ (among-high 1 3 form h)))
 
     module _ (hi : form ≤ 3) (s : Bool) (e : s ≡ not (isNone (sheetTree c n))) where
-      known : noForm form ≡ false
-      unfolding noForm
+      known : noOutForm form ≡ false
+      unfolding noOutForm
       known = picked _ _ (among-in 1 3 form lo hi)
 
       pub write-none : s ≡ false → (a : Writing) → RefusesWriting 7 a → output a out ≡ writing form c n out
       unfolding writing writingChecks output isNone
       write-none y a f =
           f .is out
-          ∙ sym (judged-refused _ _ _ 7 (verdict-past 1 (noForm form) _ known ∙ verdict-here 7 (isNone (sheetTree c n)) _ (ap isNone (none-of (sheetTree c n) (sym y ∙ e)))) (omega arith))
+          ∙ sym (judged-refused _ _ _ 7 (verdict-past 1 (noOutForm form) _ known ∙ verdict-here 7 (isNone (sheetTree c n)) _ (ap isNone (none-of (sheetTree c n) (sym y ∙ e)))) (omega arith))
 
       module _ (y : s ≡ true) where
         writes : writing form c n out ≡ sized (written form c n) out

@@ -9,7 +9,7 @@ use lib.ListN.{length, drop, getD, drop-of-length-le}
 use Rattle.base.proofs.Cases.{some-same, none-some, chain-cases}
 use Rattle.model.specs.Answers.{the}
 use Rattle.model.specs.Decode.{nest, decode₁}
-use Rattle.model.specs.Lexemes.{Lexeme, strictLexeme, lexemes, strictLexemes}
+use Rattle.model.specs.Lexemes.{Lexeme, strictLexeme, strictLexemes}
 use Rattle.model.specs.Strings.{refused}
 use Rattle.model.specs.Write.{advanced}
 use Rattle.model.proofs.LexemeLoop.{strict-end, strict-next, strict-none}

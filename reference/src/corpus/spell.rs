@@ -1,18 +1,27 @@
-//! Random spellings of a tree: texts in forms 2 and 3 that read back to it.
+//! Random spellings of a tree: texts in forms 2 to 4 that read back to it.
 
 use super::rng::Rng;
 use crate::base64;
 use crate::lexeme::is_token_octet;
-use crate::output::is_token;
+use crate::output::{self, is_token};
 use crate::tree::Tree;
 
 const WHITESPACE: &[u8; 6] = b" \t\n\x0b\x0c\r";
 
 /// A spelling in form 3.
 pub fn advanced(rng: &mut Rng, tree: &Tree) -> Vec<u8> {
+    sexp(rng, tree, false)
+}
+
+/// A spelling in form 4: any tree in it may stand in braces.
+pub fn terminal(rng: &mut Rng, tree: &Tree) -> Vec<u8> {
+    sexp(rng, tree, true)
+}
+
+fn sexp(rng: &mut Rng, tree: &Tree, braces: bool) -> Vec<u8> {
     let mut out = Vec::new();
     space(rng, &mut out);
-    value(rng, tree, &mut out);
+    value(rng, tree, braces, &mut out);
     space(rng, &mut out);
     out
 }
@@ -26,10 +35,14 @@ pub fn basic(rng: &mut Rng, canonical: &[u8]) -> Vec<u8> {
 }
 
 /// Spells a value and tells whether it ends with a token.
-fn value(rng: &mut Rng, tree: &Tree, out: &mut Vec<u8>) -> bool {
+fn value(rng: &mut Rng, tree: &Tree, braces: bool, out: &mut Vec<u8>) -> bool {
+    if braces && rng.once_in(3) {
+        out.extend(basic(rng, &output::canonical(tree)));
+        return false;
+    }
     match tree {
         Tree::List(items) => {
-            list(rng, items, out);
+            list(rng, items, braces, out);
             false
         }
         Tree::Text { hint, data } => {
@@ -46,13 +59,13 @@ fn value(rng: &mut Rng, tree: &Tree, out: &mut Vec<u8>) -> bool {
     }
 }
 
-fn list(rng: &mut Rng, items: &[Tree], out: &mut Vec<u8>) {
+fn list(rng: &mut Rng, items: &[Tree], braces: bool, out: &mut Vec<u8>) {
     out.push(b'(');
     space(rng, out);
     let mut after_token = false;
     for item in items {
         let mut piece = Vec::new();
-        let ends_with_token = value(rng, item, &mut piece);
+        let ends_with_token = value(rng, item, braces, &mut piece);
         if after_token && is_token_octet(piece[0]) {
             out.push(rng.pick(WHITESPACE));
         }

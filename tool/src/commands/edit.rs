@@ -12,12 +12,12 @@ use crate::problem::Problem;
 pub const TO: Flag = Flag {
     name: "--to",
     value: Some("FORM"),
-    about: "the form of what is written (default: the form that was read)",
+    about: "the form of what is written (default: the form that was read; of terminal, advanced)",
 };
 pub const TEXT: Flag = Flag {
     name: "--text",
     value: Some("FORM"),
-    about: "the form of TEXT: canonical, basic, advanced, or any (the default)",
+    about: "the form of TEXT: canonical, basic, advanced, terminal, or any (the default)",
 };
 pub const DETAILS: &str = "\
 A FILE is replaced as a whole, after a power cut it is the old one or the new one.

@@ -1,17 +1,19 @@
 use Prim.Native.Nat.{_-_}
 use lib.ListN.{length}
-use Rattle.advanced.proofs.Converting.{Converting, convert-none, convert-inside, convert-long, convert-notes, convert-stacks, convert-more, convert-whole, convert-short, one-room, one-less, open-on, close-none, close-leaving, close-on, node-spare, node-none, node-from, node-fits, node-less, node-keepable, node-on}
+use Rattle.advanced.proofs.Converting.{Converting, convert-none, convert-inside, convert-long, convert-low, convert-notes, convert-stacks, convert-more, convert-whole, convert-short}
+use Rattle.advanced.proofs.Stepping.{one-room, one-less, open-on, close-none, close-leaving, close-on, node-spare, node-none, node-from, node-fits, node-less, node-keepable, node-on}
+use Rattle.advanced.proofs.Holding.{held-refused, held-less, held-deep, held-many, held-long, held-end, held-on}
 use native.Mathlib.Omega.{arith}
 use borrow.Author.Needs.{needs}
 use Rattle.advanced.proofs.convert.Statement.{statement}
 use Rattle.advanced.proofs.convert.Tie as tie
 
 abbrev Inv-loop : tie.InvT-loop
-Inv-loop classes letters src out₀ notes₀ starts₀ numbers₀ at₀ o₀ opened₀ deepest₀ seen₀ size₀ out notes starts numbers at o opened deepest seen size =
-    Converting src out₀ notes₀ out starts numbers notes at size o opened deepest seen
+Inv-loop classes letters braces src out₀ notes₀ starts₀ numbers₀ at₀ o₀ opened₀ deepest₀ seen₀ size₀ out notes starts numbers at o opened deepest seen size =
+    Converting braces src out₀ notes₀ out starts numbers notes at size o opened deepest seen
 
 abbrev μ-loop : tie.MeasureT-loop
-μ-loop classes letters src out₀ notes₀ starts₀ numbers₀ at₀ o₀ opened₀ deepest₀ seen₀ size₀ out notes starts numbers at o opened deepest seen size = length src - at
+μ-loop classes letters braces src out₀ notes₀ starts₀ numbers₀ at₀ o₀ opened₀ deepest₀ seen₀ size₀ out notes starts numbers at o opened deepest seen size = length src - at
 
 loop-holds : tie.Need-loop-holds Inv-loop μ-loop
 loop-holds c = search (convert-none, arith)
@@ -79,45 +81,76 @@ loop-less-2 c = search (one-less, arith)
 loop-again-2 : tie.Need-loop-again-2 Inv-loop μ-loop
 loop-again-2 c = search (close-on, arith)
 
-node-requires : tie.Need-node-requires Inv-loop μ-loop
-node-requires c κs = (search needs, (search needs, (search needs, search (node-spare, arith), search needs, search needs)))
+tree-at-requires : tie.Need-tree-at-requires Inv-loop μ-loop
+tree-at-requires c κs = (search needs, (search needs, (search needs, search (node-spare, arith), search (convert-low, arith))))
+
+add-larger : tie.Need-add-larger Inv-loop μ-loop
+add-larger c = search (held-deep, arith)
+
+add-seen-2 : tie.Need-add-seen-2 Inv-loop μ-loop
+add-seen-2 c = search (held-many, arith)
+
+add-size-3 : tie.Need-add-size-3 Inv-loop μ-loop
+add-size-3 c = search (held-long, arith)
+
+add-wrap-3 : tie.Need-add-wrap-3 Inv-loop μ-loop
+add-wrap-3 c = search (held-end, arith)
+
+loop-less-3 : tie.Need-loop-less-3 Inv-loop μ-loop
+loop-less-3 c = search (held-less, arith)
+
+loop-again-3 : tie.Need-loop-again-3 Inv-loop μ-loop
+loop-again-3 c = search (held-on, arith)
 
 same-length-10 : tie.Need-same-length-10 Inv-loop μ-loop
 same-length-10 c = search (convert-notes, arith)
 
 returns-5 : tie.Need-returns-5 Inv-loop μ-loop
-returns-5 c = search (node-none, arith)
+returns-5 c = search (held-refused, arith)
+
+node-requires : tie.Need-node-requires Inv-loop μ-loop
+node-requires c κs = (search needs, (search needs, (search needs, search (node-spare, arith), search needs, search needs)))
+
+same-length-12 : tie.Need-same-length-12 Inv-loop μ-loop
+same-length-12 c = search (convert-notes, arith)
+
+returns-6 : tie.Need-returns-6 Inv-loop μ-loop
+returns-6 c = search (node-none, arith)
 
 keep-string-requires : tie.Need-keep-string-requires Inv-loop μ-loop
 keep-string-requires c κs =
     let made = c .before .before .before .before in
-    let here = made .before .before .before .before .before .before .before in
+    let past = made .before .before .before .before in
+    let here = past .before .before .before .before .before in
     let start = here .before .before in
-    node-keepable _ _ _ _ _ _ _ _ _ _ _ _ _ (start .before .before .loop .inv) _ (start .before .skip-at .ensures) _ (start .closed .ensures) (here .before .if1 .left) (here .if3 .left) _ _ _ _ (made .node .ensures) (c .before .if7 .left)
+    node-keepable _ _ _ _ _ _ _ _ _ _ _ _ _ _ (start .before .before .loop .inv) _ (start .before .skip-at .ensures) _ (start .closed .ensures) (here .before .if1 .left) (here .if3 .left) _ (past .before .opens .ensures) (past .if7 .left) _ _ _ _ (made .node .ensures) (c .before .if8 .left)
 
 sub-size : tie.Need-sub-size Inv-loop μ-loop
 sub-size c =
     let made = c .before .before .before .before .before .before .before in
-    let here = made .before .before .before .before .before .before .before in
+    let past = made .before .before .before .before in
+    let here = past .before .before .before .before .before in
     let start = here .before .before in
-    node-from _ _ _ _ _ _ _ _ _ _ _ _ _ (start .before .before .loop .inv) _ (start .before .skip-at .ensures) _ (start .closed .ensures) (here .before .if1 .left) (here .if3 .left) _ _ _ _ (made .node .ensures) (c .before .before .before .before .if7 .left)
+    node-from _ _ _ _ _ _ _ _ _ _ _ _ _ _ (start .before .before .loop .inv) _ (start .before .skip-at .ensures) _ (start .closed .ensures) (here .before .if1 .left) (here .if3 .left) _ (past .before .opens .ensures) (past .if7 .left) _ _ _ _ (made .node .ensures) (c .before .before .before .before .if8 .left)
 
-add-size-3 : tie.Need-add-size-3 Inv-loop μ-loop
-add-size-3 c =
+add-size-4 : tie.Need-add-size-4 Inv-loop μ-loop
+add-size-4 c =
     let made = c .before .before .before .before .before .before .before in
-    let here = made .before .before .before .before .before .before .before in
+    let past = made .before .before .before .before in
+    let here = past .before .before .before .before .before in
     let start = here .before .before in
-    node-fits _ _ _ _ _ _ _ _ _ _ _ _ _ (start .before .before .loop .inv) _ (start .before .skip-at .ensures) _ (start .closed .ensures) (here .before .if1 .left) (here .if3 .left) _ _ _ _ (made .node .ensures) (c .before .before .before .before .if7 .left)
+    node-fits _ _ _ _ _ _ _ _ _ _ _ _ _ _ (start .before .before .loop .inv) _ (start .before .skip-at .ensures) _ (start .closed .ensures) (here .before .if1 .left) (here .if3 .left) _ (past .before .opens .ensures) (past .if7 .left) _ _ _ _ (made .node .ensures) (c .before .before .before .before .if8 .left)
 
-loop-less-3 : tie.Need-loop-less-3 Inv-loop μ-loop
-loop-less-3 c = search (node-less, arith)
+loop-less-4 : tie.Need-loop-less-4 Inv-loop μ-loop
+loop-less-4 c = search (node-less, arith)
 
-loop-again-3 : tie.Need-loop-again-3 Inv-loop μ-loop
-loop-again-3 c =
+loop-again-4 : tie.Need-loop-again-4 Inv-loop μ-loop
+loop-again-4 c =
     let made = c .before .before .before .before .before .before .before .before in
-    let here = made .before .before .before .before .before .before .before in
+    let past = made .before .before .before .before in
+    let here = past .before .before .before .before .before in
     let start = here .before .before in
-    node-on _ _ _ _ _ _ _ _ _ _ _ _ _ (start .before .before .loop .inv) _ (start .before .skip-at .ensures) _ (start .closed .ensures) (here .before .if1 .left) (here .if3 .left) _ _ _ _ (made .node .ensures) (c .before .before .before .before .before .if7 .left) _ (c .wrap3 .ensures) _ (c .before .before .before .keep-string .ensures)
+    node-on _ _ _ _ _ _ _ _ _ _ _ _ _ _ (start .before .before .loop .inv) _ (start .before .skip-at .ensures) _ (start .closed .ensures) (here .before .if1 .left) (here .if3 .left) _ (past .before .opens .ensures) (past .if7 .left) _ _ _ _ (made .node .ensures) (c .before .before .before .before .before .if8 .left) _ (c .wrap4 .ensures) _ (c .before .before .before .keep-string .ensures)
 
 pub convert-spec : {M : Type 1} → statement M
 convert-spec =
@@ -161,14 +194,29 @@ convert-spec =
     (λ c. search needs)
     loop-less-2
     loop-again-2
-    node-requires
+    (λ c κs. search needs)
+    tree-at-requires
+    (λ c. search needs)
+    add-larger
+    (λ c κs. search needs)
+    add-seen-2
+    add-size-3
+    add-wrap-3
+    (λ c κs. search needs)
+    loop-less-3
+    loop-again-3
+    (λ c. search needs)
     (λ c. search needs)
     same-length-10
     returns-5
+    node-requires
+    (λ c. search needs)
+    same-length-12
+    returns-6
     keep-string-requires
     (λ c. search needs)
     sub-size
-    add-size-3
+    add-size-4
     (λ c κs. search needs)
-    loop-less-3
-    loop-again-3)
+    loop-less-4
+    loop-again-4)

@@ -7,6 +7,7 @@ pub mod replacements;
 pub mod rooms;
 pub mod sizes;
 pub mod stray;
+pub mod terminals;
 
 use super::case::Case;
 use super::{known, make};
@@ -24,6 +25,7 @@ pub fn cases() -> Vec<Case> {
         sizes::cases(),
         stray::cases(),
         escapes::cases(),
+        terminals::cases(),
     ]
     .concat()
 }
@@ -34,7 +36,7 @@ fn texts() -> Vec<Case> {
     let mut cases = Vec::new();
     let mut forms: Vec<&[u8]> = Vec::new();
     for (form, text, answer) in known::all() {
-        let others = [1, 2, 3].into_iter().filter(|other| other != form);
+        let others = [1, 2, 3, 4].into_iter().filter(|other| other != form);
         for form in [*form].into_iter().chain(others) {
             let case = make::read(form, text);
             if !cases.contains(&case) {
@@ -48,7 +50,7 @@ fn texts() -> Vec<Case> {
         }
     }
     for octets in forms {
-        cases.extend([1, 2, 3].map(|form| make::write(form, octets, 2 * octets.len() + 9)));
+        cases.extend([1, 2, 3, 4].map(|form| make::write(form, octets, 2 * octets.len() + 9)));
     }
     cases
 }

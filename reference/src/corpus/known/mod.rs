@@ -4,6 +4,7 @@
 pub mod documents;
 pub mod readings;
 pub mod scope;
+pub mod terminals;
 
 use crate::limits::NOT_IN_LANGUAGE;
 
@@ -25,6 +26,7 @@ pub fn all() -> impl Iterator<Item = &'static Known> {
         readings::HEXADECIMAL,
         readings::HINTS,
         readings::WHOLES,
+        terminals::TEXTS,
     ]
     .into_iter()
     .flatten()

@@ -22,11 +22,11 @@ pub fn text(rng: &mut Rng) -> (u32, Vec<u8>) {
             let (form, text) = good(rng);
             (form, damage::damaged(rng, &text))
         }
-        22..=24 => (rng.pick(&[3, 3, 3, 2, 1]), damage::soup(rng)),
+        22..=24 => (rng.pick(&[3, 3, 4, 4, 2, 1]), damage::soup(rng)),
         25 | 26 => odd_length(rng),
         27 => {
             let (_, text) = good(rng);
-            (rng.pick(&[1, 2, 3]), text)
+            (rng.pick(&[1, 2, 3, 4]), text)
         }
         28 => {
             let depth = rng.pick(&[MAX_DEPTH, MAX_DEPTH + 1]);
@@ -36,7 +36,7 @@ pub fn text(rng: &mut Rng) -> (u32, Vec<u8>) {
         }
         _ => {
             let (_, text) = good(rng);
-            (rng.pick(&[0, 4, 9, 258, 1 << 16, u32::MAX]), text)
+            (rng.pick(&[0, 5, 9, 258, 1 << 16, u32::MAX]), text)
         }
     }
 }
@@ -50,12 +50,14 @@ fn good(rng: &mut Rng) -> (u32, Vec<u8>) {
 /// most spellings.
 pub fn in_some_form(rng: &mut Rng, tree: &Tree) -> (u32, Vec<u8>) {
     let canonical = output::canonical(tree);
-    match rng.below(12) {
+    match rng.below(16) {
         0 => (CANONICAL, canonical),
         1 => (BASIC, canonical),
         2 => (ADVANCED, canonical),
         3 => (ADVANCED, output::advanced(tree)),
         4 | 5 => (BASIC, spell::basic(rng, &canonical)),
+        6 => (TERMINAL, spell::advanced(rng, tree)),
+        7..=9 => (TERMINAL, spell::terminal(rng, tree)),
         _ => (ADVANCED, spell::advanced(rng, tree)),
     }
 }
