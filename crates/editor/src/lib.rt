@@ -227,7 +227,7 @@ fn strike(
 
 // The sheet with this length, node count and notes changed as asked, where sheet and table are told to be good or not, and so many
 // records are lent. A removal has no text, and what is lent for one is not looked at.
-fn change_by(
+pub fn change_by(
     form: u32,
     text: &[u8],
     canonical: &mut [u8],

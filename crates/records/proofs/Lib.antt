@@ -6,6 +6,10 @@ pub mod Tables
 pub mod Tabling
 pub mod Comparing
 pub mod Shared
+pub mod Again
+pub mod Local
+pub mod ReadTier
+pub mod PlaceTier
 pub mod Showing
 pub mod Placing
 pub mod Counting

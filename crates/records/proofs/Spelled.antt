@@ -35,6 +35,13 @@ bytes ℓ μ = sliceTy (toByte ℓ μ)
 abbrev pub recs : Lifetime → Mutability → Ty
 recs ℓ μ = sliceTy (toRecord ℓ μ)
 
+-- what points to a note, and slices of notes
+abbrev pub toNote : Lifetime → Mutability → Ty
+toNote ℓ μ = tyRef ℓ μ word
+
+abbrev pub notesBy : Lifetime → Mutability → Ty
+notesBy ℓ μ = sliceTy (toNote ℓ μ)
+
 -- the notes
 abbrev pub Notes : RattleType
 Notes = Array usize mostNodes
