@@ -8,8 +8,10 @@ pub mod Comparing
 pub mod Shared
 pub mod Again
 pub mod Local
+pub mod One
 pub mod ReadTier
 pub mod PlaceTier
+pub mod ChangeTier
 pub mod Showing
 pub mod Placing
 pub mod Counting

@@ -1,5 +1,6 @@
 // The node table as a lent slice of records. Every entry goes by the notes of a sheet, in local space. The functions that take
 // records are few and thin.
+mod asked; // asked.rt: a sheet changed as asked
 mod corrections; // corrections.rt: elements put into lists, and nodes removed
 mod foremen; // foremen.rt: extracts
 mod told; // told.rt: the record that a note tells
@@ -17,6 +18,7 @@ ghost use Rattle.records.specs.Places.{Inside};
 ghost use Rattle.records.specs.Told.{countOf, touched, told, agreed, looked, Tells, Comparable};
 use answers::Place;
 use answers::Reading;
+use asked::change;
 pub use corrections::insert;
 pub use corrections::remove;
 pub use foremen::extract;
@@ -156,22 +158,8 @@ pub fn replace(
 ) -> Reading
     ensures { λ r. ⌜ outcome r (now (canonical .exit)) (numbers (now (records .exit))) ≡ replacing form (now (text .entry)) (now (canonical .entry)) (numbers (now (records .entry))) length nodes node ⌝ }
 {
-    let mut notes: [usize; limits::NODES] = [0; limits::NODES];
-    let noted = lookup::note_sheet(canonical, length, &mut notes, records.len(), nodes);
-    let own = holds(records, &notes, noted, nodes);
-    let r = editor::replace_notes(
-        form,
-        text,
-        canonical,
-        &mut notes,
-        own,
-        records.len(),
-        length,
-        nodes,
-        node,
-    );
-    tell(records, &notes, r, nodes);
-    r
+    let asked = asked::replace_node(node);
+    change(form, text, canonical, records, length, nodes, asked)
 }
 
 // Where a node's hint or data stands, by notes in the local space lent.
