@@ -18,7 +18,4 @@ pub mod Counting
 pub mod Retelling
 pub mod Holding
 pub mod SheetNoting
-pub mod Correcting
-pub mod Inserting
-pub mod Striking
 pub mod Judging
