@@ -28,37 +28,37 @@
  *
  * Stack that a call takes at most, in octets (x86-64), besides what the C
  * library's memset and memcpy take:
- *   etg_read                 120,856
- *   etg_read_records         120,040
- *   etg_write                 35,192
- *   etg_replace              120,664
- *   etg_replace_records      120,264
- *   etg_insert               120,664
- *   etg_insert_records       120,264
- *   etg_remove               120,680
- *   etg_remove_records       120,280
- *   etg_same                   2,520
- *   etg_hint                  67,976
- *   etg_hint_records          67,896
- *   etg_data                  67,976
- *   etg_data_records          67,896
- *   etg_spool_open             2,488
- *   etg_spool_add_start        2,552
+ *   etg_read                 120,776
+ *   etg_read_records         119,992
+ *   etg_write                 35,112
+ *   etg_replace              120,584
+ *   etg_replace_records      134,488
+ *   etg_insert               120,584
+ *   etg_insert_records       134,488
+ *   etg_remove               120,600
+ *   etg_remove_records       134,488
+ *   etg_same                   2,408
+ *   etg_hint                  67,896
+ *   etg_hint_records          81,976
+ *   etg_data                  67,896
+ *   etg_data_records          81,976
+ *   etg_spool_open             2,408
+ *   etg_spool_add_start        2,472
  *   etg_spool_add_step            32
  *   etg_spool_add_commits          8
- *   etg_spool_add              2,552
- *   etg_value                 67,928
- *   etg_value_records         67,912
+ *   etg_spool_add              2,472
+ *   etg_value                 67,848
+ *   etg_value_records         67,848
  *   etg_put_value                 24
- *   etg_line                  67,944
- *   etg_line_records          67,928
+ *   etg_line                  67,864
+ *   etg_line_records          67,848
  *   etg_total                     72
- *   etg_week                  67,928
- *   etg_week_records          67,912
- *   etg_extract              136,632
- *   etg_extract_own          136,632
- *   etg_extract_records      136,616
- *   etg_extract_own_records  136,616
+ *   etg_week                  67,848
+ *   etg_week_records          67,832
+ *   etg_extract              136,568
+ *   etg_extract_own          136,568
+ *   etg_extract_records      136,552
+ *   etg_extract_own_records  136,552
  *   etg_split                    184
  *
  * Refusals. Every function but those that find a hint or data, that split a
