@@ -28,15 +28,15 @@
  *
  * Stack that a call takes at most, in octets (x86-64), besides what the C
  * library's memset and memcpy take:
- *   etg_read                 120,776
- *   etg_read_records         119,960
+ *   etg_read                 120,824
+ *   etg_read_records         120,008
  *   etg_write                 35,112
- *   etg_replace              120,584
- *   etg_replace_records      120,184
- *   etg_insert               120,584
- *   etg_insert_records       120,184
- *   etg_remove               120,600
- *   etg_remove_records       120,200
+ *   etg_replace              120,632
+ *   etg_replace_records      120,232
+ *   etg_insert               120,632
+ *   etg_insert_records       120,232
+ *   etg_remove               120,648
+ *   etg_remove_records       120,248
  *   etg_same                   2,408
  *   etg_hint                  67,896
  *   etg_hint_records          67,816
@@ -55,10 +55,10 @@
  *   etg_total                     72
  *   etg_week                  67,848
  *   etg_week_records          67,832
- *   etg_extract              136,552
- *   etg_extract_own          136,552
- *   etg_extract_records      136,536
- *   etg_extract_own_records  136,536
+ *   etg_extract              136,600
+ *   etg_extract_own          136,600
+ *   etg_extract_records      136,584
+ *   etg_extract_own_records  136,584
  *   etg_split                    184
  *   etg_pieces_start               8
  *   etg_pieces_feed              328

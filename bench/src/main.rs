@@ -4,8 +4,9 @@
 //! `bench READER TEXT TIMES` only reads, for a profiler: READER is `library` or
 //! `plain`, TEXT a name of the first table. `bench beside OBJECT` times reading
 //! beside another build's shared object, `bench lengths` two ways to write a
-//! length, `bench runs` only the splitting of runs, `bench pieces` only texts in
-//! pieces, and `bench spool` only the spool.
+//! length, `bench records` only the entries over records, `bench runs` only the
+//! splitting of runs, `bench pieces` only texts in pieces, and `bench spool` only
+//! the spool.
 
 mod beside;
 mod entries;
@@ -41,6 +42,10 @@ fn main() -> ExitCode {
             pieces::table();
             true
         }
+        [word] if word == "records" => {
+            records::table();
+            true
+        }
         [word] if word == "spool" => {
             spool::table();
             true
@@ -51,7 +56,7 @@ fn main() -> ExitCode {
     };
     if !done {
         eprintln!(
-            "usage: bench [library|plain TEXT TIMES | beside OBJECT | lengths | pieces | runs | spool]"
+            "usage: bench [library|plain TEXT TIMES | beside OBJECT | lengths | pieces | records | runs | spool]"
         );
     }
     ExitCode::from(if done { 0 } else { 2 })

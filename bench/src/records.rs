@@ -6,7 +6,7 @@ use std::hint::black_box;
 use bench::clock::race;
 use bench::report::{call_row, head, Cell};
 use bench::texts::{canonical_of, texts, SHORT};
-use etglavino::{Extent, Form, Record, MAX_CANONICAL, MAX_NODES, RECORD};
+use etglavino::{Extent, Form, Record, Slot, MAX_CANONICAL, MAX_NODES, RECORD};
 
 /// Prints the table.
 pub fn table() {
@@ -18,7 +18,10 @@ pub fn table() {
     for (name, octets) in [("tokens", full), ("short", canonical_of(SHORT))] {
         reading(name, &octets);
         replacing(name, &octets);
+        correcting(name, &octets);
         looking(name, &octets);
+        valuing(name, &octets);
+        extracting(name, &octets);
     }
 }
 
@@ -111,6 +114,37 @@ fn replacing(name: &str, octets: &[u8]) {
     );
 }
 
+/// An element put into the first list, and removed again: two calls.
+fn correcting(name: &str, octets: &[u8]) {
+    let (mut one, mut two) = (Sheet::of(octets), Sheet::of(octets));
+    let (text, slot) = (b"abcde", Slot { node: 0, k: 0 });
+    print(
+        &format!("insert and remove the first, {name}"),
+        octets,
+        &mut [
+            &mut || {
+                let (canonical, numbers) = (&mut one.canonical, &mut one.numbers);
+                let text = black_box(text);
+                let more =
+                    etglavino::insert(Form::Advanced, text, canonical, numbers, one.extent, slot);
+                let less =
+                    etglavino::remove(canonical, numbers, more.expect("a list with room"), 1);
+                one.extent = less.expect("a node of that number");
+            },
+            &mut || {
+                let (canonical, records) = (&mut two.canonical, &mut two.records);
+                let text = black_box(text);
+                let form = Form::Advanced;
+                let more =
+                    etglavino::insert_records(form, text, canonical, records, two.extent, slot);
+                let more = more.expect("a list with room");
+                let less = etglavino::remove_records(canonical, records, more, 1);
+                two.extent = less.expect("a node of that number");
+            },
+        ],
+    );
+}
+
 fn looking(name: &str, octets: &[u8]) {
     let sheet = Sheet::of(octets);
     let (canonical, extent) = (&sheet.canonical[..], sheet.extent);
@@ -126,6 +160,48 @@ fn looking(name: &str, octets: &[u8]) {
                 let records = &sheet.records[..];
                 let part = etglavino::data_records_part(black_box(canonical), records, extent, 1);
                 assert!(black_box(part).is_some());
+            },
+        ],
+    );
+}
+
+fn valuing(name: &str, octets: &[u8]) {
+    let sheet = Sheet::of(octets);
+    let (canonical, extent) = (&sheet.canonical[..], sheet.extent);
+    print(
+        &format!("a node's value, {name}"),
+        octets,
+        &mut [
+            &mut || {
+                let value = etglavino::value(black_box(canonical), &sheet.numbers, extent, 1);
+                assert!(black_box(value).is_ok());
+            },
+            &mut || {
+                let records = &sheet.records[..];
+                let value = etglavino::value_records(black_box(canonical), records, extent, 1);
+                assert!(black_box(value).is_ok());
+            },
+        ],
+    );
+}
+
+fn extracting(name: &str, octets: &[u8]) {
+    let (mut one, mut two) = (Sheet::of(octets), Sheet::of(octets));
+    print(
+        &format!("extract, {name}"),
+        octets,
+        &mut [
+            &mut || {
+                let sheet = black_box(octets);
+                let (canonical, numbers) = (&mut one.canonical, &mut one.numbers);
+                let answer = etglavino::extract(sheet, sheet.len(), canonical, numbers);
+                assert!(black_box(answer).is_ok());
+            },
+            &mut || {
+                let sheet = black_box(octets);
+                let (canonical, records) = (&mut two.canonical, &mut two.records);
+                let answer = etglavino::extract_records(sheet, sheet.len(), canonical, records);
+                assert!(black_box(answer).is_ok());
             },
         ],
     );

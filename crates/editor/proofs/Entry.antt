@@ -20,7 +20,7 @@ use Rattle.plan.specs.declared.Asked.{Asked}
 use Rattle.plan.specs.declared.Asked.the-variants.{Replace, Insert, Remove}
 use Rattle.answers.specs.declared.Reading.{Reading}
 use Rattle.answers.specs.declared.Reading.the-variants as reading
-use Rattle.editor.specs.Given.{GivesTree, GivesMeant, GivesText, GivesReplaced, GivesInserted, GivesRemoved}
+use Rattle.editor.specs.Given.{GivesTree, GivesMeant, GivesText}
 use Rattle.editor.proofs.Placing.{gives-refused, gives-same}
 
 -- ---- with a text
@@ -75,16 +75,3 @@ module _ (form : ℕ) (text canonical table : List ℕ) (len count node : ℕ) (
   pub named-remove : r ≡ changing (Remove node) form text canonical table len count → r ≡ removing canonical table len count node
   unfolding changing
   named-remove e = e
-
-module _ (form : ℕ) (text canonical : List ℕ) (len count room : ℕ) (own : Bool) (node : ℕ) (canonical′ notes′ : List ℕ) (r : Reading) where
-  pub notes-replace : GivesText (Replace node) form text canonical len count room own canonical′ notes′ r → GivesReplaced form text canonical len count room own node canonical′ notes′ r
-  unfolding changing
-  notes-replace p = p
-
-  pub notes-insert : (k : ℕ) → GivesText (Insert node k) form text canonical len count room own canonical′ notes′ r → GivesInserted form text canonical len count room own node k canonical′ notes′ r
-  unfolding changing
-  notes-insert k p = p
-
-  pub notes-remove : GivesText (Remove node) form text canonical len count room own canonical′ notes′ r → GivesRemoved canonical len count room own node canonical′ notes′ r
-  unfolding changing
-  notes-remove p = p

@@ -7,8 +7,7 @@ use mathlib.Core.List.{List}
 use Rattle.model.specs.Limits.{mostNodes}
 use Rattle.model.specs.Table.{width, tableOf}
 use Rattle.model.specs.Tree.{Tree}
-use Rattle.model.specs.Answers.{Outcome, settled, placeOf, telling, replacing}
-use Rattle.model.specs.Corrections.{inserting, removing}
+use Rattle.model.specs.Answers.{Outcome, settled, placeOf, telling}
 use Rattle.model.specs.Decode.{decode}
 use Rattle.answers.specs.Cases.{outcome}
 use Rattle.answers.specs.declared.Reading.{Reading}
@@ -48,13 +47,3 @@ GivesMeant a form text c len count n own c′ notes′ r =
 -- and of a text
 abbrev pub GivesText : Asked → ℕ → List ℕ → List ℕ → ℕ → ℕ → ℕ → Bool → List ℕ → List ℕ → Reading → Type 0
 GivesText a form text c len count n own c′ notes′ r = Gives (Lends c len count n own) (λ (table : List ℕ). changing a form text c table len count) c′ n notes′ count r
-
--- the three by name, for whoever doesn't know what is asked as a value
-abbrev pub GivesReplaced : ℕ → List ℕ → List ℕ → ℕ → ℕ → ℕ → Bool → ℕ → List ℕ → List ℕ → Reading → Type 0
-GivesReplaced form text c len count n own node c′ notes′ r = Gives (Lends c len count n own) (λ (table : List ℕ). replacing form text c table len count node) c′ n notes′ count r
-
-abbrev pub GivesInserted : ℕ → List ℕ → List ℕ → ℕ → ℕ → ℕ → Bool → ℕ → ℕ → List ℕ → List ℕ → Reading → Type 0
-GivesInserted form text c len count n own node k c′ notes′ r = Gives (Lends c len count n own) (λ (table : List ℕ). inserting form text c table len count node k) c′ n notes′ count r
-
-abbrev pub GivesRemoved : List ℕ → ℕ → ℕ → ℕ → Bool → ℕ → List ℕ → List ℕ → Reading → Type 0
-GivesRemoved c len count n own node c′ notes′ r = Gives (Lends c len count n own) (λ (table : List ℕ). removing c table len count node) c′ n notes′ count r

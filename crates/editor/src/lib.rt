@@ -2,7 +2,6 @@
 // table, node and room are judged before anything is written, so that a refusal changes nothing. The core goes by the sheet's notes, and
 // leaves those of the new sheet: the table, as numbers or as records, is its caller's.
 mod numbers; // numbers.rt: the table as numbers
-mod records; // records.rt: what serves a table of records
 mod tiers; // tiers.rt: local space for a text
 
 ghost use mathlib.Core.Path.{_≡_};
@@ -26,9 +25,6 @@ pub use numbers::replace;
 use plan::Asked;
 use plan::Plan;
 use plan::Sizes;
-pub use records::insert_notes;
-pub use records::remove_notes;
-pub use records::replace_notes;
 use walk::Extent;
 
 // A sheet of `old` octets and `held` nodes is changed: what comes has these sizes, its octets stand in scratch, and its first note is
@@ -227,7 +223,7 @@ fn strike(
 
 // The sheet with this length, node count and notes changed as asked, where sheet and table are told to be good or not, and so many
 // records are lent. A removal has no text, and what is lent for one is not looked at.
-fn change_by(
+pub fn change_by(
     form: u32,
     text: &[u8],
     canonical: &mut [u8],

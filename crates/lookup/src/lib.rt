@@ -16,6 +16,7 @@ ghost use Rattle.lookup.specs.Numbers.{InRecord};
 use answers::Comparing;
 use answers::Place;
 use answers::refused_comparing;
+pub use noted::note_in;
 pub use noted::note_sheet;
 pub use noted::own_notes;
 pub use noted::place_by;

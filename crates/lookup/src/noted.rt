@@ -7,7 +7,13 @@ use walk::Extent;
 
 // The notes of the first `length` octets: whether these are one fitting canonical form with this node count, and so many records
 // are lent for it.
-fn note_in(canonical: &[u8], len: usize, notes: &mut [usize], records: usize, nodes: usize) -> bool
+pub fn note_in(
+    canonical: &[u8],
+    len: usize,
+    notes: &mut [usize],
+    records: usize,
+    nodes: usize,
+) -> bool
     requires { ⌜ Notes nodes (length (now notes)) ⌝ }
     ensures { λ r. ⌜ Sheeted (now (canonical .entry)) len nodes records (now (notes .exit)) r ⌝ }
 {
@@ -73,13 +79,7 @@ pub fn own_notes(
 
 // Where a node's hint stands, if it is a string with a hint, or where its data stands; by the notes of a sheet, where they are told to
 // be its own records'.
-pub fn place_by(
-    notes: &[usize; limits::NODES],
-    nodes: usize,
-    node: usize,
-    own: bool,
-    hinted: bool,
-) -> Place
+pub fn place_by(notes: &[usize], nodes: usize, node: usize, own: bool, hinted: bool) -> Place
     requires { ⌜ Readables (now notes) nodes own ⌝ }
     ensures { λ r. ⌜ Shows (now (notes .entry)) nodes node own hinted r ⌝ }
 {

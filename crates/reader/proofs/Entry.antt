@@ -18,7 +18,7 @@ use Rattle.answers.specs.Cases.{outcome, Refuses}
 use Rattle.answers.specs.declared.Reading.{Reading}
 use Rattle.answers.specs.declared.Reading.the-variants as answer
 use Rattle.model.specs.Table.{tableOf}
-use Rattle.reader.specs.Stored.{readTree, halved, most, Spaced, Puts}
+use Rattle.reader.specs.Stored.{readTree, Noteable, halved, most, Spaced, Puts}
 use Rattle.reader.proofs.Storing.{puts-refused}
 
 -- ---- local space
@@ -27,12 +27,15 @@ module _ (form n s m : ℕ) where
   pub small-spaced : (bound : ℕ) → Formed form n bound → bound ≤ maxSource → 3 * bound + 64 ≤ s → s < shift → 3 * bound ≤ 2 * m → Spaced form n s m
   small-spaced bound f h k j l = record { takes = small-takes form n s bound f h k j; room = halved (omega (arith, f .short)) }
 
-  -- with room for every note
-  pub noted-spaced : (bound : ℕ) → Formed form n bound → bound ≤ maxSource → 3 * bound + 64 ≤ s → s < shift → mostNodes ≤ m → Spaced form n s m
-  noted-spaced bound f h k j l = record { takes = small-takes form n s bound f h k j; room = most l }
+  -- where the notes are lent
+  pub noted-spaced : (bound : ℕ) → Formed form n bound → bound ≤ maxSource → 3 * bound + 64 ≤ s → s < shift → Noteable n m → Spaced form n s m
+  noted-spaced bound f h k j l = record { takes = small-takes form n s bound f h k j; room = l }
+
+  pub noted-long : Formed form n maxSource → maxSource + 16448 ≤ s → s < shift → Noteable n m → Spaced form n s m
+  noted-long f h j k = record { takes = long-takes form n s f h j; room = k }
 
   pub long-spaced : Formed form n maxSource → maxSource + 16448 ≤ s → s < shift → mostNodes ≤ m → Spaced form n s m
-  long-spaced f h j k = record { takes = long-takes form n s f h j; room = most k }
+  long-spaced f h j k = noted-long f h j (most k)
 
 -- ---- basic text outside braces is canonical text
 module _ (form : ℕ) (source : List ℕ) (b : Bool) (g : Bare form source b) (e : b ≡ true) where

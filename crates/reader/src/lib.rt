@@ -8,7 +8,7 @@ ghost use Rattle.model.specs.Decode.{decode};
 ghost use Rattle.model.specs.Answers.{placeOf, reading};
 ghost use Rattle.answers.specs.Cases.{outcome};
 ghost use Rattle.octets.specs.Classes.{Classed, Lettered};
-ghost use Rattle.reader.specs.Stored.{roomVerdict, readTree, Spaced, Puts};
+ghost use Rattle.reader.specs.Stored.{roomVerdict, readTree, Noteable, Spaced, Puts};
 use answers::Reading;
 use answers::refused;
 use answers::refused_at;
@@ -127,9 +127,10 @@ pub fn read_notes(
     form: u32,
     source: &[u8],
     canonical: &mut [u8],
-    notes: &mut [usize; limits::NODES],
+    notes: &mut [usize],
     records: usize,
 ) -> Reading
+    requires { ⌜ Noteable (length (now source)) (length (now notes)) ⌝ }
     ensures { λ r. ⌜ Puts (reading form (now (source .entry)) (now (canonical .entry))) (now (canonical .exit)) records (now (notes .exit)) r ⌝ }
 {
     let row = texts::row(form, source.len());

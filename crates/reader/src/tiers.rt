@@ -7,7 +7,7 @@ ghost use Rattle.model.specs.Limits.{maxSource};
 ghost use Rattle.answers.specs.Cases.{outcome};
 ghost use Rattle.octets.specs.Classes.{Classed, Lettered};
 ghost use Rattle.texts.specs.Texts.{Formed};
-ghost use Rattle.reader.specs.Stored.{readTree, Puts};
+ghost use Rattle.reader.specs.Stored.{readTree, Noteable, Puts};
 use crate::put;
 use crate::read_in;
 use answers::Reading;
@@ -100,11 +100,12 @@ pub fn put_short(
     source: &[u8],
     canonical: &mut [u8],
     records: usize,
-    notes: &mut [usize; limits::NODES],
+    notes: &mut [usize],
 ) -> Reading
     requires { ⌜ Classed (now classes) ⌝ }
     requires { ⌜ Lettered (now letters) ⌝ }
     requires { ⌜ Formed form (length (now source)) 128 ⌝ }
+    requires { ⌜ Noteable (length (now source)) (length (now notes)) ⌝ }
     ensures { λ r. ⌜ Puts (readTree (decode form (now (source .entry))) (placeOf form (now (source .entry))) (now (canonical .entry))) (now (canonical .exit)) records (now (notes .exit)) r ⌝ }
 {
     let mut scratch: [u8; limits::SHORT_SCRATCH] = [0; limits::SHORT_SCRATCH];
@@ -127,11 +128,12 @@ pub fn put_middle(
     source: &[u8],
     canonical: &mut [u8],
     records: usize,
-    notes: &mut [usize; limits::NODES],
+    notes: &mut [usize],
 ) -> Reading
     requires { ⌜ Classed (now classes) ⌝ }
     requires { ⌜ Lettered (now letters) ⌝ }
     requires { ⌜ Formed form (length (now source)) 1024 ⌝ }
+    requires { ⌜ Noteable (length (now source)) (length (now notes)) ⌝ }
     ensures { λ r. ⌜ Puts (readTree (decode form (now (source .entry))) (placeOf form (now (source .entry))) (now (canonical .entry))) (now (canonical .exit)) records (now (notes .exit)) r ⌝ }
 {
     let mut scratch: [u8; limits::MIDDLE_SCRATCH] = [0; limits::MIDDLE_SCRATCH];
@@ -154,11 +156,12 @@ pub fn put_long(
     source: &[u8],
     canonical: &mut [u8],
     records: usize,
-    notes: &mut [usize; limits::NODES],
+    notes: &mut [usize],
 ) -> Reading
     requires { ⌜ Classed (now classes) ⌝ }
     requires { ⌜ Lettered (now letters) ⌝ }
     requires { ⌜ Formed form (length (now source)) maxSource ⌝ }
+    requires { ⌜ Noteable (length (now source)) (length (now notes)) ⌝ }
     ensures { λ r. ⌜ Puts (readTree (decode form (now (source .entry))) (placeOf form (now (source .entry))) (now (canonical .entry))) (now (canonical .exit)) records (now (notes .exit)) r ⌝ }
 {
     let mut scratch: [u8; limits::LONG_SCRATCH] = [0; limits::LONG_SCRATCH];

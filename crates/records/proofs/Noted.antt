@@ -38,7 +38,7 @@ each-zero : (n : ℕ) → shadow (each ℕ (usize .own) (replicate n 0) (replica
 each-zero zero = tt
 each-zero (suc n) = ((refl, lit< tt), each-zero n)
 
-repeat-is : (n : ℕ) → Is (Array usize n) (replicate n 0) (vstruct (ofList (replicate n (vint w64 0))) ∷ [])
+pub repeat-is : (n : ℕ) → Is (Array usize n) (replicate n 0) (vstruct (ofList (replicate n (vint w64 0))) ∷ [])
 repeat-is n = (replicate n (vint w64 0), ((refl, length-replicate n 0), each-zero n))
 
 unfoldable pub zeros : List ℕ
@@ -52,7 +52,7 @@ unfolding zeros
 length-zeros = length-replicate {A = ℕ} mostNodes 0
 
 module _ {M : Type 1} (𝓤 : URA M) (H : Heap 𝓤) (A : Atoms 𝓤) (W : Given 𝓤 H A) where
-  typed-by : (n : ℕ) → Typed (Array usize n .mir) (vstruct (ofList (replicate n (vint w64 0))) ∷ [])
+  pub typed-by : (n : ℕ) → Typed (Array usize n .mir) (vstruct (ofList (replicate n (vint w64 0))) ∷ [])
   typed-by n = array-typed usize (uint-lawful 𝓤 H A W w64 .typed) n (replicate n 0) (vstruct (ofList (replicate n (vint w64 0))) ∷ []) (repeat-is n)
 
   pub zeros-typed : T (hasTy notesTy zeroVal) × WT zeroVal

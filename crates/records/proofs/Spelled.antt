@@ -22,6 +22,10 @@ answerTy =
 abbrev pub placeTy : Ty
 placeTy = tyEnum (97 ∷ 110 ∷ 115 ∷ 119 ∷ 101 ∷ 114 ∷ 115 ∷ 58 ∷ 58 ∷ 80 ∷ 108 ∷ 97 ∷ 99 ∷ 101 ∷ []) (ttcons (tcons word (tcons word tnil)) (ttcons tnil ttnil))
 
+-- `plan::Asked`
+abbrev pub askedTy : Ty
+askedTy = tyEnum (112 ∷ 108 ∷ 97 ∷ 110 ∷ 58 ∷ 58 ∷ 65 ∷ 115 ∷ 107 ∷ 101 ∷ 100 ∷ []) (ttcons (tcons word tnil) (ttcons (tcons word (tcons word tnil)) (ttcons (tcons word tnil) ttnil)))
+
 -- what points to an octet, to a record; and slices of octets and of records
 abbrev pub toByte : Lifetime → Mutability → Ty
 toByte ℓ μ = tyRef ℓ μ (tyInt w8)
@@ -34,6 +38,13 @@ bytes ℓ μ = sliceTy (toByte ℓ μ)
 
 abbrev pub recs : Lifetime → Mutability → Ty
 recs ℓ μ = sliceTy (toRecord ℓ μ)
+
+-- what points to a note, and slices of notes
+abbrev pub toNote : Lifetime → Mutability → Ty
+toNote ℓ μ = tyRef ℓ μ word
+
+abbrev pub notesBy : Lifetime → Mutability → Ty
+notesBy ℓ μ = sliceTy (toNote ℓ μ)
 
 -- the notes
 abbrev pub Notes : RattleType

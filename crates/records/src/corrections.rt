@@ -4,8 +4,9 @@ ghost use Rattle.model.specs.Corrections.{inserting, removing};
 ghost use Rattle.answers.specs.Cases.{outcome};
 ghost use Rattle.records.specs.Numbers.{numbers};
 use crate::Record;
-use crate::holds;
-use crate::tell;
+use crate::asked::change;
+use crate::asked::insert_at;
+use crate::asked::remove_node;
 use answers::Reading;
 
 // The tree of a text becomes element k of the list that a node is.
@@ -21,23 +22,8 @@ pub fn insert(
 ) -> Reading
     ensures { λ r. ⌜ outcome r (now (canonical .exit)) (numbers (now (records .exit))) ≡ inserting form (now (text .entry)) (now (canonical .entry)) (numbers (now (records .entry))) length nodes node k ⌝ }
 {
-    let mut notes: [usize; limits::NODES] = [0; limits::NODES];
-    let noted = lookup::note_sheet(canonical, length, &mut notes, records.len(), nodes);
-    let own = holds(records, &notes, noted, nodes);
-    let r = editor::insert_notes(
-        form,
-        text,
-        canonical,
-        &mut notes,
-        own,
-        records.len(),
-        length,
-        nodes,
-        node,
-        k,
-    );
-    tell(records, &notes, r, nodes);
-    r
+    let asked = insert_at(node, k);
+    change(form, text, canonical, records, length, nodes, asked)
 }
 
 // A node is removed with all that is in it.
@@ -50,18 +36,7 @@ pub fn remove(
 ) -> Reading
     ensures { λ r. ⌜ outcome r (now (canonical .exit)) (numbers (now (records .exit))) ≡ removing (now (canonical .entry)) (numbers (now (records .entry))) length nodes node ⌝ }
 {
-    let mut notes: [usize; limits::NODES] = [0; limits::NODES];
-    let noted = lookup::note_sheet(canonical, length, &mut notes, records.len(), nodes);
-    let own = holds(records, &notes, noted, nodes);
-    let r = editor::remove_notes(
-        canonical,
-        &mut notes,
-        own,
-        records.len(),
-        length,
-        nodes,
-        node,
-    );
-    tell(records, &notes, r, nodes);
-    r
+    let none: [u8; 1] = [0; 1];
+    let asked = remove_node(node);
+    change(1, &none, canonical, records, length, nodes, asked)
 }

@@ -1,5 +1,6 @@
 // The node table as a lent slice of records. Every entry goes by the notes of a sheet, in local space. The functions that take
 // records are few and thin.
+mod asked; // asked.rt: a sheet changed as asked
 mod corrections; // corrections.rt: elements put into lists, and nodes removed
 mod foremen; // foremen.rt: extracts
 mod piecing; // piecing.rt: texts in pieces
@@ -11,11 +12,14 @@ ghost use mathlib.Core.List.{[]};
 ghost use Rattle.model.specs.Answers.{reading, replacing, hintPart, dataPart, hintShown, dataShown, shownOr};
 ghost use Rattle.answers.specs.Cases.{outcome, placed};
 ghost use Rattle.answers.specs.Shown.{Shows, shownAt};
+ghost use Rattle.lookup.specs.Noted.{Notes};
+ghost use Rattle.reader.specs.Stored.{Noteable};
 ghost use Rattle.records.specs.Numbers.{numbers, placeOf};
 ghost use Rattle.records.specs.Places.{Inside};
 ghost use Rattle.records.specs.Told.{countOf, touched, told, agreed, looked, Tells, Comparable};
 use answers::Place;
 use answers::Reading;
+use asked::change;
 pub use corrections::insert;
 pub use corrections::remove;
 pub use foremen::extract;
@@ -65,15 +69,81 @@ pub fn holds(records: &[Record], notes: &[usize; limits::NODES], noted: bool, no
     same
 }
 
+// The records that an answer touches become those that notes of any number tell.
+fn tell_by(records: &mut [Record], notes: &[usize], r: Reading, old: usize)
+    requires { ⌜ Tells (now notes) r old (length (now records)) ⌝ }
+    ensures { λ _. ⌜ now (records .exit) ≡ told (now (notes .entry)) (countOf r) (touched r old) (now (records .entry)) ⌝ }
+{
+    let n = told::touched_by(r, old);
+    let mut i: usize = 0;
+    while i < n {
+        let z = told::record_by(notes, r, i);
+        records[i] = z;
+        i += 1;
+    }
+}
+
+// Whether the records in use are those that notes of any number tell.
+fn holds_by(records: &[Record], notes: &[usize], noted: bool, nodes: usize) -> bool
+    requires { ⌜ Comparable (now notes) noted nodes (length (now records)) ⌝ }
+    ensures { λ b. ⌜ b ≡ agreed (now (records .entry)) (now (notes .entry)) noted (looked noted nodes) ⌝ }
+{
+    let n = told::looked_at(noted, nodes);
+    let mut same = noted;
+    let mut k: usize = 0;
+    while k < n {
+        let r = records[k];
+        same = told::record_agrees(notes, k, r, same);
+        k += 1;
+    }
+    same
+}
+
+// A text read in the local space lent.
+fn read_in(
+    form: u32,
+    source: &[u8],
+    canonical: &mut [u8],
+    records: &mut [Record],
+    notes: &mut [usize],
+) -> Reading
+    requires { ⌜ Noteable (length (now source)) (length (now notes)) ⌝ }
+    ensures { λ r. ⌜ outcome r (now (canonical .exit)) (numbers (now (records .exit))) ≡ reading form (now (source .entry)) (now (canonical .entry)) (numbers (now (records .entry))) ⌝ }
+{
+    let r = reader::read_notes(form, source, canonical, notes, records.len());
+    tell_by(records, notes, r, 0);
+    r
+}
+
+// A text of any length.
+fn read_long(form: u32, source: &[u8], canonical: &mut [u8], records: &mut [Record]) -> Reading
+    ensures { λ r. ⌜ outcome r (now (canonical .exit)) (numbers (now (records .exit))) ≡ reading form (now (source .entry)) (now (canonical .entry)) (numbers (now (records .entry))) ⌝ }
+{
+    let mut notes: [usize; limits::NODES] = [0; limits::NODES];
+    read_in(form, source, canonical, records, &mut notes)
+}
+
+// A text of any length, in less space where it is no longer than middle.
+fn read_middle(form: u32, source: &[u8], canonical: &mut [u8], records: &mut [Record]) -> Reading
+    ensures { λ r. ⌜ outcome r (now (canonical .exit)) (numbers (now (records .exit))) ≡ reading form (now (source .entry)) (now (canonical .entry)) (numbers (now (records .entry))) ⌝ }
+{
+    if source.len() > limits::MIDDLE {
+        return read_long(form, source, canonical, records);
+    }
+    let mut notes: [usize; limits::MIDDLE_NOTES] = [0; limits::MIDDLE_NOTES];
+    read_in(form, source, canonical, records, &mut notes)
+}
+
 // A text of the form named (1 canonical, 2 basic, 3 advanced) into canonical octets and the records of its nodes. In a
 // refusal both lent buffers hold what they held; in an acceptance what lies past the octets and the records stays.
 pub fn read(form: u32, source: &[u8], canonical: &mut [u8], records: &mut [Record]) -> Reading
     ensures { λ r. ⌜ outcome r (now (canonical .exit)) (numbers (now (records .exit))) ≡ reading form (now (source .entry)) (now (canonical .entry)) (numbers (now (records .entry))) ⌝ }
 {
-    let mut notes: [usize; limits::NODES] = [0; limits::NODES];
-    let r = reader::read_notes(form, source, canonical, &mut notes, records.len());
-    tell(records, &notes, r, 0);
-    r
+    if source.len() > limits::SHORT {
+        return read_middle(form, source, canonical, records);
+    }
+    let mut notes: [usize; limits::SHORT_NOTES] = [0; limits::SHORT_NOTES];
+    read_in(form, source, canonical, records, &mut notes)
 }
 
 // A node of the sheet with this length, node count and records gives way to the tree of a text of the form named. In a
@@ -90,22 +160,59 @@ pub fn replace(
 ) -> Reading
     ensures { λ r. ⌜ outcome r (now (canonical .exit)) (numbers (now (records .exit))) ≡ replacing form (now (text .entry)) (now (canonical .entry)) (numbers (now (records .entry))) length nodes node ⌝ }
 {
+    let asked = asked::replace_node(node);
+    change(form, text, canonical, records, length, nodes, asked)
+}
+
+// Where a node's hint or data stands, by notes in the local space lent.
+fn place_in(
+    canonical: &[u8],
+    len: usize,
+    records: &[Record],
+    nodes: usize,
+    node: usize,
+    hinted: bool,
+    notes: &mut [usize],
+) -> Place
+    requires { ⌜ Notes nodes (length (now notes)) ⌝ }
+    ensures { λ r. ⌜ placed r ≡ placeOf hinted (now (canonical .entry)) len (numbers (now (records .entry))) nodes node ⌝ }
+{
+    let noted = lookup::note_in(canonical, len, notes, records.len(), nodes);
+    let own = holds_by(records, notes, noted, nodes);
+    lookup::place_by(notes, nodes, node, own, hinted)
+}
+
+// In a sheet of any node count.
+fn place_long(
+    canonical: &[u8],
+    length: usize,
+    records: &[Record],
+    nodes: usize,
+    node: usize,
+    hinted: bool,
+) -> Place
+    ensures { λ r. ⌜ placed r ≡ placeOf hinted (now (canonical .entry)) length (numbers (now (records .entry))) nodes node ⌝ }
+{
     let mut notes: [usize; limits::NODES] = [0; limits::NODES];
-    let noted = lookup::note_sheet(canonical, length, &mut notes, records.len(), nodes);
-    let own = holds(records, &notes, noted, nodes);
-    let r = editor::replace_notes(
-        form,
-        text,
-        canonical,
-        &mut notes,
-        own,
-        records.len(),
-        length,
-        nodes,
-        node,
-    );
-    tell(records, &notes, r, nodes);
-    r
+    place_in(canonical, length, records, nodes, node, hinted, &mut notes)
+}
+
+// The same, in less space where there are no more nodes than middle.
+fn place_middle(
+    canonical: &[u8],
+    length: usize,
+    records: &[Record],
+    nodes: usize,
+    node: usize,
+    hinted: bool,
+) -> Place
+    ensures { λ r. ⌜ placed r ≡ placeOf hinted (now (canonical .entry)) length (numbers (now (records .entry))) nodes node ⌝ }
+{
+    if nodes > limits::MIDDLE_NOTES {
+        return place_long(canonical, length, records, nodes, node, hinted);
+    }
+    let mut notes: [usize; limits::MIDDLE_NOTES] = [0; limits::MIDDLE_NOTES];
+    place_in(canonical, length, records, nodes, node, hinted, &mut notes)
 }
 
 // Where a node's hint stands, if it is a string with a hint; or where its data stands.
@@ -119,10 +226,11 @@ pub fn place(
 ) -> Place
     ensures { λ r. ⌜ placed r ≡ placeOf hinted (now (canonical .entry)) length (numbers (now (records .entry))) nodes node ⌝ }
 {
-    let mut notes: [usize; limits::NODES] = [0; limits::NODES];
-    let noted = lookup::note_sheet(canonical, length, &mut notes, records.len(), nodes);
-    let own = holds(records, &notes, noted, nodes);
-    lookup::place_by(&notes, nodes, node, own, hinted)
+    if nodes > limits::SHORT_NOTES {
+        return place_middle(canonical, length, records, nodes, node, hinted);
+    }
+    let mut notes: [usize; limits::SHORT_NOTES] = [0; limits::SHORT_NOTES];
+    place_in(canonical, length, records, nodes, node, hinted, &mut notes)
 }
 
 // The part of the sheet at a place, else what is given.

@@ -9,7 +9,7 @@ use crate::Record;
 use answers::Reading;
 
 // A record with the numbers of a row.
-fn record_by(row: sheets::Row) -> Record
+fn record_with(row: sheets::Row) -> Record
     ensures { λ r. ⌜ eight r ≡ rowList row ⌝ }
 {
     Record {
@@ -40,15 +40,23 @@ fn zero_record() -> Record
     }
 }
 
-// Record i after an answer: the one that its note tells, and zeros past the nodes.
+// Record i after an answer, with room for every note.
 pub fn record_of(notes: &[usize; limits::NODES], r: Reading, i: usize) -> Record
+    requires { ⌜ Tellable (now notes) r i ⌝ }
+    ensures { λ z. ⌜ z ≡ toldAt (now (notes .entry)) (countOf r) i ⌝ }
+{
+    record_by(notes, r, i)
+}
+
+// Record i after an answer: the one that its note tells, and zeros past the nodes.
+pub fn record_by(notes: &[usize], r: Reading, i: usize) -> Record
     requires { ⌜ Tellable (now notes) r i ⌝ }
     ensures { λ z. ⌜ z ≡ toldAt (now (notes .entry)) (countOf r) i ⌝ }
 {
     match r {
         Reading::Accepted { length: _, nodes } => {
             if i < nodes {
-                return record_by(sheets::row_of(notes, i));
+                return record_with(sheets::row_of(notes, i));
             }
             zero_record()
         }
@@ -94,8 +102,16 @@ fn same_numbers(r: Record, row: sheets::Row) -> bool
     r.data_end == row.data_end
 }
 
-// Whether record i is the one that its note tells, and those before are.
+// The same, with room for every note.
 pub fn record_is(notes: &[usize; limits::NODES], i: usize, r: Record, before: bool) -> bool
+    requires { ⌜ Readable (now notes) i ⌝ }
+    ensures { λ b. ⌜ b ≡ agrees (now (notes .entry)) i r before ⌝ }
+{
+    record_agrees(notes, i, r, before)
+}
+
+// Whether record i is the one that its note tells, and those before are.
+pub fn record_agrees(notes: &[usize], i: usize, r: Record, before: bool) -> bool
     requires { ⌜ Readable (now notes) i ⌝ }
     ensures { λ b. ⌜ b ≡ agrees (now (notes .entry)) i r before ⌝ }
 {

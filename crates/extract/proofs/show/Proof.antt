@@ -1,4 +1,5 @@
 use Rattle.extract.proofs.Giving.{show-part, show-cuttable, show-inside, show-text, show-read}
+use Rattle.reader.specs.Stored.{most}
 use native.Mathlib.Omega.{arith}
 use borrow.Author.Needs.{needs}
 use Rattle.extract.proofs.show.Statement.{statement}
@@ -27,7 +28,7 @@ show-spec =
     cut-requires
     slice-reshare-prefix-text
     slice-aggregate-text
-    (λ c κs. search needs)
+    (λ c κs. most (search needs))
     (λ c. search needs)
     (λ c. search needs)
     returns)

@@ -9,19 +9,19 @@ returns : tie.Need-returns
 returns c = search (notes-refused, arith)
 
 put-short-requires : tie.Need-put-short-requires
-put-short-requires c κs = (search needs, (search needs, search (formed, arith)))
+put-short-requires c κs = (search needs, (search needs, (search (formed, arith), search needs)))
 
 returns-2 : tie.Need-returns-2
 returns-2 c = search (notes-taken, arith)
 
 put-middle-requires : tie.Need-put-middle-requires
-put-middle-requires c κs = (search needs, (search needs, search (formed, arith)))
+put-middle-requires c κs = (search needs, (search needs, (search (formed, arith), search needs)))
 
 returns-3 : tie.Need-returns-3
 returns-3 c = search (notes-taken, arith)
 
 put-long-requires : tie.Need-put-long-requires
-put-long-requires c κs = (search needs, (search needs, search (formed-long, arith)))
+put-long-requires c κs = (search needs, (search needs, (search (formed-long, arith), search needs)))
 
 returns-4 : tie.Need-returns-4
 returns-4 c = search (notes-taken, arith)
@@ -37,10 +37,13 @@ read-notes-spec =
     (λ c κs. search needs)
     put-short-requires
     (λ c. search needs)
+    (λ c. search needs)
     returns-2
     put-middle-requires
     (λ c. search needs)
+    (λ c. search needs)
     returns-3
     put-long-requires
+    (λ c. search needs)
     (λ c. search needs)
     returns-4)

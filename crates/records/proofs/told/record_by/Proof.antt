@@ -1,8 +1,8 @@
 use Rattle.records.proofs.Tabling.{told-readable, told-row, told-zero, told-refused}
 use native.Mathlib.Omega.{arith}
 use borrow.Author.Needs.{needs}
-use Rattle.records.proofs.told.record_of.Statement.{statement}
-use Rattle.records.proofs.told.record_of.Tie as tie
+use Rattle.records.proofs.told.record_by.Statement.{statement}
+use Rattle.records.proofs.told.record_by.Tie as tie
 
 row-of-requires : tie.Need-row-of-requires
 row-of-requires c κs = search (told-readable, arith)
@@ -16,8 +16,8 @@ returns-2 c = search (told-zero, arith)
 returns-3 : tie.Need-returns-3
 returns-3 c = search (told-refused, arith)
 
-pub record-of-spec : {M : Type 1} → statement M
-record-of-spec =
+pub record-by-spec : {M : Type 1} → statement M
+record-by-spec =
     tie.close
     (tie.spec
     (λ c. search needs)
