@@ -47,6 +47,13 @@ inner-up (list f) k up (suc i) p h =
     ∙ sym (up-shifts 0 0 k (getD (parentss f (1 + 0) 0) i 0) (omega arith))
     ∙ omega arith
 
+-- a tree's first
+pub root-up : (t : Tree) (own up : ℕ) → getD (parents t own up) 0 0 ≡ up
+unfolding parents
+root-up (plain d) own up = refl
+root-up (hinted x d) own up = refl
+root-up (list f) own up = refl
+
 -- the first of some trees
 first-up : (f : Forest) (own up : ℕ) → 0 < nodess f → getD (parentss f own up) 0 0 ≡ up
 unfolding parents nodes

@@ -133,7 +133,7 @@ module _ (c : List ℕ) (n : ℕ) (table : List ℕ) (m node : ℕ) where
           tree-of (ownTree c n table m) (sym y ∙ e)
           (λ t i.
           let o : Own c n table m t = own-of c n table m t i in
-          record { few = omega (arith, o .counted, o .sheet .fitting .many); fits = omega (arith, own-lent c n table m t o); small = l })
+          record { few = omega (arith, o .counted, o .sheet .fitting .many); fits = omega (arith, own-lent c n table m t o); small = omega (arith, l) })
 
       -- the numbers in the table are the row's
       found : {G : Type 0} → node < m → ((r : Row) → row ≡ some r → ((k : ℕ) → k < 8 → getD table (node * width + k) 0 ≡ getD (numbers r) k 0) → G) → G
