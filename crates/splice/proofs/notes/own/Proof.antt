@@ -19,6 +19,5 @@ own-spec =
     (tie.spec
     moved-requires
     (λ c. search needs)
-    (λ c. search needs)
     add-result
     returns)

@@ -21,7 +21,9 @@ renote-spec =
     tie.close
     (tie.spec
     (λ c κs. search needs)
-    (λ c κs. search needs)
+    (λ c. search needs)
+    (λ c. search needs)
+    own-requires
     (λ c. search needs)
     (λ c. search needs)
     (λ c. search needs)
