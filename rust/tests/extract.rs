@@ -61,10 +61,10 @@ fn other() -> Record {
 }
 
 fn as_records(numbers: &[u32]) -> Vec<Record> {
-    let eight = |numbers: &[u32]| <[u32; RECORD]>::try_from(numbers).expect("eight");
+    let nine = |numbers: &[u32]| <[u32; RECORD]>::try_from(numbers).expect("nine");
     numbers
         .chunks_exact(RECORD)
-        .map(|numbers| Record::from(eight(numbers)))
+        .map(|numbers| Record::from(nine(numbers)))
         .collect()
 }
 
@@ -126,7 +126,7 @@ fn a_bad_sheet_or_table_comes_first() {
         let recorded = etglavino::extract_records(sheet, length, &mut canonical, &mut records);
         assert_eq!([none, room, recorded], [Err(Refusal::NotOwn); 3]);
     }
-    let rows = [2, 0, 2, 1, 0, 0, 1, 1];
+    let rows = [2, 0, 2, 1, 0, 0, 1, 1, 0];
     let extent = Extent {
         length: 2,
         nodes: 1,
