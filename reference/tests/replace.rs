@@ -212,7 +212,7 @@ fn the_limit_of_the_text() {
 
 #[test]
 fn what_is_replaced_makes_room() {
-    let mut full = Pair::new(&verbatim(b'n', 16_378), 16_384, 8);
+    let mut full = Pair::new(&verbatim(b'n', 16_378), 16_384, 9);
     let reading = full.replace(1, &verbatim(b'm', 16_378), 0);
     assert_eq!(
         reading,

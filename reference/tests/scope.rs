@@ -133,7 +133,7 @@ fn what_is_written_may_be_twice_as_long() {
 
 #[test]
 fn the_correction_of_document_01() {
-    let mut pair = Pair::new(LIST, 20, 30);
+    let mut pair = Pair::new(LIST, 20, 33);
     let reading = pair.replace(3, b"\"hi\"", 1);
     assert_eq!(
         reading,
@@ -150,8 +150,8 @@ fn the_correction_of_document_01() {
         [0, 1, 5, 1, 0, 0, 3, 5, 0],
         [1, 5, 12, 1, 8, 9, 12, 12, 0],
     ];
-    assert_eq!(pair.table[..24], *records.as_flattened());
-    assert_eq!(pair.table[24..], [NUMBER; 6]);
+    assert_eq!(pair.table[..27], *records.as_flattened());
+    assert_eq!(pair.table[27..], [NUMBER; 6]);
 }
 
 #[test]
@@ -179,8 +179,8 @@ fn node_count() {
     );
     // 02: 5 in 8,192 records, 6 in more.
     let over = empties(8_192);
-    assert_eq!(read_into(1, &over, 20_000, 8_192 * 8).unwrap_err(), 5);
-    assert_eq!(read_into(1, &over, 20_000, 8_193 * 8).unwrap_err(), 6);
+    assert_eq!(read_into(1, &over, 20_000, 8_192 * 9).unwrap_err(), 5);
+    assert_eq!(read_into(1, &over, 20_000, 8_193 * 9).unwrap_err(), 6);
     assert_eq!(canonical(1, &over[..16_385]), Err(3));
 }
 
