@@ -137,7 +137,7 @@ module _ (t : Tree) where
       by (list f) zero p h = absurd (omega arith)
       by (list f) (suc k) p h = rise-in f 0 0 k _ (rise-forest f (0 + 1) 0 (0 + 1) k (omega arith))
 
-  pub climb-level : (n k : ℕ) → k < nodes t → level k ≤ n → climb t n k ≡ 0
+  climb-level : (n k : ℕ) → k < nodes t → level k ≤ n → climb t n k ≡ 0
   unfolding climb
   climb-level zero k h l = by-eq k 0 (λ z. z) (λ z. absurd (omega (arith, step-level k (omega arith) h)))
   climb-level (suc n) k h l =
