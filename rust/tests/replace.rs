@@ -50,8 +50,8 @@ fn records_that_are_gone_become_zero() {
         nodes: 1,
     };
     assert_eq!(sheet.replace(1, b"1:q", 0), Ok(extent));
-    let mut table = [0; 24];
-    table[..8].copy_from_slice(&[0, 0, 3, 1, 0, 0, 2, 3]);
+    let mut table = [0; 27];
+    table[..9].copy_from_slice(&[0, 0, 3, 1, 0, 0, 2, 3, 0]);
     let octets = [&b"1:q"[..], &[0; 11]].concat();
     let expected = Sheet {
         extent,
@@ -70,7 +70,7 @@ fn the_lists_around_a_node_grow_with_it() {
         0, 5, 8, 1, 0, 0, 7, 8, 2, //
         0, 9, 12, 1, 0, 0, 11, 12, 0,
     ];
-    let mut sheet = Sheet::exact(b"(1:a(1:b)1:c)", &old).spare(5, 11);
+    let mut sheet = Sheet::exact(b"(1:a(1:b)1:c)", &old).spare(5, 12);
     assert_eq!(sheet.replace(3, b"([h]dd)", 3), Err(Refusal::Size));
     assert_eq!(sheet.replace(3, b"(d e)", 3), Err(Refusal::Nodes));
     let extent = Extent {
@@ -92,7 +92,7 @@ fn the_lists_around_a_node_grow_with_it() {
 
 #[test]
 fn an_insertion_tells_where_its_text_went_wrong() {
-    let (mut canonical, mut table) = ([0; 32], [0; 32]);
+    let (mut canonical, mut table) = ([0; 32], [0; 36]);
     let sheet = etglavino::read_form(1, LIST, &mut canonical, &mut table).expect("a sheet");
     let slot = Slot { node: 0, k: 1 };
     for (form, text, place) in [
