@@ -18,11 +18,12 @@
  *   over must be zero.
  *
  * A sheet is a tree's canonical form in the first `length` octets of a lent
- * buffer. Its table has eight numbers to a node, in the order in which nodes
+ * buffer. Its table has nine numbers to a node, in the order in which nodes
  * begin: kind (0 string, 1 string with hint, 2 list), start, end (one past),
- * nodes in it counting itself, hint start and end, data start and end, all
- * offsets into the sheet. Without a hint both hint numbers are 0. A list's
- * data is what stands between its parentheses. A host keeps the table either
+ * nodes in it counting itself, hint start and end, data start and end, offsets
+ * being into the sheet, and the node number of the list directly around it, 0
+ * for node 0. Without a hint both hint numbers are 0. A list's data is what
+ * stands between its parentheses. A host keeps the table either
  * flat, as numbers, or as records; each function that takes a table comes in
  * both ways and gives the same answers.
  *
@@ -133,11 +134,12 @@ enum {
 #define ETG_MOST_SOURCE 32768
 #define ETG_MOST_CANONICAL 16384
 #define ETG_MOST_NODES 8192
-#define ETG_RECORD 8 /* numbers to a record */
+#define ETG_RECORD 9 /* numbers to a record */
 
-/* A node's record: the eight numbers of a flat table, in the same order. */
+/* A node's record: the nine numbers of a flat table, in the same order. `parent`
+ * is the number of the list directly around the node, and 0 for node 0. */
 struct etg_record {
-    uint32_t kind, start, end, nodes, hint_start, hint_end, data_start, data_end;
+    uint32_t kind, start, end, nodes, hint_start, hint_end, data_start, data_end, parent;
 };
 
 /* The version of the library that is linked. This and the next one are in what

@@ -225,7 +225,7 @@ impl Table for Record {
         let records = numbers.chunks_exact(RECORD);
         let record = |numbers: &[u32]| numbers.try_into().map(|record: [u32; 8]| record.into());
         records
-            .map(|numbers| record(numbers).expect("eight"))
+            .map(|numbers| record(numbers).expect("nine"))
             .collect()
     }
 }

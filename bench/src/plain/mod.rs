@@ -170,12 +170,12 @@ impl Reader {
                         return None;
                     }
                     let data = verbatim(source, hint.1 + 1)?;
-                    self.records.push(row(1, at, hint, data));
+                    self.records.push(row(1, at, hint, data, self.around()));
                     data.1
                 }
                 _ => {
                     let data = verbatim(source, at)?;
-                    self.records.push(row(0, at, (0, 0), data));
+                    self.records.push(row(0, at, (0, 0), data, self.around()));
                     data.1
                 }
             };
@@ -201,9 +201,11 @@ impl Reader {
 
     /// A list begins at this place of the canonical octets.
     fn opened(&mut self, at: usize) -> usize {
+        let around = self.around();
         self.open.push(self.records.len());
         self.deepest = self.deepest.max(self.open.len());
-        self.records.push(row(2, at, (0, 0), (at + 1, at + 1)));
+        self.records
+            .push(row(2, at, (0, 0), (at + 1, at + 1), around));
         at + 1
     }
 
@@ -221,15 +223,28 @@ impl Reader {
     /// The string that was just written up to the end.
     fn record(&mut self, kind: u32, start: usize, hint: (usize, usize), data: usize) {
         let data = (data, self.canonical.len());
-        self.records.push(row(kind, start, hint, data));
+        self.records
+            .push(row(kind, start, hint, data, self.around()));
+    }
+
+    /// The list that is open, 0 where none is.
+    fn around(&self) -> usize {
+        self.open.last().copied().unwrap_or(0)
     }
 }
 
 /// The record of a string or of a list just opened: it ends where its data does.
-fn row(kind: u32, start: usize, hint: (usize, usize), data: (usize, usize)) -> [u32; RECORD] {
+fn row(
+    kind: u32,
+    start: usize,
+    hint: (usize, usize),
+    data: (usize, usize),
+    around: usize,
+) -> [u32; RECORD] {
     // A source has at most 32,768 octets, three times which fit.
-    let [start, from, to, begin, end] = [start, hint.0, hint.1, data.0, data.1].map(|n| n as u32);
-    [kind, start, end, 1, from, to, begin, end]
+    let [start, from, to, begin, end, around] =
+        [start, hint.0, hint.1, data.0, data.1, around].map(|n| n as u32);
+    [kind, start, end, 1, from, to, begin, end, around]
 }
 
 /// The place after whitespace.

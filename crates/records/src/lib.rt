@@ -26,7 +26,7 @@ pub use foremen::extract;
 pub use foremen::extract_own;
 pub use piecing::pieces_end;
 
-// A node's record: its eight numbers, in document 01's order.
+// A node's record: its eight numbers, in document 01's order, and the number of the list directly around it, 0 for node 0.
 #[repr(C)]
 pub struct Record {
     pub kind: u32,
@@ -37,6 +37,7 @@ pub struct Record {
     pub hint_end: u32,
     pub data_start: u32,
     pub data_end: u32,
+    pub parent: u32,
 }
 
 // The records that an answer touches become those that notes tell.
