@@ -39,5 +39,5 @@ sets-all l vs h = let z : 0 + length vs ≡ length vs = omega arith in sets-eq v
 -- nine stores, one after the other
 pub stores-9 : (l : List ℕ) (i a b c d e f g h j : ℕ)
     → set (set (set (set (set (set (set (set (set l i a) (i + 1) b) (i + 2) c) (i + 3) d) (i + 4) e) (i + 5) f) (i + 6) g) (i + 7) h) (i + 8) j
-        ≡ sets l i (a ∷ b ∷ c ∷ d ∷ e ∷ f ∷ g ∷ h ∷ j ∷ [])
+    ≡ sets l i (a ∷ b ∷ c ∷ d ∷ e ∷ f ∷ g ∷ h ∷ j ∷ [])
 stores-9 l i a b c d e f g h j = rw (add-one i, add-two i, add-three i, add-four i, add-five i, add-six i, add-seven i, add-eight i)
