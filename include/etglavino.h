@@ -14,7 +14,8 @@
  *   counts, node numbers, forms and what stands in the buffers may be anything.
  *
  * Forms (both of what comes in and of what goes out)
- *   1 canonical, 2 basic, 3 advanced (RFC 9804). Low bits that base-64 leaves
+ *   1 canonical, 2 basic, 3 advanced (RFC 9804), and of what comes in also 4,
+ *   advanced with trees in base-64 in braces. Low bits that base-64 leaves
  *   over must be zero.
  *
  * A sheet is a tree's canonical form in the first `length` octets of a lent

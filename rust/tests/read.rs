@@ -37,7 +37,7 @@ fn forms_by_name_are_forms_by_number() {
         (Form::Terminal1997, b"({MzphYmM=}{WzE6eF0wOg==})"),
     ];
     for (form, source) in sources {
-        let (mut octets, mut table) = ([OCTET; 15], [NUMBER; 25]);
+        let (mut octets, mut table) = ([OCTET; 15], [NUMBER; 28]);
         let answer = etglavino::read(form, source, &mut octets, &mut table);
         let extent = Extent {
             length: 14,
@@ -45,7 +45,7 @@ fn forms_by_name_are_forms_by_number() {
         };
         assert_eq!(answer, Ok(extent), "{form:?}");
         assert_eq!((&octets[..14], octets[14]), (LIST, OCTET));
-        assert_eq!((&table[..24], table[24]), (&LIST_TABLE[..], NUMBER));
+        assert_eq!((&table[..27], table[27]), (&LIST_TABLE[..], NUMBER));
     }
     // Not every form takes each of these.
     assert_eq!(canonical(1, b"{KCk=}"), Err(Refusal::Syntax { place: 0 }));

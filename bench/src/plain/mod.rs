@@ -111,21 +111,23 @@ impl Reader {
     }
 
     /// A tree in braces; the place after them. It is read by itself, and its
-    /// records are moved to where its octets go.
+    /// records are moved to where its octets and its nodes go.
     fn inner(&mut self, source: &[u8], at: usize) -> Option<usize> {
         let mut decoded = Vec::new();
         let next = strings::base64(source, at + 1, b'}', &mut decoded)?;
         let mut tree = Reader::new();
         tree.canonical(&decoded)?;
         let from = self.canonical.len() as u32;
+        let (around, first) = (self.around() as u32, self.records.len() as u32);
         self.deepest = self.deepest.max(self.open.len() + tree.deepest);
         self.canonical.append(&mut tree.canonical);
-        for mut record in tree.records {
+        for (node, mut record) in tree.records.into_iter().enumerate() {
             // A hint's places are 0 where there is none.
             let moved = if record[0] == 1 { 4..8 } else { 6..8 };
             for place in (1..3).chain(moved) {
                 record[place] += from;
             }
+            record[8] = if node == 0 { around } else { first + record[8] };
             self.records.push(record);
         }
         Some(next)

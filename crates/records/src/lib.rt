@@ -135,8 +135,8 @@ fn read_middle(form: u32, source: &[u8], canonical: &mut [u8], records: &mut [Re
     read_in(form, source, canonical, records, &mut notes)
 }
 
-// A text of the form named (1 canonical, 2 basic, 3 advanced) into canonical octets and the records of its nodes. In a
-// refusal both lent buffers hold what they held; in an acceptance what lies past the octets and the records stays.
+// A text of the form named (1 canonical, 2 basic, 3 advanced, 4 advanced with trees in braces) into canonical octets and the records of
+// its nodes. In a refusal both lent buffers hold what they held; in an acceptance what lies past the octets and the records stays.
 pub fn read(form: u32, source: &[u8], canonical: &mut [u8], records: &mut [Record]) -> Reading
     ensures { λ r. ⌜ outcome r (now (canonical .exit)) (numbers (now (records .exit))) ≡ reading form (now (source .entry)) (now (canonical .entry)) (numbers (now (records .entry))) ⌝ }
 {
