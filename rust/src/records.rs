@@ -30,8 +30,7 @@ pub struct Record {
 
 impl From<[u32; RECORD]> for Record {
     fn from(numbers: [u32; RECORD]) -> Record {
-        let [kind, start, end, nodes, hint_start, hint_end, data_start, data_end, parent] =
-            numbers;
+        let [kind, start, end, nodes, hint_start, hint_end, data_start, data_end, parent] = numbers;
         Record {
             kind,
             start,
