@@ -14,51 +14,53 @@
  *   counts, node numbers, forms and what stands in the buffers may be anything.
  *
  * Forms (both of what comes in and of what goes out)
- *   1 canonical, 2 basic, 3 advanced (RFC 9804). Low bits that base-64 leaves
+ *   1 canonical, 2 basic, 3 advanced (RFC 9804), and of what comes in also 4,
+ *   advanced with trees in base-64 in braces. Low bits that base-64 leaves
  *   over must be zero.
  *
  * A sheet is a tree's canonical form in the first `length` octets of a lent
- * buffer. Its table has eight numbers to a node, in the order in which nodes
+ * buffer. Its table has nine numbers to a node, in the order in which nodes
  * begin: kind (0 string, 1 string with hint, 2 list), start, end (one past),
- * nodes in it counting itself, hint start and end, data start and end, all
- * offsets into the sheet. Without a hint both hint numbers are 0. A list's
- * data is what stands between its parentheses. A host keeps the table either
+ * nodes in it counting itself, hint start and end, data start and end, offsets
+ * being into the sheet, and the node number of the list directly around it, 0
+ * for node 0. Without a hint both hint numbers are 0. A list's data is what
+ * stands between its parentheses. A host keeps the table either
  * flat, as numbers, or as records; each function that takes a table comes in
  * both ways and gives the same answers.
  *
  * Stack that a call takes at most, in octets (x86-64), besides what the C
  * library's memset and memcpy take:
  *   etg_read                 120,824
- *   etg_read_records         120,008
+ *   etg_read_records         120,040
  *   etg_write                 35,112
  *   etg_replace              120,632
- *   etg_replace_records      120,232
+ *   etg_replace_records      134,552
  *   etg_insert               120,632
- *   etg_insert_records       120,232
+ *   etg_insert_records       134,552
  *   etg_remove               120,648
- *   etg_remove_records       120,248
+ *   etg_remove_records       134,552
  *   etg_same                   2,408
  *   etg_hint                  67,896
- *   etg_hint_records          67,816
+ *   etg_hint_records          81,976
  *   etg_data                  67,896
- *   etg_data_records          67,816
+ *   etg_data_records          81,976
  *   etg_spool_open             2,408
  *   etg_spool_add_start        2,472
  *   etg_spool_add_step            32
  *   etg_spool_add_commits          8
  *   etg_spool_add              2,472
  *   etg_value                 67,848
- *   etg_value_records         67,832
+ *   etg_value_records         67,848
  *   etg_put_value                 24
  *   etg_line                  67,864
  *   etg_line_records          67,848
  *   etg_total                     72
  *   etg_week                  67,848
  *   etg_week_records          67,832
- *   etg_extract              136,600
- *   etg_extract_own          136,600
- *   etg_extract_records      136,584
- *   etg_extract_own_records  136,584
+ *   etg_extract              136,616
+ *   etg_extract_own          136,616
+ *   etg_extract_records      136,600
+ *   etg_extract_own_records  136,616
  *   etg_split                    184
  *   etg_pieces_start               8
  *   etg_pieces_feed              328
@@ -133,11 +135,12 @@ enum {
 #define ETG_MOST_SOURCE 32768
 #define ETG_MOST_CANONICAL 16384
 #define ETG_MOST_NODES 8192
-#define ETG_RECORD 8 /* numbers to a record */
+#define ETG_RECORD 9 /* numbers to a record */
 
-/* A node's record: the eight numbers of a flat table, in the same order. */
+/* A node's record: the nine numbers of a flat table, in the same order. `parent`
+ * is the number of the list directly around the node, and 0 for node 0. */
 struct etg_record {
-    uint32_t kind, start, end, nodes, hint_start, hint_end, data_start, data_end;
+    uint32_t kind, start, end, nodes, hint_start, hint_end, data_start, data_end, parent;
 };
 
 /* The version of the library that is linked. This and the next one are in what

@@ -1,7 +1,7 @@
 //! The texts that are read: short ones, and ones of trees whose canonical form
 //! nearly fills 16 KiB.
 
-use etglavino::{MAX_CANONICAL, MAX_NODES};
+use etglavino::{MAX_CANONICAL, MAX_NODES, RECORD};
 use reference::base64;
 use reference::corpus::rng::Rng;
 use reference::entries::{self, Reading, Writing};
@@ -195,7 +195,7 @@ fn short(name: &'static str, form: u32, source: Vec<u8>) -> Text {
 
 /// The canonical octets of an advanced text that fits, by the reference program.
 pub fn canonical_of(text: &[u8]) -> Vec<u8> {
-    let (mut canonical, mut table) = (vec![0; MAX_CANONICAL], vec![0; MAX_NODES * 8]);
+    let (mut canonical, mut table) = (vec![0; MAX_CANONICAL], vec![0; MAX_NODES * RECORD]);
     match entries::read(3, text, &mut canonical, &mut table) {
         Reading::Accepted { length, .. } => canonical[..length].to_vec(),
         Reading::Refused(number) => panic!("refused {number}"),

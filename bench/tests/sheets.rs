@@ -89,32 +89,43 @@ fn texts_that_are_timed() {
 
 const LIST: &[u8] = b"(3:abc[1:x]0:)";
 const LIST_TABLE: [[u32; RECORD]; 3] = [
-    [2, 0, 14, 3, 0, 0, 1, 13],
-    [0, 1, 6, 1, 0, 0, 3, 6],
-    [1, 6, 13, 1, 9, 10, 13, 13],
+    [2, 0, 14, 3, 0, 0, 1, 13, 0],
+    [0, 1, 6, 1, 0, 0, 3, 6, 0],
+    [1, 6, 13, 1, 9, 10, 13, 13, 0],
 ];
 
 #[test]
 fn starred_and_accepted() {
     for form in [1, 2, 3, 4] {
-        accepted(form, b"()", b"()", &[[2, 0, 2, 1, 0, 0, 1, 1]]);
-        accepted(form, b"0:", b"0:", &[[0, 0, 2, 1, 0, 0, 2, 2]]);
+        accepted(form, b"()", b"()", &[[2, 0, 2, 1, 0, 0, 1, 1, 0]]);
+        accepted(form, b"0:", b"0:", &[[0, 0, 2, 1, 0, 0, 2, 2, 0]]);
         accepted(form, LIST, LIST, &LIST_TABLE);
     }
     accepted(3, b" ( abc [ x ] \"\" ) ", LIST, &LIST_TABLE);
     accepted(2, b"{KDM6YWJjWzE6eF0wOik=}", LIST, &LIST_TABLE);
     accepted(4, b"(abc {WzE6eF0wOg==})", LIST, &LIST_TABLE);
     accepted(4, b"{KDM6YWJjWzE6eF0wOik=}", LIST, &LIST_TABLE);
-    accepted(3, b"\"hi\"", b"2:hi", &[[0, 0, 4, 1, 0, 0, 2, 4]]);
+    // (3:abc[1:x]0:) in two lists, after a string
+    let records = [
+        [2, 0, 20, 6, 0, 0, 1, 19, 0],
+        [0, 1, 3, 1, 0, 0, 3, 3, 0],
+        [2, 3, 19, 4, 0, 0, 4, 18, 0],
+        [2, 4, 18, 3, 0, 0, 5, 17, 2],
+        [0, 5, 10, 1, 0, 0, 7, 10, 3],
+        [1, 10, 17, 1, 13, 14, 17, 17, 3],
+    ];
+    let braced = b"(\"\"({KDM6YWJjWzE6eF0wOik=}))";
+    accepted(4, braced, b"(0:((3:abc[1:x]0:)))", &records);
+    accepted(3, b"\"hi\"", b"2:hi", &[[0, 0, 4, 1, 0, 0, 2, 4, 0]]);
     let corrected = b"(2:hi[1:x]0:)";
     let records = [
-        [2, 0, 13, 3, 0, 0, 1, 12],
-        [0, 1, 5, 1, 0, 0, 3, 5],
-        [1, 5, 12, 1, 8, 9, 12, 12],
+        [2, 0, 13, 3, 0, 0, 1, 12, 0],
+        [0, 1, 5, 1, 0, 0, 3, 5, 0],
+        [1, 5, 12, 1, 8, 9, 12, 12, 0],
     ];
     accepted(3, b"(\"hi\" [x]\"\")", corrected, &records);
-    accepted(3, b"a3:xyz", b"6:a3:xyz", &[[0, 0, 8, 1, 0, 0, 2, 8]]);
-    accepted(3, b"|YWJjZA|", b"4:abcd", &[[0, 0, 6, 1, 0, 0, 2, 6]]);
+    accepted(3, b"a3:xyz", b"6:a3:xyz", &[[0, 0, 8, 1, 0, 0, 2, 8, 0]]);
+    accepted(3, b"|YWJjZA|", b"4:abcd", &[[0, 0, 6, 1, 0, 0, 2, 6, 0]]);
 }
 
 #[test]
@@ -135,8 +146,8 @@ fn starred_and_refused() {
 #[test]
 fn not_starred() {
     refused(1, b"3:abc\n", Refusal::Syntax { place: 5 });
-    accepted(3, b"3:abc\n", b"3:abc", &[[0, 0, 5, 1, 0, 0, 2, 5]]);
-    accepted(3, b"\"\\377\"", b"1:\xff", &[[0, 0, 3, 1, 0, 0, 2, 3]]);
+    accepted(3, b"3:abc\n", b"3:abc", &[[0, 0, 5, 1, 0, 0, 2, 5, 0]]);
+    accepted(3, b"\"\\377\"", b"1:\xff", &[[0, 0, 3, 1, 0, 0, 2, 3, 0]]);
     refused(3, b"\"\\400\"", Refusal::Syntax { place: 0 });
 }
 
@@ -145,8 +156,8 @@ fn lists_in_lists() {
     let nested = |depth| [vec![b'('; depth], vec![b')'; depth]].concat();
     let mut records = Vec::new();
     for level in 0..128 {
-        let end = 256 - level;
-        records.push([2, level, end, 128 - level, 0, 0, level + 1, end - 1]);
+        let (end, up) = (256 - level, level.max(1) - 1);
+        records.push([2, level, end, 128 - level, 0, 0, level + 1, end - 1, up]);
     }
     accepted(3, &nested(128), &nested(128), &records);
     refused(3, &nested(129), Refusal::Depth);
@@ -156,10 +167,10 @@ fn lists_in_lists() {
 #[test]
 fn empty_strings() {
     let empties = |count| format!("({})", "0:".repeat(count)).into_bytes();
-    let mut records = vec![[2, 0, 16_384, 8_192, 0, 0, 1, 16_383]];
+    let mut records = vec![[2, 0, 16_384, 8_192, 0, 0, 1, 16_383, 0]];
     for string in 0..8_191 {
         let start = 1 + 2 * string;
-        records.push([0, start, start + 2, 1, 0, 0, start + 2, start + 2]);
+        records.push([0, start, start + 2, 1, 0, 0, start + 2, start + 2, 0]);
     }
     accepted(3, &empties(8_191), &empties(8_191), &records);
     // Two octets too many, in records enough.
@@ -169,7 +180,7 @@ fn empty_strings() {
 #[test]
 fn one_long_string() {
     let verbatim = |count| format!("{count}:{}", "v".repeat(count)).into_bytes();
-    let record = [0, 0, 16_384, 1, 0, 0, 6, 16_384];
+    let record = [0, 0, 16_384, 1, 0, 0, 6, 16_384, 0];
     accepted(3, &verbatim(16_378), &verbatim(16_378), &[record]);
     refused(3, &verbatim(16_379), Refusal::Size);
 }

@@ -218,7 +218,7 @@ impl Lent {
         let mut records: Vec<Record> = self
             .table
             .chunks_exact(RECORD)
-            .map(|eight| Record::from(<[u32; RECORD]>::try_from(eight).expect("eight numbers")))
+            .map(|nine| Record::from(<[u32; RECORD]>::try_from(nine).expect("nine numbers")))
             .collect();
         let answer = etglavino::replace_records_form(
             by.form,
@@ -228,8 +228,8 @@ impl Lent {
             self.sheet,
             by.node,
         );
-        for (eight, record) in self.table.chunks_exact_mut(RECORD).zip(&records) {
-            eight.copy_from_slice(&<[u32; RECORD]>::from(*record));
+        for (nine, record) in self.table.chunks_exact_mut(RECORD).zip(&records) {
+            nine.copy_from_slice(&<[u32; RECORD]>::from(*record));
         }
         self.left(answer.map_err(|refusal| refusal.number()))
     }

@@ -124,8 +124,8 @@ impl Lent {
         let (mut octets, mut table) = (self.octets.clone(), self.table.clone());
         let numbers = raw::numbers(entry, form, text, &mut octets, &mut table, self.sheet);
         let mut octets = self.octets.clone();
-        let eight = |row: &[u32]| Record::from(<[u32; RECORD]>::try_from(row).expect("a row"));
-        let mut table: Vec<Record> = self.table.chunks_exact(RECORD).map(eight).collect();
+        let nine = |row: &[u32]| Record::from(<[u32; RECORD]>::try_from(row).expect("a row"));
+        let mut table: Vec<Record> = self.table.chunks_exact(RECORD).map(nine).collect();
         let records = raw::records(entry, form, text, &mut octets, &mut table, self.sheet);
         [numbers, records]
     }

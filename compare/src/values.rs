@@ -115,7 +115,7 @@ fn ask(tally: &mut Tally, lent: second::Lent<'_>, node: usize) {
     let table: Box<[u32]> = lent.table.into();
     let records: Box<[Record]> = table
         .chunks_exact(RECORD)
-        .map(|eight| Record::from(<[u32; RECORD]>::try_from(eight).expect("eight")))
+        .map(|nine| Record::from(<[u32; RECORD]>::try_from(nine).expect("nine")))
         .collect();
     let extent = Extent {
         length: lent.length,

@@ -19,14 +19,14 @@ MAX_NODES = MAX_CANONICAL // 2
 no limit of its own."""
 MAX_DEPTH = 128
 """How deep lists may nest; an outermost list is 1."""
-RECORD = 8
+RECORD = 9
 """Numbers to a node."""
 
 Octets = Union[bytes, bytearray, memoryview]
 """What is taken where octets are asked for."""
 
 Table = ctypes.Array[ctypes.c_uint32]
-"""Eight numbers to a node, as the library is lent them."""
+"""Nine numbers to a node, as the library is lent them."""
 
 
 class Form(IntEnum):

@@ -26,6 +26,8 @@ class Node(NamedTuple):
     data_start: int
     """A list's data is what stands between its parentheses."""
     data_end: int
+    parent: int
+    """The number of the list directly around it; 0 for node 0, which is in none."""
 
 
 @final
@@ -96,10 +98,8 @@ class Sheet:
     def parent(self, node: int) -> int | None:
         """The number of the list directly around a node; the whole has none.
         Refusals: 7, 8."""
-        self._record(node)
-        before = range(node - 1, -1, -1)
-        # Of all that hold it the nearest began last.
-        return next((at for at in before if at + self.nodes[at].nodes > node), None)
+        record = self._record(node)
+        return record.parent if node else None
 
     def path(self, node: int) -> str:
         """A node's path from the whole, as `0/3/1`: elements level by level, each

@@ -7,11 +7,11 @@ LIST = b"(3:abc[1:x]0:)"
 """The list that document 01 works with."""
 
 LIST_NODES = (
-    Node(2, 0, 14, 3, 0, 0, 1, 13),
-    Node(0, 1, 6, 1, 0, 0, 3, 6),
-    Node(1, 6, 13, 1, 9, 10, 13, 13),
+    Node(2, 0, 14, 3, 0, 0, 1, 13, 0),
+    Node(0, 1, 6, 1, 0, 0, 3, 6, 0),
+    Node(1, 6, 13, 1, 9, 10, 13, 13, 0),
 )
-"""Its records, as document 01 prints them."""
+"""Its records, as documents 01 and 02 print them."""
 
 
 def nested(depth: int) -> bytes:

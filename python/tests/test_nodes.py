@@ -52,7 +52,7 @@ class Nodes(unittest.TestCase):
     def test_a_table_that_is_not_the_octets_own(self) -> None:
         good = Sheet(LIST, LIST_NODES)
         self.assertEqual(good.children(0), (1, 2))
-        endless = Node(2, 0, 14, 0, 0, 0, 1, 13)
+        endless = Node(2, 0, 14, 0, 0, 0, 1, 13, 0)
         for nodes in ((LIST_NODES[0], endless, endless), LIST_NODES[:2], ()):
             bad = Sheet(LIST, nodes)
             for ask in (bad.children, bad.parent, bad.path):

@@ -59,9 +59,9 @@ class Replace(Case):
         corrected = replace(Form.ADVANCED, b'"hi"', sheet, 1)
         self.assertEqual(corrected.canonical, b"(2:hi[1:x]0:)")
         nodes = (
-            Node(2, 0, 13, 3, 0, 0, 1, 12),
-            Node(0, 1, 5, 1, 0, 0, 3, 5),
-            Node(1, 5, 12, 1, 8, 9, 12, 12),
+            Node(2, 0, 13, 3, 0, 0, 1, 12, 0),
+            Node(0, 1, 5, 1, 0, 0, 3, 5, 0),
+            Node(1, 5, 12, 1, 8, 9, 12, 12, 0),
         )
         self.assertEqual(corrected.nodes, nodes)
         self.assertEqual((sheet.canonical, sheet.nodes), (LIST, LIST_NODES))
@@ -97,6 +97,7 @@ class Replace(Case):
             (first, second),
             (first, second, third, third),
             (first, second, third._replace(data_end=14)),
+            (first, second, third._replace(parent=1)),
             (),
         ):
             bad = Sheet(LIST, nodes)

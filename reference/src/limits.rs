@@ -11,7 +11,7 @@ pub const MAX_CANONICAL: usize = 16_384;
 pub const MAX_NODES: usize = MAX_CANONICAL / 2;
 
 /// Numbers in one record of a node table.
-pub const RECORD: usize = 8;
+pub const RECORD: usize = 9;
 
 /// Form number: canonical.
 pub const CANONICAL: u32 = 1;

@@ -102,11 +102,12 @@ impl Tree {
     /// The canonical octets and the node table.
     pub fn layout(&self) -> Layout {
         let mut layout = Layout::default();
-        self.lay(&mut layout);
+        self.lay(&mut layout, 0);
         layout
     }
 
-    fn lay(&self, layout: &mut Layout) {
+    /// Laid out as an element of the list that is node `parent`, or as the whole.
+    fn lay(&self, layout: &mut Layout, parent: u32) {
         let node = layout.records.len();
         let start = layout.here();
         // The place is taken first: a list's record comes before its elements'.
@@ -115,7 +116,7 @@ impl Tree {
             Tree::List(items) => {
                 layout.octets.push(b'(');
                 let inside = layout.here();
-                items.iter().for_each(|item| item.lay(layout));
+                items.iter().for_each(|item| item.lay(layout, number(node)));
                 let data = (inside, layout.here());
                 layout.octets.push(b')');
                 (KIND_LIST, (0, 0), data)
@@ -133,7 +134,9 @@ impl Tree {
         };
         let nodes = number(layout.records.len() - node);
         let end = layout.here();
-        layout.records[node] = [kind, start, end, nodes, hint.0, hint.1, data.0, data.1];
+        layout.records[node] = [
+            kind, start, end, nodes, hint.0, hint.1, data.0, data.1, parent,
+        ];
     }
 
     /// Whether two trees are equal where a missing hint counts as the default.

@@ -96,12 +96,12 @@ fn random_cases_are_accepted_often() {
 #[test]
 fn one_case_octet_by_octet() {
     let octets = [
-        &[33, 0, 0, 0][..],                       // size of what follows
-        &[1],                                     // read
-        &[3, 0, 0, 0],                            // form
-        &[1, 0, 0, 0, b'a'],                      // source: count, octets
-        &[4, 0, 0, 0, 250, 1, 0, 0, 0, 77],       // room, fill, count, one octet
-        &[9, 0, 0, 0, 9, 1, 0, 0, 0, 1, 2, 0, 0], // room, fill, count, one number
+        &[33, 0, 0, 0][..],                        // size of what follows
+        &[1],                                      // read
+        &[3, 0, 0, 0],                             // form
+        &[1, 0, 0, 0, b'a'],                       // source: count, octets
+        &[4, 0, 0, 0, 250, 1, 0, 0, 0, 77],        // room, fill, count, one octet
+        &[10, 0, 0, 0, 9, 1, 0, 0, 0, 1, 2, 0, 0], // room, fill, count, one number
     ]
     .concat();
     let cases = wire::decode_all(&octets).unwrap();
@@ -112,13 +112,13 @@ fn one_case_octet_by_octet() {
         panic!("one read");
     };
     assert_eq!(canonical.buffer(), [77, 0, 1, 2]);
-    assert_eq!(table.buffer(), [513, 10, 11, 12, 13, 14, 15, 16, 17]);
+    assert_eq!(table.buffer(), [513, 10, 11, 12, 13, 14, 15, 16, 17, 18]);
     let outcome = run(&cases[0]);
-    // The octets 1:a and 2; the record, then 17.
+    // The octets 1:a and 2; the record, then 18.
     assert_eq!(digest([49, 58, 97, 2].into_iter()), 884_943_376);
-    let table = digest([0, 0, 3, 1, 0, 0, 2, 3, 17].into_iter());
-    assert_eq!(table, 1_496_256_907);
-    let line = "5 read 0 3 1 884943376 1496256907\n";
+    let table = digest([0, 0, 3, 1, 0, 0, 2, 3, 0, 18].into_iter());
+    assert_eq!(table, 68_225_906);
+    let line = "5 read 0 3 1 884943376 68225906\n";
     assert_eq!(outcome.line(5, "read"), line);
     assert_eq!(wire::encode(&cases[0]), octets);
 }

@@ -102,7 +102,7 @@ fn an_empty_hint_is_shown_as_such() {
 
 #[test]
 fn bad_forms_and_tables_show_the_default_and_nothing() {
-    let spoilers: [fn(&mut Pair); 9] = [
+    let spoilers: [fn(&mut Pair); 10] = [
         |pair| pair.length += 1,
         |pair| pair.length -= 1,
         |pair| pair.length = usize::MAX,
@@ -110,7 +110,9 @@ fn bad_forms_and_tables_show_the_default_and_nothing() {
         |pair| pair.nodes = 0,
         |pair| pair.nodes += 1 << 61,
         |pair| pair.table[20] = u32::MAX,
-        |pair| pair.table.truncate(23),
+        // A parent that the node is not in.
+        |pair| pair.table[26] = 1,
+        |pair| pair.table.truncate(26),
         |pair| pair.canonical[0] = b'[',
     ];
     for (number, spoil) in spoilers.into_iter().enumerate() {

@@ -5,11 +5,11 @@ use reference::limits::*;
 use reference::pieces::{Ended, Pieces};
 
 const LIST: &[u8] = b"(3:abc[1:x]0:)";
-/// Its table, as document 01 prints it.
-const LIST_TABLE: [u32; 24] = [
-    2, 0, 14, 3, 0, 0, 1, 13, //
-    0, 1, 6, 1, 0, 0, 3, 6, //
-    1, 6, 13, 1, 9, 10, 13, 13,
+/// Its table, as documents 01 and 02 print it.
+const LIST_TABLE: [u32; 27] = [
+    2, 0, 14, 3, 0, 0, 1, 13, 0, //
+    0, 1, 6, 1, 0, 0, 3, 6, 0, //
+    1, 6, 13, 1, 9, 10, 13, 13, 0,
 ];
 
 const fn refused(number: u32, place: usize) -> Ended {
@@ -32,17 +32,17 @@ fn ended(text: &[u8], size: usize, room: usize, numbers: usize) -> Ended {
 #[test]
 fn the_list_in_every_two_pieces() {
     for cut in 0..=LIST.len() {
-        let (mut canonical, mut table) = ([9; 16], [7; 25]);
-        let mut pieces = Pieces::start(&canonical, 25);
+        let (mut canonical, mut table) = ([9; 16], [7; 28]);
+        let mut pieces = Pieces::start(&canonical, 28);
         let (one, other) = LIST.split_at(cut);
-        assert_eq!(pieces.feed(one, &mut canonical, 25), Ok(cut));
+        assert_eq!(pieces.feed(one, &mut canonical, 28), Ok(cut));
         assert_eq!(
             (&canonical[..cut], &canonical[cut..]),
             (one, &[9; 16][cut..])
         );
-        assert_eq!(pieces.feed(b"", &mut canonical, 25), Ok(cut));
-        assert_eq!(pieces.feed(other, &mut canonical, 25), Ok(14));
-        assert_eq!(table, [7; 25]);
+        assert_eq!(pieces.feed(b"", &mut canonical, 28), Ok(cut));
+        assert_eq!(pieces.feed(other, &mut canonical, 28), Ok(14));
+        assert_eq!(table, [7; 28]);
         let reading = Reading::Accepted {
             length: 14,
             nodes: 3,
@@ -50,22 +50,22 @@ fn the_list_in_every_two_pieces() {
         let end = pieces.end(&mut canonical, &mut table);
         assert_eq!(end, Ended { reading, place: 0 });
         assert_eq!((&canonical[..14], &canonical[14..]), (LIST, &[9, 9][..]));
-        assert_eq!((&table[..24], table[24]), (&LIST_TABLE[..], 7));
+        assert_eq!((&table[..27], table[27]), (&LIST_TABLE[..], 7));
     }
 }
 
 #[test]
 fn ends_that_are_refused() {
     for size in [1, 2, 3, 99] {
-        assert_eq!(ended(b"", size, 16, 24), refused(3, 0));
-        assert_eq!(ended(b"3:abcX", size, 16, 24), refused(3, 5));
-        assert_eq!(ended(b"03:", size, 16, 24), refused(3, 1));
-        assert_eq!(ended(b"(3:ab", size, 16, 24), refused(3, 5));
+        assert_eq!(ended(b"", size, 16, 27), refused(3, 0));
+        assert_eq!(ended(b"3:abcX", size, 16, 27), refused(3, 5));
+        assert_eq!(ended(b"03:", size, 16, 27), refused(3, 1));
+        assert_eq!(ended(b"(3:ab", size, 16, 27), refused(3, 5));
         assert_eq!(ended(b"(3:ab", size, 0, 0), refused(3, 5));
-        assert_eq!(ended(LIST, size, 13, 24), refused(6, 0));
-        assert_eq!(ended(LIST, size, 0, 24), refused(6, 0));
-        assert_eq!(ended(LIST, size, 14, 23), refused(5, 0));
-        assert_eq!(ended(LIST, size, 0, 23), refused(5, 0));
+        assert_eq!(ended(LIST, size, 13, 27), refused(6, 0));
+        assert_eq!(ended(LIST, size, 0, 27), refused(6, 0));
+        assert_eq!(ended(LIST, size, 14, 26), refused(5, 0));
+        assert_eq!(ended(LIST, size, 0, 26), refused(5, 0));
         let deep = [[b'('; 129], [b')'; 129]].concat();
         assert_eq!(ended(&deep, size, 0, 0), refused(4, 0));
     }
@@ -73,37 +73,37 @@ fn ends_that_are_refused() {
 
 #[test]
 fn a_refused_end_restores_nothing() {
-    let (mut canonical, mut table) = ([9; 8], [7; 8]);
-    let mut pieces = Pieces::start(&canonical, 8);
-    assert_eq!(pieces.feed(b"3:abX", &mut canonical, 8), Ok(5));
-    assert_eq!(pieces.feed(b"YZ", &mut canonical, 8), Ok(7));
+    let (mut canonical, mut table) = ([9; 8], [7; 9]);
+    let mut pieces = Pieces::start(&canonical, 9);
+    assert_eq!(pieces.feed(b"3:abX", &mut canonical, 9), Ok(5));
+    assert_eq!(pieces.feed(b"YZ", &mut canonical, 9), Ok(7));
     assert_eq!(pieces.end(&mut canonical, &mut table), refused(3, 5));
-    assert_eq!((&canonical, table), (b"3:abXYZ\x09", [7; 8]));
+    assert_eq!((&canonical, table), (b"3:abXYZ\x09", [7; 9]));
 }
 
 #[test]
 fn another_size_is_refused_before_all_else() {
-    let (mut canonical, mut table) = ([9; 16], [7; 32]);
-    let mut pieces = Pieces::start(&canonical, 24);
-    assert_eq!(pieces.feed(&LIST[..5], &mut canonical, 24), Ok(5));
+    let (mut canonical, mut table) = ([9; 16], [7; 36]);
+    let mut pieces = Pieces::start(&canonical, 27);
+    assert_eq!(pieces.feed(&LIST[..5], &mut canonical, 27), Ok(5));
     let before = (pieces.clone(), canonical);
-    for (room, numbers) in [(15, 24), (16, 23), (16, 25), (0, 24), (16, 0), (15, 25)] {
+    for (room, numbers) in [(15, 27), (16, 26), (16, 28), (0, 27), (16, 0), (15, 28)] {
         let lent = &mut canonical[..room];
         assert_eq!(pieces.feed(b"x", lent, numbers), Err(7));
         assert_eq!(pieces.feed(b"", lent, numbers), Err(7));
         assert_eq!(pieces.end(lent, &mut table[..numbers]), refused(7, 0));
         assert_eq!(
             (pieces.clone(), canonical, table),
-            (before.0.clone(), before.1, [7; 32])
+            (before.0.clone(), before.1, [7; 36])
         );
     }
-    assert_eq!(pieces.feed(&LIST[5..], &mut canonical, 24), Ok(14));
+    assert_eq!(pieces.feed(&LIST[5..], &mut canonical, 27), Ok(14));
 }
 
 #[test]
 fn the_count_stops() {
     let mut canonical = vec![9; 20_000];
-    let mut pieces = Pieces::start(&canonical, 8);
+    let mut pieces = Pieces::start(&canonical, 9);
     for (fed, taken) in [
         (16_383, 16_383),
         (2, 16_385),
@@ -113,26 +113,26 @@ fn the_count_stops() {
         (1, 32_769),
         (40_000, 32_769),
     ] {
-        let end = pieces.end(&mut canonical, &mut [7; 8]);
+        let end = pieces.end(&mut canonical, &mut [7; 9]);
         assert!(matches!(end.reading, Reading::Refused(3 | 2)));
-        assert_eq!(pieces.feed(&vec![b'('; fed], &mut canonical, 8), Ok(taken));
+        assert_eq!(pieces.feed(&vec![b'('; fed], &mut canonical, 9), Ok(taken));
     }
     // The sheet begins with them as far as 16,384 go.
     assert!(canonical[..MAX_CANONICAL]
         .iter()
         .all(|octet| *octet == b'('));
     assert!(canonical[MAX_CANONICAL..].iter().all(|octet| *octet == 9));
-    assert_eq!(pieces.end(&mut canonical, &mut [7; 8]), refused(2, 0));
+    assert_eq!(pieces.end(&mut canonical, &mut [7; 9]), refused(2, 0));
 }
 
 #[test]
 fn the_limits_and_one_past_them() {
     let open = vec![b'('; 32_768];
-    assert_eq!(ended(&open, 1_000, 16_384, 8), refused(3, 32_768));
+    assert_eq!(ended(&open, 1_000, 16_384, 9), refused(3, 32_768));
     let long = [b"32762:", &[b'v'; 32_762][..]].concat();
-    assert_eq!(ended(&long, 1_000, 40_000, 8), refused(6, 0));
+    assert_eq!(ended(&long, 1_000, 40_000, 9), refused(6, 0));
     assert_eq!(
-        ended(&[&long[..], b"x"].concat(), 1_000, 40_000, 8),
+        ended(&[&long[..], b"x"].concat(), 1_000, 40_000, 9),
         refused(2, 0)
     );
     let most = [b"16378:", &[b'v'; 16_378][..]].concat();
@@ -140,6 +140,6 @@ fn the_limits_and_one_past_them() {
         length: 16_384,
         nodes: 1,
     };
-    assert_eq!(ended(&most, 1_000, 16_384, 8), Ended { reading, place: 0 });
-    assert_eq!(ended(&most, 1_000, 16_383, 8), refused(6, 0));
+    assert_eq!(ended(&most, 1_000, 16_384, 9), Ended { reading, place: 0 });
+    assert_eq!(ended(&most, 1_000, 16_383, 9), refused(6, 0));
 }

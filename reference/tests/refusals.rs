@@ -39,29 +39,29 @@ fn reading_goes_1_to_6() {
     // 5 before 6.
     assert_eq!(canonical(1, &empties(8_200)), Err(5));
     assert_eq!(read_into(1, LIST, 0, 0), Err(5));
-    assert_eq!(read_into(1, LIST, 13, 23), Err(5));
-    assert_eq!(read_into(1, LIST, 13, 24), Err(6));
+    assert_eq!(read_into(1, LIST, 13, 26), Err(5));
+    assert_eq!(read_into(1, LIST, 13, 27), Err(6));
 }
 
 #[test]
 fn reading_into_exact_room() {
     let whole = Ok((LIST.to_vec(), LIST_RECORDS.to_vec()));
-    assert_eq!(read_into(1, LIST, 14, 24), whole);
+    assert_eq!(read_into(1, LIST, 14, 27), whole);
     // The numbers past the last whole record are of no use.
-    assert_eq!(read_into(1, LIST, 14, 31), whole);
-    assert_eq!(read_into(1, LIST, 14, 23), Err(5));
-    assert_eq!(read_into(1, LIST, 13, 31), Err(6));
+    assert_eq!(read_into(1, LIST, 14, 35), whole);
+    assert_eq!(read_into(1, LIST, 14, 26), Err(5));
+    assert_eq!(read_into(1, LIST, 13, 35), Err(6));
     assert_eq!(
-        read_into(3, b"a", 3, 8),
-        Ok((b"1:a".to_vec(), vec![[0, 0, 3, 1, 0, 0, 2, 3]]))
+        read_into(3, b"a", 3, 9),
+        Ok((b"1:a".to_vec(), vec![[0, 0, 3, 1, 0, 0, 2, 3, 0]]))
     );
-    assert_eq!(read_into(3, b"a", 3, 7), Err(5));
-    assert_eq!(read_into(3, b"a", 2, 8), Err(6));
+    assert_eq!(read_into(3, b"a", 3, 8), Err(5));
+    assert_eq!(read_into(3, b"a", 2, 9), Err(6));
     // The limits hold however much is lent, and nodes have none but the records.
-    assert_eq!(read_into(1, &empties(8_192), 99_999, 8_192 * 8), Err(5));
-    assert_eq!(read_into(1, &empties(8_192), 99_999, 8_193 * 8), Err(6));
-    assert_eq!(read_into(1, &empties(8_191), 16_384, 8_192 * 8 - 1), Err(5));
-    assert!(read_into(1, &empties(8_191), 16_384, 8_192 * 8).is_ok());
+    assert_eq!(read_into(1, &empties(8_192), 99_999, 8_192 * 9), Err(5));
+    assert_eq!(read_into(1, &empties(8_192), 99_999, 8_193 * 9), Err(6));
+    assert_eq!(read_into(1, &empties(8_191), 16_384, 8_192 * 9 - 1), Err(5));
+    assert!(read_into(1, &empties(8_191), 16_384, 8_192 * 9).is_ok());
     assert_eq!(
         read_into(1, &verbatim(b'n', 16_379), 99_999, 99_999),
         Err(6)
@@ -126,7 +126,7 @@ fn replacing_goes_1_2_3_7_8_4_5_6() {
         pair
     };
     let own = || Pair::roomy(LIST);
-    let exact = || Pair::new(LIST, 14, 24);
+    let exact = || Pair::new(LIST, 14, 27);
     assert_eq!(foreign().refusal(9, &long, 3), 1);
     assert_eq!(foreign().refusal(3, &long, 3), 2);
     assert_eq!(foreign().refusal(3, b"?", 3), 3);

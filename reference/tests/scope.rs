@@ -8,7 +8,7 @@ use reference::limits::*;
 
 #[test]
 fn the_empty_list() {
-    let expected = Ok((b"()".to_vec(), vec![[2, 0, 2, 1, 0, 0, 1, 1]]));
+    let expected = Ok((b"()".to_vec(), vec![[2, 0, 2, 1, 0, 0, 1, 1, 0]]));
     for form in [1, 2, 3] {
         assert_eq!(read(form, b"()"), expected);
     }
@@ -17,7 +17,7 @@ fn the_empty_list() {
 
 #[test]
 fn the_empty_string() {
-    let expected = Ok((b"0:".to_vec(), vec![[0, 0, 2, 1, 0, 0, 2, 2]]));
+    let expected = Ok((b"0:".to_vec(), vec![[0, 0, 2, 1, 0, 0, 2, 2, 0]]));
     for form in [1, 2, 3] {
         assert_eq!(read(form, b"0:"), expected);
     }
@@ -36,14 +36,14 @@ fn the_list_in_each_form() {
 fn a_deeper_table() {
     let octets = b"(1:a(1:b(1:c[1:h]1:d))1:e)";
     let records = vec![
-        [2, 0, 26, 8, 0, 0, 1, 25],
-        [0, 1, 4, 1, 0, 0, 3, 4],
-        [2, 4, 22, 5, 0, 0, 5, 21],
-        [0, 5, 8, 1, 0, 0, 7, 8],
-        [2, 8, 21, 3, 0, 0, 9, 20],
-        [0, 9, 12, 1, 0, 0, 11, 12],
-        [1, 12, 20, 1, 15, 16, 19, 20],
-        [0, 22, 25, 1, 0, 0, 24, 25],
+        [2, 0, 26, 8, 0, 0, 1, 25, 0],
+        [0, 1, 4, 1, 0, 0, 3, 4, 0],
+        [2, 4, 22, 5, 0, 0, 5, 21, 0],
+        [0, 5, 8, 1, 0, 0, 7, 8, 2],
+        [2, 8, 21, 3, 0, 0, 9, 20, 2],
+        [0, 9, 12, 1, 0, 0, 11, 12, 4],
+        [1, 12, 20, 1, 15, 16, 19, 20, 4],
+        [0, 22, 25, 1, 0, 0, 24, 25, 0],
     ];
     let expected = Ok((octets.to_vec(), records));
     assert_eq!(read(3, b"(a (b (c [h] d)) e)"), expected);
@@ -52,9 +52,9 @@ fn a_deeper_table() {
 
 #[test]
 fn an_empty_hint_has_a_place() {
-    let expected = Ok((b"[0:]1:a".to_vec(), vec![[1, 0, 7, 1, 3, 3, 6, 7]]));
+    let expected = Ok((b"[0:]1:a".to_vec(), vec![[1, 0, 7, 1, 3, 3, 6, 7, 0]]));
     assert_eq!(read(3, b"[\"\"]a"), expected);
-    let expected = Ok((b"1:a".to_vec(), vec![[0, 0, 3, 1, 0, 0, 2, 3]]));
+    let expected = Ok((b"1:a".to_vec(), vec![[0, 0, 3, 1, 0, 0, 2, 3, 0]]));
     assert_eq!(read(3, b"a"), expected);
 }
 
@@ -63,10 +63,10 @@ fn lengths_of_two_digits_move_what_follows() {
     let text = b"(\"0123456789\" \"\" [abcdefghijkl]b)";
     let octets = b"(10:01234567890:[12:abcdefghijkl]1:b)".to_vec();
     let records = vec![
-        [2, 0, 37, 4, 0, 0, 1, 36],
-        [0, 1, 14, 1, 0, 0, 4, 14],
-        [0, 14, 16, 1, 0, 0, 16, 16],
-        [1, 16, 36, 1, 20, 32, 35, 36],
+        [2, 0, 37, 4, 0, 0, 1, 36, 0],
+        [0, 1, 14, 1, 0, 0, 4, 14, 0],
+        [0, 14, 16, 1, 0, 0, 16, 16, 0],
+        [1, 16, 36, 1, 20, 32, 35, 36, 0],
     ];
     assert_eq!(read(3, text), Ok((octets, records)));
 }
@@ -133,7 +133,7 @@ fn what_is_written_may_be_twice_as_long() {
 
 #[test]
 fn the_correction_of_document_01() {
-    let mut pair = Pair::new(LIST, 20, 30);
+    let mut pair = Pair::new(LIST, 20, 33);
     let reading = pair.replace(3, b"\"hi\"", 1);
     assert_eq!(
         reading,
@@ -146,12 +146,12 @@ fn the_correction_of_document_01() {
     assert_eq!(pair.canonical[13], 0);
     assert_eq!(pair.canonical[14..], [OCTET; 6]);
     let records = [
-        [2, 0, 13, 3, 0, 0, 1, 12],
-        [0, 1, 5, 1, 0, 0, 3, 5],
-        [1, 5, 12, 1, 8, 9, 12, 12],
+        [2, 0, 13, 3, 0, 0, 1, 12, 0],
+        [0, 1, 5, 1, 0, 0, 3, 5, 0],
+        [1, 5, 12, 1, 8, 9, 12, 12, 0],
     ];
-    assert_eq!(pair.table[..24], *records.as_flattened());
-    assert_eq!(pair.table[24..], [NUMBER; 6]);
+    assert_eq!(pair.table[..27], *records.as_flattened());
+    assert_eq!(pair.table[27..], [NUMBER; 6]);
 }
 
 #[test]
@@ -172,12 +172,15 @@ fn node_count() {
     let (octets, records) = read(1, &empties(8_191)).unwrap();
     assert_eq!(octets, empties(8_191));
     assert_eq!(records.len(), 8_192);
-    assert_eq!(records[0], [2, 0, 16_384, 8_192, 0, 0, 1, 16_383]);
-    assert_eq!(records[8_191], [0, 16_381, 16_383, 1, 0, 0, 16_383, 16_383]);
+    assert_eq!(records[0], [2, 0, 16_384, 8_192, 0, 0, 1, 16_383, 0]);
+    assert_eq!(
+        records[8_191],
+        [0, 16_381, 16_383, 1, 0, 0, 16_383, 16_383, 0]
+    );
     // 02: 5 in 8,192 records, 6 in more.
     let over = empties(8_192);
-    assert_eq!(read_into(1, &over, 20_000, 8_192 * 8).unwrap_err(), 5);
-    assert_eq!(read_into(1, &over, 20_000, 8_193 * 8).unwrap_err(), 6);
+    assert_eq!(read_into(1, &over, 20_000, 8_192 * 9).unwrap_err(), 5);
+    assert_eq!(read_into(1, &over, 20_000, 8_193 * 9).unwrap_err(), 6);
     assert_eq!(canonical(1, &over[..16_385]), Err(3));
 }
 
@@ -185,7 +188,7 @@ fn node_count() {
 fn canonical_size() {
     let (octets, records) = read(1, &verbatim(b'n', 16_378)).unwrap();
     assert_eq!(octets.len(), 16_384);
-    assert_eq!(records, [[0, 0, 16_384, 1, 0, 0, 6, 16_384]]);
+    assert_eq!(records, [[0, 0, 16_384, 1, 0, 0, 6, 16_384, 0]]);
     assert_eq!(canonical(1, &verbatim(b'n', 16_379)), Err(6));
     assert_eq!(
         canonical(1, &[&verbatim(b'n', 16_379)[..], b"n"].concat()),

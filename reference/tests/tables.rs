@@ -8,7 +8,7 @@ use reference::entries::Reading;
 
 #[test]
 fn a_table_is_own_only_if_every_number_is() {
-    for place in 0..24 {
+    for place in 0..27 {
         for change in [1, u32::MAX, 1 << 31, 1 << 8] {
             let mut pair = Pair::roomy(LIST);
             pair.table[place] = pair.table[place].wrapping_add(change);
@@ -17,7 +17,7 @@ fn a_table_is_own_only_if_every_number_is() {
     }
     // What lies past the count doesn't matter.
     let mut pair = Pair::roomy(LIST);
-    pair.table[24..40].fill(7);
+    pair.table[27..43].fill(7);
     assert_eq!(
         pair.replace(3, b"abc", 1),
         Reading::Accepted {
@@ -25,7 +25,7 @@ fn a_table_is_own_only_if_every_number_is() {
             nodes: 3
         }
     );
-    assert_eq!(pair.table[24..40], [7; 16]);
+    assert_eq!(pair.table[27..43], [7; 16]);
 }
 
 #[test]

@@ -2,7 +2,7 @@
 //! whose every answer is proved.
 //!
 //! Texts come in and go out in three [forms](Form). A tree's canonical octets
-//! in lent space, with their length, are a *sheet*; its node table has eight
+//! in lent space, with their length, are a *sheet*; its node table has nine
 //! numbers to a node, lent flat or as [`Record`]s. Everything goes into slices
 //! that the caller lends; nothing is allocated. After an `Err` every lent slice
 //! holds what it held, but for the octets of [`Pieces`].
@@ -84,7 +84,7 @@ pub const MAX_NODES: usize = MAX_CANONICAL / 2;
 /// How deep lists may nest; an outermost list is 1.
 pub const MAX_DEPTH: usize = 128;
 /// Numbers to a record of the flat table.
-pub const RECORD: usize = 8;
+pub const RECORD: usize = 9;
 
 /// How much of the lent octets and of the lent table is a sheet's.
 #[derive(Clone, Copy, Debug, Default, PartialEq, Eq, Hash)]
@@ -95,7 +95,7 @@ pub struct Extent {
     pub nodes: usize,
 }
 
-/// Reads `source` into canonical octets and their node table, eight numbers to
+/// Reads `source` into canonical octets and their node table, nine numbers to
 /// a node. What lies past both stays.
 ///
 /// # Errors

@@ -108,11 +108,8 @@ impl<'a> Node<'a> {
 
     /// The list directly around it, if it is not the whole.
     pub fn parent(self) -> Option<Node<'a>> {
-        // Of all lists that hold it the nearest began last.
-        (0..self.number)
-            .rev()
-            .map(|number| Node { number, ..self })
-            .find(|node| node.numbers().contains(&self.number))
+        let number = self.record().parent as usize;
+        (self.number > 0).then_some(Node { number, ..self })
     }
 
     /// Its value, by its hint; see [`crate::value`]. A raw value's place is one

@@ -24,11 +24,13 @@ pub struct Record {
     pub data_start: u32,
     /// One past the data's end.
     pub data_end: u32,
+    /// The number of the list directly around it; 0 for node 0, which is in none.
+    pub parent: u32,
 }
 
 impl From<[u32; RECORD]> for Record {
     fn from(numbers: [u32; RECORD]) -> Record {
-        let [kind, start, end, nodes, hint_start, hint_end, data_start, data_end] = numbers;
+        let [kind, start, end, nodes, hint_start, hint_end, data_start, data_end, parent] = numbers;
         Record {
             kind,
             start,
@@ -38,6 +40,7 @@ impl From<[u32; RECORD]> for Record {
             hint_end,
             data_start,
             data_end,
+            parent,
         }
     }
 }
@@ -53,6 +56,7 @@ impl From<Record> for [u32; RECORD] {
             r.hint_end,
             r.data_start,
             r.data_end,
+            r.parent,
         ]
     }
 }

@@ -61,10 +61,10 @@ fn other() -> Record {
 }
 
 fn as_records(numbers: &[u32]) -> Vec<Record> {
-    let eight = |numbers: &[u32]| <[u32; RECORD]>::try_from(numbers).expect("eight");
+    let nine = |numbers: &[u32]| <[u32; RECORD]>::try_from(numbers).expect("nine");
     numbers
         .chunks_exact(RECORD)
-        .map(|numbers| Record::from(eight(numbers)))
+        .map(|numbers| Record::from(nine(numbers)))
         .collect()
 }
 
@@ -113,7 +113,7 @@ fn rooms_are_judged_on_the_extract() {
 
 #[test]
 fn a_bad_sheet_or_table_comes_first() {
-    let (mut canonical, mut table) = ([OCTET; 8], [NUMBER; 16]);
+    let (mut canonical, mut table) = ([OCTET; 8], [NUMBER; 18]);
     let mut records = [other(); 2];
     for (sheet, length) in [
         (&b"(1:a"[..], 4),
@@ -126,7 +126,7 @@ fn a_bad_sheet_or_table_comes_first() {
         let recorded = etglavino::extract_records(sheet, length, &mut canonical, &mut records);
         assert_eq!([none, room, recorded], [Err(Refusal::NotOwn); 3]);
     }
-    let rows = [2, 0, 2, 1, 0, 0, 1, 1];
+    let rows = [2, 0, 2, 1, 0, 0, 1, 1, 0];
     let extent = Extent {
         length: 2,
         nodes: 1,
@@ -142,7 +142,7 @@ fn a_bad_sheet_or_table_comes_first() {
         assert_eq!([flat, recorded, none], [Err(Refusal::NotOwn); 3]);
     }
     // Nothing was written in any of these, and the sheet's own table is accepted.
-    assert_eq!((canonical, table), ([OCTET; 8], [NUMBER; 16]));
+    assert_eq!((canonical, table), ([OCTET; 8], [NUMBER; 18]));
     assert_eq!(records, [other(); 2]);
     let own = etglavino::extract_own(b"()", &rows, extent, &mut canonical, &mut table);
     assert_eq!(own, Ok(extent));

@@ -55,20 +55,20 @@ fn ended(text: &[u8], size: usize, room: usize, records: usize) -> Result<Extent
 #[test]
 fn the_list_in_every_two_pieces() {
     for cut in 0..=LIST.len() {
-        let (mut canonical, mut table) = ([OCTET; 16], [NUMBER; 25]);
-        let mut state = PiecesState::start(16, 25);
+        let (mut canonical, mut table) = ([OCTET; 16], [NUMBER; 28]);
+        let mut state = PiecesState::start(16, 28);
         let (one, other) = LIST.split_at(cut);
-        assert_eq!(state.feed(one, &mut canonical, 25), Ok(cut));
+        assert_eq!(state.feed(one, &mut canonical, 28), Ok(cut));
         assert_eq!(&canonical[..cut], one);
-        assert_eq!(state.feed(b"", &mut canonical, 25), Ok(cut));
-        assert_eq!(state.feed(other, &mut canonical, 25), Ok(14));
-        assert_eq!(table, [NUMBER; 25]);
+        assert_eq!(state.feed(b"", &mut canonical, 28), Ok(cut));
+        assert_eq!(state.feed(other, &mut canonical, 28), Ok(14));
+        assert_eq!(table, [NUMBER; 28]);
         assert_eq!(state.end(&canonical, &mut table), Ok(LIST_EXTENT));
         assert_eq!(
             (&canonical[..14], &canonical[14..]),
             (LIST, &[OCTET; 2][..])
         );
-        assert_eq!((&table[..24], table[24]), (&LIST_TABLE[..], NUMBER));
+        assert_eq!((&table[..27], table[27]), (&LIST_TABLE[..], NUMBER));
     }
 }
 
@@ -120,11 +120,11 @@ fn each_limit_and_one_past_it() {
 
 #[test]
 fn another_size_changes_nothing() {
-    let (mut canonical, mut table) = ([OCTET; 17], [NUMBER; 32]);
-    let mut state = PiecesState::start(16, 24);
-    assert_eq!(state.feed(&LIST[..5], &mut canonical[..16], 24), Ok(5));
+    let (mut canonical, mut table) = ([OCTET; 17], [NUMBER; 36]);
+    let mut state = PiecesState::start(16, 27);
+    assert_eq!(state.feed(&LIST[..5], &mut canonical[..16], 27), Ok(5));
     let before = (state, canonical, table);
-    for (room, numbers) in [(15, 24), (17, 24), (16, 23), (16, 25), (0, 0), (17, 32)] {
+    for (room, numbers) in [(15, 27), (17, 27), (16, 26), (16, 28), (0, 0), (17, 36)] {
         let lent = &mut canonical[..room];
         let refused = Err(Refusal::NotOwn);
         assert_eq!(state.feed(b"x", lent, numbers).map(drop), refused);
@@ -134,9 +134,9 @@ fn another_size_changes_nothing() {
     }
     let any = state.feed(b"x", &mut canonical[..16], usize::MAX);
     assert_eq!((any, state), (Err(Refusal::NotOwn), before.0));
-    assert_eq!(state.feed(&LIST[5..], &mut canonical[..16], 24), Ok(14));
+    assert_eq!(state.feed(&LIST[5..], &mut canonical[..16], 27), Ok(14));
     assert_eq!(
-        state.end(&canonical[..16], &mut table[..24]),
+        state.end(&canonical[..16], &mut table[..27]),
         Ok(LIST_EXTENT)
     );
 }
@@ -146,12 +146,12 @@ fn the_state_knows_nothing_of_the_cutting() {
     let text = [&verbatim(20_000)[..], b"x"].concat();
     let after = |size: usize| {
         let mut canonical = vec![0; 16_384];
-        let mut state = PiecesState::start(16_384, 8);
+        let mut state = PiecesState::start(16_384, 9);
         for piece in text.chunks(size) {
-            state.feed(piece, &mut canonical, 8).unwrap();
-            state.feed(b"", &mut canonical, 8).unwrap();
+            state.feed(piece, &mut canonical, 9).unwrap();
+            state.feed(b"", &mut canonical, 9).unwrap();
         }
-        (state, state.end(&canonical, &mut [0; 8]))
+        (state, state.end(&canonical, &mut [0; 9]))
     };
     let whole = after(usize::MAX);
     assert_eq!(whole.1, Err(Refusal::Syntax { place: 20_006 }));
@@ -165,9 +165,9 @@ fn the_state_knows_nothing_of_the_cutting() {
 #[test]
 fn other_states_keep_inside_what_is_lent() {
     const GUARD: usize = 32;
-    let real = PiecesState::start(16, 24).numbers();
+    let real = PiecesState::start(16, 27).numbers();
     // The sizes are those of the start; all else is made up.
-    let sizes: Vec<usize> = (0..10).filter(|&at| [16, 24].contains(&real[at])).collect();
+    let sizes: Vec<usize> = (0..10).filter(|&at| [16, 27].contains(&real[at])).collect();
     assert_eq!(sizes.len(), 2);
     for number in [0, 1, 5, 16, 255, 16_385, 32_769, u64::MAX / 2, u64::MAX] {
         for kept in 0..8 {
@@ -177,20 +177,20 @@ fn other_states_keep_inside_what_is_lent() {
                 numbers[at] = real[at];
             }
             let mut canonical = [OCTET; 16 + 2 * GUARD];
-            let mut table = [NUMBER; 24 + 2 * GUARD];
+            let mut table = [NUMBER; 27 + 2 * GUARD];
             let mut state = PiecesState::from_numbers(numbers);
             let octets = &mut canonical[GUARD..GUARD + 16];
-            assert!(state.feed(LIST, octets, 24).is_ok());
-            let answer = state.end(octets, &mut table[GUARD..GUARD + 24]);
+            assert!(state.feed(LIST, octets, 27).is_ok());
+            let answer = state.end(octets, &mut table[GUARD..GUARD + 27]);
             assert_ne!(answer, Err(Refusal::NotOwn));
             // Another size is told all the same.
-            let refused = state.feed(LIST, octets, 23);
+            let refused = state.feed(LIST, octets, 26);
             assert_eq!(refused, Err(Refusal::NotOwn));
-            let refused = state.end(&octets[1..], &mut table[GUARD..GUARD + 24]);
+            let refused = state.end(&octets[1..], &mut table[GUARD..GUARD + 27]);
             assert_eq!(refused, Err(Refusal::NotOwn));
             let around = canonical[..GUARD].iter().chain(&canonical[GUARD + 16..]);
             assert!(around.into_iter().all(|octet| *octet == OCTET));
-            let around = table[..GUARD].iter().chain(&table[GUARD + 24..]);
+            let around = table[..GUARD].iter().chain(&table[GUARD + 27..]);
             assert!(around.into_iter().all(|number| *number == NUMBER));
         }
     }

@@ -11,8 +11,8 @@ fn canonical(form: u32, source: &[u8]) -> Result<Vec<u8>, Refusal> {
 
 #[test]
 fn the_empty_list_and_the_empty_string() {
-    let list = Ok((b"()".to_vec(), vec![2, 0, 2, 1, 0, 0, 1, 1]));
-    let string = Ok((b"0:".to_vec(), vec![0, 0, 2, 1, 0, 0, 2, 2]));
+    let list = Ok((b"()".to_vec(), vec![2, 0, 2, 1, 0, 0, 1, 1, 0]));
+    let string = Ok((b"0:".to_vec(), vec![0, 0, 2, 1, 0, 0, 2, 2, 0]));
     for form in [1, 2, 3, 4] {
         assert_eq!(read(form, b"()"), list);
         assert_eq!(read(form, b"0:"), string);
@@ -37,7 +37,7 @@ fn forms_by_name_are_forms_by_number() {
         (Form::Terminal1997, b"({MzphYmM=}{WzE6eF0wOg==})"),
     ];
     for (form, source) in sources {
-        let (mut octets, mut table) = ([OCTET; 15], [NUMBER; 25]);
+        let (mut octets, mut table) = ([OCTET; 15], [NUMBER; 28]);
         let answer = etglavino::read(form, source, &mut octets, &mut table);
         let extent = Extent {
             length: 14,
@@ -45,7 +45,7 @@ fn forms_by_name_are_forms_by_number() {
         };
         assert_eq!(answer, Ok(extent), "{form:?}");
         assert_eq!((&octets[..14], octets[14]), (LIST, OCTET));
-        assert_eq!((&table[..24], table[24]), (&LIST_TABLE[..], NUMBER));
+        assert_eq!((&table[..27], table[27]), (&LIST_TABLE[..], NUMBER));
     }
     // Not every form takes each of these.
     assert_eq!(canonical(1, b"{KCk=}"), Err(Refusal::Syntax { place: 0 }));
@@ -123,8 +123,8 @@ fn each_limit_and_one_past_it() {
     assert_eq!(canonical(1, &empties(8_191)), Ok(empties(8_191)));
     // Nodes have no limit but the records lent: one over is over in octets too.
     let over = empties(8_192);
-    assert_eq!(read_in(1, &over, 20_000, 8_192 * 8), Err(Refusal::Nodes));
-    assert_eq!(read_in(1, &over, 20_000, 8_193 * 8), Err(Refusal::Size));
+    assert_eq!(read_in(1, &over, 20_000, 8_192 * 9), Err(Refusal::Nodes));
+    assert_eq!(read_in(1, &over, 20_000, 8_193 * 9), Err(Refusal::Size));
     assert_eq!(canonical(1, &verbatim(16_378)), Ok(verbatim(16_378)));
     assert_eq!(canonical(1, &verbatim(16_379)), Err(Refusal::Size));
     let text = b"(3:abc[1:x]0:)";
@@ -137,12 +137,12 @@ fn each_limit_and_one_past_it() {
 #[test]
 fn the_room_lent() {
     let expected = Ok((LIST.to_vec(), LIST_TABLE.to_vec()));
-    assert_eq!(read_in(1, LIST, 14, 24), expected);
-    assert_eq!(read_in(1, LIST, 13, 24), Err(Refusal::Size));
-    assert_eq!(read_in(1, LIST, 14, 23), Err(Refusal::Nodes));
-    // Seven numbers are no record, and stay as they were.
-    assert_eq!(read_in(1, LIST, 14, 31), expected);
-    assert_eq!(read_in(1, LIST, 0, 24), Err(Refusal::Size));
+    assert_eq!(read_in(1, LIST, 14, 27), expected);
+    assert_eq!(read_in(1, LIST, 13, 27), Err(Refusal::Size));
+    assert_eq!(read_in(1, LIST, 14, 26), Err(Refusal::Nodes));
+    // Eight numbers are no record, and stay as they were.
+    assert_eq!(read_in(1, LIST, 14, 35), expected);
+    assert_eq!(read_in(1, LIST, 0, 27), Err(Refusal::Size));
     assert_eq!(read_in(1, LIST, 14, 0), Err(Refusal::Nodes));
 }
 
@@ -160,6 +160,6 @@ fn the_first_refusal_that_applies() {
     let open = [b"(", &verbatim(16_379)[..]].concat();
     assert_eq!(read(1, &open), Err(Refusal::Syntax { place: open.len() }));
     // Too deep with too few records; too many nodes with too little room.
-    assert_eq!(read_in(1, &nested(129), 99, 128 * 8), Err(Refusal::Depth));
-    assert_eq!(read_in(1, LIST, 13, 23), Err(Refusal::Nodes));
+    assert_eq!(read_in(1, &nested(129), 99, 128 * 9), Err(Refusal::Depth));
+    assert_eq!(read_in(1, LIST, 13, 26), Err(Refusal::Nodes));
 }

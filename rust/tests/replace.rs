@@ -14,9 +14,9 @@ fn document_01s_correction() {
     };
     assert_eq!(sheet.replace(3, b"\"hi\"", 1), Ok(extent));
     let table = [
-        2, 0, 13, 3, 0, 0, 1, 12, //
-        0, 1, 5, 1, 0, 0, 3, 5, //
-        1, 5, 12, 1, 8, 9, 12, 12,
+        2, 0, 13, 3, 0, 0, 1, 12, 0, //
+        0, 1, 5, 1, 0, 0, 3, 5, 0, //
+        1, 5, 12, 1, 8, 9, 12, 12, 0,
     ];
     // The old last octet becomes 0, what lay past it stays.
     let expected = Sheet {
@@ -51,8 +51,8 @@ fn records_that_are_gone_become_zero() {
         nodes: 1,
     };
     assert_eq!(sheet.replace(1, b"1:q", 0), Ok(extent));
-    let mut table = [0; 24];
-    table[..8].copy_from_slice(&[0, 0, 3, 1, 0, 0, 2, 3]);
+    let mut table = [0; 27];
+    table[..9].copy_from_slice(&[0, 0, 3, 1, 0, 0, 2, 3, 0]);
     let octets = [&b"1:q"[..], &[0; 11]].concat();
     let expected = Sheet {
         extent,
@@ -65,13 +65,13 @@ fn records_that_are_gone_become_zero() {
 fn the_lists_around_a_node_grow_with_it() {
     // (1:a(1:b)1:c), whose node 3 is 1:b.
     let old = [
-        2, 0, 13, 5, 0, 0, 1, 12, //
-        0, 1, 4, 1, 0, 0, 3, 4, //
-        2, 4, 9, 2, 0, 0, 5, 8, //
-        0, 5, 8, 1, 0, 0, 7, 8, //
-        0, 9, 12, 1, 0, 0, 11, 12,
+        2, 0, 13, 5, 0, 0, 1, 12, 0, //
+        0, 1, 4, 1, 0, 0, 3, 4, 0, //
+        2, 4, 9, 2, 0, 0, 5, 8, 0, //
+        0, 5, 8, 1, 0, 0, 7, 8, 2, //
+        0, 9, 12, 1, 0, 0, 11, 12, 0,
     ];
-    let mut sheet = Sheet::exact(b"(1:a(1:b)1:c)", &old).spare(5, 11);
+    let mut sheet = Sheet::exact(b"(1:a(1:b)1:c)", &old).spare(5, 12);
     assert_eq!(sheet.replace(3, b"([h]dd)", 3), Err(Refusal::Size));
     assert_eq!(sheet.replace(3, b"(d e)", 3), Err(Refusal::Nodes));
     let extent = Extent {
@@ -80,12 +80,12 @@ fn the_lists_around_a_node_grow_with_it() {
     };
     assert_eq!(sheet.replace(3, b"(dd)", 3), Ok(extent));
     let new = [
-        2, 0, 16, 6, 0, 0, 1, 15, //
-        0, 1, 4, 1, 0, 0, 3, 4, //
-        2, 4, 12, 3, 0, 0, 5, 11, //
-        2, 5, 11, 2, 0, 0, 6, 10, //
-        0, 6, 10, 1, 0, 0, 8, 10, //
-        0, 12, 15, 1, 0, 0, 14, 15,
+        2, 0, 16, 6, 0, 0, 1, 15, 0, //
+        0, 1, 4, 1, 0, 0, 3, 4, 0, //
+        2, 4, 12, 3, 0, 0, 5, 11, 0, //
+        2, 5, 11, 2, 0, 0, 6, 10, 2, //
+        0, 6, 10, 1, 0, 0, 8, 10, 3, //
+        0, 12, 15, 1, 0, 0, 14, 15, 0,
     ];
     let expected = Sheet::exact(b"(1:a((2:dd))1:c)", &new).spare(2, 3);
     assert_eq!(sheet, expected);
@@ -93,7 +93,7 @@ fn the_lists_around_a_node_grow_with_it() {
 
 #[test]
 fn an_insertion_tells_where_its_text_went_wrong() {
-    let (mut canonical, mut table) = ([0; 32], [0; 32]);
+    let (mut canonical, mut table) = ([0; 32], [0; 36]);
     let sheet = etglavino::read_form(1, LIST, &mut canonical, &mut table).expect("a sheet");
     let slot = Slot { node: 0, k: 1 };
     for (form, text, place) in [

@@ -223,9 +223,13 @@ impl Table for Record {
 
     fn of(numbers: &[u32]) -> Vec<Record> {
         let records = numbers.chunks_exact(RECORD);
-        let record = |numbers: &[u32]| numbers.try_into().map(|record: [u32; 8]| record.into());
+        let record = |numbers: &[u32]| {
+            numbers
+                .try_into()
+                .map(|record: [u32; RECORD]| record.into())
+        };
         records
-            .map(|numbers| record(numbers).expect("eight"))
+            .map(|numbers| record(numbers).expect("nine"))
             .collect()
     }
 }

@@ -12,8 +12,8 @@ use etglavino::{Extent, Line, NoWeek, Record, Refusal, Total, Value, Week, MAX_C
 const STACK: usize = 192 * 1024;
 
 fn records(table: &[u32]) -> Vec<Record> {
-    let eight = |numbers: &[u32]| Record::from(<[u32; RECORD]>::try_from(numbers).expect("eight"));
-    table.chunks_exact(RECORD).map(eight).collect()
+    let nine = |numbers: &[u32]| Record::from(<[u32; RECORD]>::try_from(numbers).expect("nine"));
+    table.chunks_exact(RECORD).map(nine).collect()
 }
 
 /// A node's value, the same over numbers and over records, on a thread with little stack.

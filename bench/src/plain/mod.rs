@@ -111,21 +111,23 @@ impl Reader {
     }
 
     /// A tree in braces; the place after them. It is read by itself, and its
-    /// records are moved to where its octets go.
+    /// records are moved to where its octets and its nodes go.
     fn inner(&mut self, source: &[u8], at: usize) -> Option<usize> {
         let mut decoded = Vec::new();
         let next = strings::base64(source, at + 1, b'}', &mut decoded)?;
         let mut tree = Reader::new();
         tree.canonical(&decoded)?;
         let from = self.canonical.len() as u32;
+        let (around, first) = (self.around() as u32, self.records.len() as u32);
         self.deepest = self.deepest.max(self.open.len() + tree.deepest);
         self.canonical.append(&mut tree.canonical);
-        for mut record in tree.records {
+        for (node, mut record) in tree.records.into_iter().enumerate() {
             // A hint's places are 0 where there is none.
             let moved = if record[0] == 1 { 4..8 } else { 6..8 };
             for place in (1..3).chain(moved) {
                 record[place] += from;
             }
+            record[8] = if node == 0 { around } else { first + record[8] };
             self.records.push(record);
         }
         Some(next)
@@ -170,12 +172,12 @@ impl Reader {
                         return None;
                     }
                     let data = verbatim(source, hint.1 + 1)?;
-                    self.records.push(row(1, at, hint, data));
+                    self.records.push(row(1, at, hint, data, self.around()));
                     data.1
                 }
                 _ => {
                     let data = verbatim(source, at)?;
-                    self.records.push(row(0, at, (0, 0), data));
+                    self.records.push(row(0, at, (0, 0), data, self.around()));
                     data.1
                 }
             };
@@ -201,9 +203,11 @@ impl Reader {
 
     /// A list begins at this place of the canonical octets.
     fn opened(&mut self, at: usize) -> usize {
+        let around = self.around();
         self.open.push(self.records.len());
         self.deepest = self.deepest.max(self.open.len());
-        self.records.push(row(2, at, (0, 0), (at + 1, at + 1)));
+        self.records
+            .push(row(2, at, (0, 0), (at + 1, at + 1), around));
         at + 1
     }
 
@@ -221,15 +225,28 @@ impl Reader {
     /// The string that was just written up to the end.
     fn record(&mut self, kind: u32, start: usize, hint: (usize, usize), data: usize) {
         let data = (data, self.canonical.len());
-        self.records.push(row(kind, start, hint, data));
+        self.records
+            .push(row(kind, start, hint, data, self.around()));
+    }
+
+    /// The list that is open, 0 where none is.
+    fn around(&self) -> usize {
+        self.open.last().copied().unwrap_or(0)
     }
 }
 
 /// The record of a string or of a list just opened: it ends where its data does.
-fn row(kind: u32, start: usize, hint: (usize, usize), data: (usize, usize)) -> [u32; RECORD] {
+fn row(
+    kind: u32,
+    start: usize,
+    hint: (usize, usize),
+    data: (usize, usize),
+    around: usize,
+) -> [u32; RECORD] {
     // A source has at most 32,768 octets, three times which fit.
-    let [start, from, to, begin, end] = [start, hint.0, hint.1, data.0, data.1].map(|n| n as u32);
-    [kind, start, end, 1, from, to, begin, end]
+    let [start, from, to, begin, end, around] =
+        [start, hint.0, hint.1, data.0, data.1, around].map(|n| n as u32);
+    [kind, start, end, 1, from, to, begin, end, around]
 }
 
 /// The place after whitespace.

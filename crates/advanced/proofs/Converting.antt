@@ -101,6 +101,9 @@ module _ (β : Bool) (src out₀ notes₀ out starts nodeNos notes : List ℕ) (
   pub convert-stacks : Stacks starts nodeNos
   convert-stacks = w .stacked .stacks
 
+  pub convert-numbers : length nodeNos ≡ maxDepth
+  convert-numbers = w .stacked .stacks .numbersLong
+
   -- what was passed of a tree is no longer than the whole
   pub passed-short : (t : Tree) (ls : List Lexeme) → decode₃ rules β src ≡ some t → lexemes rules β (drop at src) ≡ some ls → len ≤ length (canon t)
   unfolding decode₃ prefixed

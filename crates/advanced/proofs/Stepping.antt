@@ -32,10 +32,10 @@ use Rattle.scan.proofs.Places.{one-here}
 use Rattle.blocks.specs.Fronts.{Front}
 use Rattle.blocks.proofs.Laws.{front-one, front-both}
 use Rattle.advanced.specs.Nodes.{Spare, Node, Nodes}
-use Rattle.sheets.specs.Notes.{noted, Entered, Leaving, Left}
+use Rattle.sheets.specs.Notes.{noteOf, noted, upOf, Entered, Leaving, Left}
 use Rattle.sheets.specs.Strung.{stringRowOf, Keepable, KeptString}
 use Rattle.sheets.proofs.Strings.{string-events}
-use Rattle.sheets.proofs.Stacking.{Stacked, stacked-on, stacked-open, stacked-leaving, Kept, kept-open, kept-close, kept-string}
+use Rattle.sheets.proofs.Stacking.{Stacked, stacked-on, stacked-up, stacked-open, stacked-leaving, Kept, kept-open, kept-close, kept-string}
 use Rattle.advanced.specs.Converted.{Sheetable, Converts, Wrapped}
 use Rattle.advanced.proofs.Passed.{prefixed, prefixed-step, octets-more, place-next, place-none, enough}
 use Rattle.advanced.proofs.Converting.{Coming, Converting, refusal, passed-short}
@@ -164,14 +164,21 @@ module _ (β : Bool) (src out₀ notes₀ out starts nodeNos notes : List ℕ) (
       pub node-fits : Fits w64 (len + (end - r))
       node-fits = omega (arith, w .few, w .lent .short, w .inside, it .low, it .within, p .from)
 
-      pub node-keepable : Keepable r mid end
-      node-keepable = record { lexeme = it .is; is = it .strung; small = omega (arith, it .front .fits, w .long, w .lent .small) }
+      pub node-keepable : (up : ℕ) → up ≡ upOf nodeNos o → Keepable r mid end up
+      node-keepable up u =
+          record {
+            lexeme = it .is;
+            is = it .strung;
+            small = omega (arith, it .front .fits, w .long, w .lent .small);
+            ups = omega (arith, u, stacked-up starts nodeNos (maxCanonical + 1) o n (w .stacked) o (omega arith) (omega (arith, w .few, p .from, w .lent .short)));
+          }
 
-      pub node-on : (r′ : ℕ) → Wrapped end r′ → (notes′ : List ℕ) → KeptString n r mid end notes notes′ → Converting β src out₀ notes₀ out₁ starts nodeNos notes′ next (len + (end - r)) r′ o d (n + 1)
-      node-on r′ u notes′ k =
+      pub node-on : (r′ : ℕ) → Wrapped end r′ → (up : ℕ) → up ≡ upOf nodeNos o → (notes′ : List ℕ) → KeptString n r mid end up notes notes′
+          → Converting β src out₀ notes₀ out₁ starts nodeNos notes′ next (len + (end - r)) r′ o d (n + 1)
+      node-on r′ u up e notes′ k =
           stepped (it .is) out₁ starts nodeNos notes′ next end r′ o d (n + 1) (as-lexeme ∙ it .reads) (it .on) (it .within) (it .string o d n) (it .front) (it .low) u
           (omega (arith, w .few, p .from, it .on), omega (arith, w .few, p .from, it .on), omega (arith, w .few, p .from, it .on))
           (w .level) (k .long) (stacked-on starts nodeNos (maxCanonical + 1) o n (w .stacked) (maxCanonical + 1) o (n + 1) (omega arith) (omega arith) (omega arith))
           (λ whole t ls deep f y.
           kept-string whole starts nodeNos notes r o d n t ls (it .is) (stringRowOf r (it .is)) end y (it .string o d n)
-          (string-events (it .is) r mid end (it .strung) n ls (framesOf starts nodeNos o)) notes′ (k .kept (it .is) (it .strung)))
+          (string-events (it .is) r mid end (it .strung) n ls (framesOf starts nodeNos o)) notes′ (k .kept (it .is) (it .strung) ∙ ap (λ (v : ℕ). set notes n (noteOf (stringRowOf r (it .is)) v)) e))

@@ -26,6 +26,7 @@ use octets::class_of;
 use sheets::notes::enter;
 use sheets::notes::keep_string;
 use sheets::notes::leave;
+use sheets::notes::up_of;
 use walk::Extent;
 
 // A string between marks, decoded; the place after it, or 0.
@@ -373,7 +374,8 @@ pub fn convert(
         if next == 0 {
             return Extent::Refused { place: 0 };
         }
-        keep_string(notes, seen, o, mid, end);
+        let up = up_of(&numbers, opened);
+        keep_string(notes, seen, o, mid, end, up);
         seen += 1;
         size += end - o;
         o = wrap(end);

@@ -2,7 +2,7 @@
 use Prim.Native.Nat.{ℕ, suc, _+_, _≤_, _<_}
 use native.Mathlib.Omega.{arith}
 use native.Mathlib.Nat.{add-zero, add-suc, suc-add}
-use native.Mathlib.Numerals.{add-one, add-two, add-three, add-four, add-five, add-six, add-seven}
+use native.Mathlib.Numerals.{add-one, add-two, add-three, add-four, add-five, add-six, add-seven, add-eight}
 use mathlib.Core.Path.{_≡_, refl, sym, ap, _∙_}
 use mathlib.Core.List.{List, [], _∷_, _++_}
 use lib.ListN.{length, drop, getD, set}
@@ -36,7 +36,8 @@ sets-join l a b i j e = sets-sets l b a j i (omega arith) ∙ ap (λ (n : ℕ). 
 pub sets-all : (l vs : List ℕ) → length vs ≤ length l → sets l 0 vs ≡ vs ++ drop (length vs) l
 sets-all l vs h = let z : 0 + length vs ≡ length vs = omega arith in sets-eq vs l 0 (omega arith) ∙ ap (λ (n : ℕ). vs ++ drop n l) z
 
--- eight stores, one after the other
-pub stores-8 : (l : List ℕ) (i a b c d e f g h : ℕ)
-    → set (set (set (set (set (set (set (set l i a) (i + 1) b) (i + 2) c) (i + 3) d) (i + 4) e) (i + 5) f) (i + 6) g) (i + 7) h ≡ sets l i (a ∷ b ∷ c ∷ d ∷ e ∷ f ∷ g ∷ h ∷ [])
-stores-8 l i a b c d e f g h = rw (add-one i, add-two i, add-three i, add-four i, add-five i, add-six i, add-seven i)
+-- nine stores, one after the other
+pub stores-9 : (l : List ℕ) (i a b c d e f g h j : ℕ)
+    → set (set (set (set (set (set (set (set (set l i a) (i + 1) b) (i + 2) c) (i + 3) d) (i + 4) e) (i + 5) f) (i + 6) g) (i + 7) h) (i + 8) j
+    ≡ sets l i (a ∷ b ∷ c ∷ d ∷ e ∷ f ∷ g ∷ h ∷ j ∷ [])
+stores-9 l i a b c d e f g h j = rw (add-one i, add-two i, add-three i, add-four i, add-five i, add-six i, add-seven i, add-eight i)

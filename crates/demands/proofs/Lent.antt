@@ -1,17 +1,18 @@
 -- Demand 3 about the lent sheet and table, before an accepted correction and after it, whichever it is.
 use Prim.Native.Nat.{ℕ, _+_, _*_, _-_, _≤_, _<_}
 use native.Mathlib.Omega.{arith}
-use mathlib.Core.Path.{_≡_, sym, ap, _∙_}
+use mathlib.Core.Path.{_≡_, sym, ap, ap₂, _∙_}
 use mathlib.Core.Bool.{Bool, true, false}
 use mathlib.Core.List.{List, _++_}
 use lib.ListN.{length, take, drop, getD, take-append-drop, List·getD-append}
 use Rattle.model.specs.Answers.{Outcome}
-use Rattle.model.specs.Table.{width, numbers, plainRow, rowss, rowOf}
+use Rattle.model.specs.Table.{width, recorded, plainRow, rowss, rowOf, parentss, parentOf}
 use Rattle.model.specs.Tree.{Tree, Forest, canon, canons, nodes, nodess}
 use Rattle.lookup.proofs.Sheets.{Own, own-of}
 use Rattle.edits.specs.Moves.{Moves, Grows, Shifts}
-use Rattle.edits.specs.Place.{around}
+use Rattle.edits.specs.Place.{around, upAt, upMoved}
 use Rattle.edits.proofs.Changed.{change-moves, change-length, change-nodes, change-octet, change-list, change-stays, change-grows, change-shifts}
+use Rattle.edits.proofs.Above.{change-up-before, change-up-new, change-up-later}
 use Rattle.edits.proofs.Moved.{octet-before, octet-new, record-new}
 use Rattle.demands.specs.Conditions.{recordAt}
 use Rattle.demands.specs.Corrections.{Correction}
@@ -52,10 +53,10 @@ module _ {canonical table : List ℕ} {len count : ℕ} {old now : Tree} {k n s 
       ∙ sym (octet-of (canon old) canonical len i (own .sheet .is) (omega (arith, own .sheet .size)))
 
   -- a record of the lent table is that of its tree
-  pub record-was : (j : ℕ) → j < nodes old → recordAt table j ≡ numbers (rowOf old j)
+  pub record-was : (j : ℕ) → j < nodes old → recordAt table j ≡ recorded (rowOf old j) (parentOf old j)
   record-was j h = record-of old table (width * count) j (own .recorded) h
 
-  pub record-is : (j : ℕ) → j < nodes now → recordAt (answer .table) j ≡ numbers (rowOf now j)
+  pub record-is : (j : ℕ) → j < nodes now → recordAt (answer .table) j ≡ recorded (rowOf now j) (parentOf now j)
   record-is j h = record-of now (answer .table) (width * answer .count) j (corrected-table c) h
 
   around-as : (j : ℕ) → j < k → around s (s + (e - s)) (rowOf old j) ≡ holding j
@@ -66,7 +67,7 @@ module _ {canonical table : List ℕ} {len count : ℕ} {old now : Tree} {k n s 
     pub records-stay : holding j ≡ false → recordAt (answer .table) j ≡ recordAt table j
     records-stay i =
         record-is j (omega (arith, moves .nodesIn, change-nodes (c .change)))
-        ∙ ap numbers (change-stays (c .change) j h (around-as j h ∙ i))
+        ∙ ap₂ recorded (change-stays (c .change) j h (around-as j h ∙ i)) (change-up-before (c .change) j h)
         ∙ sym (record-was j (omega (arith, moves .nodesIn)))
 
     -- 01, "their records change at most in end, node count and data end"
@@ -84,3 +85,25 @@ module _ {canonical table : List ℕ} {len count : ℕ} {old now : Tree} {k n s 
   -- later records move with their nodes
   pub records-shift : (j j′ : ℕ) → k + n ≤ j → j < nodes old → j′ + nodes old ≡ j + nodes now → Shifts (rowOf old j) (rowOf now j′) (length (canon old)) (length (canon now))
   records-shift j j′ h i l = change-shifts (c .change) j j′ h i l
+
+  -- ---- 02, Ask 11, "Demand 3 then also settles this number for the records after a correction": the ninth of a record
+  ninth-was : (j : ℕ) → j < nodes old → getD (recordAt table j) 8 0 ≡ parentOf old j
+  ninth-was j h = ap (λ (l : List ℕ). getD l 8 0) (record-was j h)
+
+  ninth-is : (j : ℕ) → j < nodes now → getD (recordAt (answer .table) j) 8 0 ≡ parentOf now j
+  ninth-is j h = ap (λ (l : List ℕ). getD l 8 0) (record-is j h)
+
+  -- of an earlier record, of a list around the entry too, it stays
+  pub parents-stay : (j : ℕ) → j < k → getD (recordAt (answer .table) j) 8 0 ≡ getD (recordAt table j) 8 0
+  parents-stay j h =
+      ninth-is j (omega (arith, moves .nodesIn, change-nodes (c .change))) ∙ change-up-before (c .change) j h ∙ sym (ninth-was j (omega (arith, moves .nodesIn)))
+
+  -- of the entry's own, it is that of what it gave way to, numbered from the entry on, in the list directly around the entry
+  pub parents-new : (i : ℕ) → i < nodess new → getD (recordAt (answer .table) (k + i)) 8 0 ≡ getD (parentss new k (upAt (c .change .place) 0 0)) i 0
+  parents-new i h = ninth-is (k + i) (omega (arith, moves .nodesIn, change-nodes (c .change))) ∙ change-up-new (c .change) i h
+
+  -- of a later record, it stays where the list begins before the entry, and is shifted by the change in node count elsewhere
+  pub parents-shift : (j j′ : ℕ) → k + n ≤ j → j < nodes old → j′ + nodes old ≡ j + nodes now
+      → getD (recordAt (answer .table) j′) 8 0 ≡ upMoved k n (nodess new) (getD (recordAt table j) 8 0)
+  parents-shift j j′ h i l =
+      ninth-is j′ (omega (arith, change-nodes (c .change))) ∙ change-up-later (c .change) j j′ h i l ∙ ap (upMoved k n (nodess new)) (sym (ninth-was j i))

@@ -10,6 +10,8 @@ pub mod Placed
 pub mod Afresh
 pub mod Records
 pub mod Lent
+pub mod Nearest
+pub mod Climbed
 pub mod Orders
 mod OrderExamples
 pub mod Space

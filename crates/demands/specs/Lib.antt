@@ -3,3 +3,4 @@ pub mod Orders
 pub mod Values
 pub mod Lines
 pub mod Corrections
+pub mod Climbing

@@ -113,8 +113,8 @@ fn change(
     change_long(form, text, canonical, table, old, held, asked)
 }
 
-// A node of the sheet with this length, node count and table gives way to the tree of a text of the form named (1 canonical,
-// 2 basic, 3 advanced). In a refusal both lent buffers hold what they held; in an acceptance what lies past the old and the
+// A node of the sheet with this length, node count and table gives way to the tree of a text of the form named (see `reader::read`).
+// In a refusal both lent buffers hold what they held; in an acceptance what lies past the old and the
 // new octets and records stays, and what lies between the new ones and larger old ones is zeroed.
 pub fn replace(
     form: u32,

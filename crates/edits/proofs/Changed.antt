@@ -26,7 +26,7 @@ module _ {t t' : Tree} {k n s l d : ℕ} {g : Forest} (c : Change t t' k n s l d
   change-at e = record { place = c .place; old = c .old; was = c .was; is = c .is; at = c .at; some = c .some; start = c .start; long = c .long; deep = c .deep ∙ e }
 
   -- made good again by what stood there
-  pub change-back : Change t' t k (nodess g) s (length (canons g)) d (c .old)
+  abbrev pub change-back : Change t' t k (nodess g) s (length (canons g)) d (c .old)
   change-back = record { place = c .place; old = g; was = c .is; is = c .was; at = c .at; some = refl; start = c .start; long = refl; deep = c .deep }
 
   -- ---- depth

@@ -5,20 +5,22 @@ use native.Mathlib.Omega.{arith}
 use mathlib.Core.Path.{_≡_, sym, ap, ap₂, _∙_}
 use mathlib.Core.Bool.{true, false}
 use mathlib.Core.List.{List, _++_, map}
-use lib.ListN.{length, take, drop, getD}
+use lib.ListN.{length, take, drop, getD, length-take, length-map}
 use Rattle.model.specs.Edit.{one, replace}
-use Rattle.model.specs.Table.{Row, plainRow, rows, flat, tableOf, rowOf}
+use Rattle.model.specs.Table.{Row, plainRow, rows, parents, flat, tableOf, rowOf, parentOf}
 use Rattle.model.specs.Tree.{Tree, nil, canon, nodes, depth}
 use Rattle.edits.specs.Levels.{holders}
 use Rattle.edits.specs.Moves.{Moves, Change, Grows, Shifts}
 use Rattle.model.specs.Node.{nodeAmong, nodeAt}
 use Rattle.edits.specs.Node.{holds}
-use Rattle.edits.specs.Place.{level, outer, moved, around, kept}
+use Rattle.edits.specs.Place.{level, outer, upAt, moved, around, kept, upMoved}
 use Rattle.edits.proofs.Find.{nodes-pos, nodeAt-among, node-at}
-use Rattle.walk.proofs.Tabled.{flat-append}
+use Rattle.walk.proofs.Tabled.{flat-append, rows-length, parents-length}
 use Rattle.edits.proofs.Holds.{around-holds, holds-list, holds-node}
 use Rattle.edits.proofs.Moved.{octets-front, octets-entry, octets-back, octet-before, octet-new, record-new}
-use Rattle.edits.proofs.Changed.{change-moves, change-length, change-nodes, change-octet, change-stays, change-grows, change-shifts, change-holds}
+use Rattle.edits.proofs.Changed.{change-moves, change-back, change-length, change-nodes, change-octet, change-stays, change-grows, change-shifts, change-holds}
+use Rattle.edits.proofs.Above.{inner-up, change-ups, change-up-before, change-up-new, change-up-later, change-up-at}
+use Rattle.edits.proofs.Parents.{parentss-one}
 use Rattle.edits.proofs.Changes.{replace-change}
 use Rattle.edits.proofs.Gives.{node-in}
 use Rattle.edits.proofs.Whole.{canons-one, nodess-one, depths-one, rowss-one, depth-at, locate, replaced-at}
@@ -91,11 +93,39 @@ module _ (t : Tree) (k : ℕ) (h : k < nodes t) where
         ++ (rows u (entry .start) ++ map (moved (entry .end - entry .start) (length (canon u))) (drop (k + entry .count) (rows t 0)))
     replace-rows = rw (canons-one, nodess-one, rowss-one) at (replace-moves .table)
 
+    -- 02, "Demand 3 then also settles this number": the lists directly around nodes, all of them
+    pub replace-parents : parents now 0 0
+        ≡ take k (parents t 0 0) ++ (parents u k (parentOf t k) ++ map (upMoved k (entry .count) (nodes u)) (drop (k + entry .count) (parents t 0 0)))
+    replace-parents = rw (nodess-one, parentss-one, ← change-up-at change entry-some) at (change-ups change)
+
     pub replace-table : tableOf now
-        ≡ flat (map (kept (entry .start) (entry .end - entry .start) (length (canon u)) (entry .count) (nodes u)) (take k (rows t 0)))
-        ++ (flat (rows u (entry .start)) ++ flat (map (moved (entry .end - entry .start) (length (canon u))) (drop (k + entry .count) (rows t 0))))
+        ≡ flat (map (kept (entry .start) (entry .end - entry .start) (length (canon u)) (entry .count) (nodes u)) (take k (rows t 0))) (take k (parents t 0 0))
+        ++ (flat (rows u (entry .start)) (parents u k (parentOf t k))
+        ++ flat (map (moved (entry .end - entry .start) (length (canon u))) (drop (k + entry .count) (rows t 0))) (map (upMoved k (entry .count) (nodes u)) (drop (k + entry .count) (parents t 0 0))))
     unfolding tableOf
-    replace-table = ap flat replace-rows ∙ simp flat-append
+    replace-table =
+        ap₂ flat replace-rows replace-parents
+        ∙ flat-append _ _ (take k (parents t 0 0)) _ (length-take k (parents t 0 0) ∙ omega (arith, parents-length t 0 0, rows-length t 0, length-take k (rows t 0), length-map (take k (rows t 0)) (kept (entry .start) (entry .end - entry .start) (length (canon u)) (entry .count) (nodes u))))
+        ∙ ap (λ (x : List ℕ). flat (map (kept (entry .start) (entry .end - entry .start) (length (canon u)) (entry .count) (nodes u)) (take k (rows t 0))) (take k (parents t 0 0)) ++ x)
+        (flat-append (rows u (entry .start)) _ (parents u k (parentOf t k)) _ (parents-length u k (parentOf t k) ∙ sym (rows-length u (entry .start))))
+
+    -- the number of an earlier record stays
+    pub parent-stays : (j : ℕ) → j < k → parentOf now j ≡ parentOf t j
+    parent-stays j l = change-up-before change j l
+
+    -- the entry stands in the list in which it stood, and within it the text's numbers count from it
+    pub parent-entry : parentOf now k ≡ parentOf t k
+    parent-entry =
+        change-up-at (change-back change) (omega (arith, nodess-one u, nodes-pos u)) ∙ sym (change-up-at change entry-some)
+
+    pub parent-inside : (i : ℕ) → 0 < i → i < nodes u → parentOf now (k + i) ≡ k + parentOf u i
+    parent-inside i p l =
+        change-up-new change i (omega (arith, nodess-one u))
+        ∙ ap (λ (x : List ℕ). getD x i 0) (parentss-one u k (upAt (change .place) 0 0)) ∙ inner-up u k (upAt (change .place) 0 0) i p l
+
+    -- a later record's stays where the list begins before the entry, and is shifted by the change in node count elsewhere
+    pub parent-shifts : (j j' : ℕ) → k + entry .count ≤ j → j < nodes t → j' + nodes t ≡ j + nodes now → parentOf now j' ≡ upMoved k (entry .count) (nodes u) (parentOf t j)
+    parent-shifts j j' l i e = change-up-later change j j' l i e ∙ ap (λ (n : ℕ). upMoved k (entry .count) n (parentOf t j)) (nodess-one u)
 
     -- ---- 01, "Octets before the entry are those before its start": they stay
     pub octets-before-stay : take (entry .start) (canon now) ≡ take (entry .start) (canon t)

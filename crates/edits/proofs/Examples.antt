@@ -1,11 +1,11 @@
 -- 01's starred correction, computed: node 1 of (3:abc[1:x]0:) replaced by "hi".
 use mathlib.Core.Path.{_≡_, refl}
 use mathlib.Core.Bool.{true, false}
-use mathlib.Core.List.{[], _∷_}
+use mathlib.Core.List.{[], _∷_, _++_}
 use lib.ListN.{take}
 use Rattle.model.specs.Edit.{join, within, replace}
 use Rattle.edits.specs.Place.{moved, kept}
-use Rattle.model.specs.Table.{rows, flat, tableOf, rowOf}
+use Rattle.model.specs.Table.{numbers, rows, parents, flat, tableOf, rowOf}
 use Rattle.model.specs.Tree.{Tree, plain, hinted, list, nil, cons, digitsUpTo, digits, verbatim, canon, nodes}
 use Rattle.edits.specs.Node.{holds}
 use Rattle.edits.specs.Levels.{holders}
@@ -21,13 +21,13 @@ octets : canon corrected ≡ (40 ∷ 50 ∷ 58 ∷ 104 ∷ 105 ∷ 91 ∷ 49 ∷
 unfolding sheet corrected canon verbatim digits digitsUpTo nodes replace within join
 octets = refl
 
-records-of : tableOf corrected ≡ (2 ∷ 0 ∷ 13 ∷ 3 ∷ 0 ∷ 0 ∷ 1 ∷ 12 ∷ 0 ∷ 1 ∷ 5 ∷ 1 ∷ 0 ∷ 0 ∷ 3 ∷ 5 ∷ 1 ∷ 5 ∷ 12 ∷ 1 ∷ 8 ∷ 9 ∷ 12 ∷ 12 ∷ [])
-unfolding sheet corrected canon verbatim digits digitsUpTo rows flat tableOf nodes replace within join
+records-of : tableOf corrected ≡ (2 ∷ 0 ∷ 13 ∷ 3 ∷ 0 ∷ 0 ∷ 1 ∷ 12 ∷ 0 ∷ 0 ∷ 1 ∷ 5 ∷ 1 ∷ 0 ∷ 0 ∷ 3 ∷ 5 ∷ 0 ∷ 1 ∷ 5 ∷ 12 ∷ 1 ∷ 8 ∷ 9 ∷ 12 ∷ 12 ∷ 0 ∷ [])
+unfolding sheet corrected canon verbatim digits digitsUpTo rows parents flat tableOf nodes replace within join
 records-of = refl
 
 -- the record of the list around grows, that of the node after moves, with its hint
-list-and-later : flat (kept 1 5 4 1 1 (rowOf sheet 0) ∷ moved 5 4 (rowOf sheet 2) ∷ []) ≡ (2 ∷ 0 ∷ 13 ∷ 3 ∷ 0 ∷ 0 ∷ 1 ∷ 12 ∷ 1 ∷ 5 ∷ 12 ∷ 1 ∷ 8 ∷ 9 ∷ 12 ∷ 12 ∷ [])
-unfolding sheet canon verbatim digits digitsUpTo rows flat nodes
+list-and-later : numbers (kept 1 5 4 1 1 (rowOf sheet 0)) ++ numbers (moved 5 4 (rowOf sheet 2)) ≡ (2 ∷ 0 ∷ 13 ∷ 3 ∷ 0 ∷ 0 ∷ 1 ∷ 12 ∷ 1 ∷ 5 ∷ 12 ∷ 1 ∷ 8 ∷ 9 ∷ 12 ∷ 12 ∷ [])
+unfolding sheet canon verbatim digits digitsUpTo rows nodes
 list-and-later = refl
 
 -- the list holds both strings, and no string holds the other

@@ -8,7 +8,9 @@ pub mod Sides
 pub mod Hop
 pub mod Moved
 pub mod Holds
+pub mod Parents
 pub mod Changed
+pub mod Above
 pub mod Gives
 pub mod Levels
 pub mod Changes

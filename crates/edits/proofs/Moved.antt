@@ -15,16 +15,16 @@ use Rattle.walk.proofs.Tabled.{rows-length, rowss-length}
 
 -- ---- lists in three parts
 module _ {A : Type 0} (a b c : List A) (d : A) where
-  in-first : (i : ℕ) → i < length a → getD (a ++ (b ++ c)) i d ≡ getD a i d
+  pub in-first : (i : ℕ) → i < length a → getD (a ++ (b ++ c)) i d ≡ getD a i d
   in-first i h = List·getD-append a (b ++ c) d i h
 
-  in-second : (i : ℕ) → i < length b → getD (a ++ (b ++ c)) (length a + i) d ≡ getD b i d
+  pub in-second : (i : ℕ) → i < length b → getD (a ++ (b ++ c)) (length a + i) d ≡ getD b i d
   in-second i h = getD-append-add a (b ++ c) i d ∙ List·getD-append b c d i h
 
-  in-third : (i : ℕ) → getD (a ++ (b ++ c)) (length a + length b + i) d ≡ getD c i d
+  pub in-third : (i : ℕ) → getD (a ++ (b ++ c)) (length a + length b + i) d ≡ getD c i d
   in-third i = let e : length a + length b + i ≡ length a + (length b + i) = omega arith in rw e (getD-append-add a (b ++ c) (length b + i) d ∙ getD-append-add b c i d)
 
-getD-map-in : {A B : Type 0} (f : A → B) (l : List A) (i : ℕ) (a : A) (b : B) → i < length l → getD (map f l) i b ≡ f (getD l i a)
+pub getD-map-in : {A B : Type 0} (f : A → B) (l : List A) (i : ℕ) (a : A) (b : B) → i < length l → getD (map f l) i b ≡ f (getD l i a)
 getD-map-in f [] i a b h = absurd (omega arith)
 getD-map-in f (x ∷ l) zero a b h = refl
 getD-map-in f (x ∷ l) (suc i) a b h = getD-map-in f l i a b (omega arith)

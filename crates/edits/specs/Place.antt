@@ -7,7 +7,7 @@ use lib.ListN.{length}
 use lib.Dec.{ltb, eqb}
 use Rattle.base.specs.Choice.{pick, both}
 use Rattle.model.specs.Edit.{join}
-use Rattle.model.specs.Table.{Row, listRow, rows, rowss}
+use Rattle.model.specs.Table.{Row, listRow, rows, rowss, parents, parentss}
 use Rattle.model.specs.Tree.{Tree, list, Forest, cons, canon, canons, nodes, nodess, depth, depths}
 
 -- directly before the given forest; past a tree; inside a list that the given forest follows
@@ -65,6 +65,31 @@ unfoldable pub trail : Place → ℕ → List Row
 trail (here b) at = rowss b at
 trail (past t p) at = trail p at
 trail (down p b) at = trail p at ++ rowss b (at + length (after p) + 1)
+
+-- ---- the lists around, where the first node of the whole has number `own` and the whole stands in the list `up`
+
+-- the parents of the nodes before the place: none of them hangs on what stands there
+unfoldable pub leadUps : Place → ℕ → ℕ → List ℕ
+leadUps (here b) own up = []
+leadUps (past t p) own up = parents t own up ++ leadUps p (own + nodes t) up
+leadUps (down p b) own up = up ∷ leadUps p (own + 1) own
+
+-- the list directly around it
+unfoldable pub upAt : Place → ℕ → ℕ → ℕ
+upAt (here b) own up = up
+upAt (past t p) own up = upAt p (own + nodes t) up
+upAt (down p b) own up = upAt p (own + 1) own
+
+-- the parents of the nodes after it, where n nodes stand at it
+unfoldable pub trailUps : Place → ℕ → ℕ → ℕ → List ℕ
+trailUps (here b) own up n = parentss b (own + n) up
+trailUps (past t p) own up n = trailUps p (own + nodes t) up n
+trailUps (down p b) own up n = trailUps p (own + 1) own n ++ parentss b (own + 1 + number p + n + beyond p) up
+
+-- 02, "Demand 3 then also settles this number for the records after a correction": where n nodes from node k on give way to n' nodes, a
+-- list that begins before them keeps its number, and any other has it shifted by the change in node count
+abbrev pub upMoved : ℕ → ℕ → ℕ → ℕ → ℕ
+upMoved k n n' up = pick (ltb up k) up (up + n' - n)
 
 -- ---- rows, where l octets with n nodes, from octet s on, give way to l' octets with n' nodes
 

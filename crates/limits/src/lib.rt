@@ -14,7 +14,7 @@ pub const CANONICAL: usize = 16384;
 pub const NODES: usize = CANONICAL / 2;
 
 // Numbers of a record.
-pub const WIDTH: usize = 8;
+pub const WIDTH: usize = 9;
 
 // Local space for a text comes in three sizes, so that a short text does not pay for clearing the largest. A text of n octets makes
 // at most 3n canonical octets, hence at most 3n / 2 nodes.

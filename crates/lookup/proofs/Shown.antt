@@ -1,7 +1,7 @@
 -- The numbers of a node's record in a sheet's own table, and the parts that they tell.
 use Prim.Native.Nat.{ℕ, zero, suc, _+_, _*_, _-_, _≤_, _<_}
 use native.Mathlib.Omega.{arith}
-use mathlib.Core.Path.{_≡_, sym, ap, ap₂, _∙_}
+use mathlib.Core.Path.{_≡_, refl, sym, ap, ap₂, _∙_}
 use mathlib.Core.Bool.{Bool, true, false}
 use mathlib.Core.Option.{Option, none, some}
 use mathlib.Core.List.{List, [], _∷_, _++_}
@@ -12,7 +12,7 @@ use borrow.Author.Tests.{lt-ltb, le-ltb, eq-eqb, ne-eqb}
 use Rattle.base.specs.Choice.{pick, not, chain, isNone}
 use Rattle.base.proofs.Cases.{pick-cases, picked, unpicked, some-same, none-some, chain-cases}
 use Rattle.model.specs.Answers.{ownTree, part, octetsAt, shownRow, hintPart, dataPart, shownOr, hintShown, dataShown}
-use Rattle.model.specs.Table.{Row, width, numbers, plainRow, rows, rowss, flat, tableOf, rowOf}
+use Rattle.model.specs.Table.{Row, width, numbers, recorded, plainRow, rows, rowss, parents, parentOf, flat, tableOf, rowOf}
 use Rattle.model.specs.Tree.{Tree, plain, hinted, list, Forest, nil, cons, verbatim, canon, canons, nodes}
 use Rattle.model.proofs.Sizes.{verbatim-length}
 use Rattle.walk.proofs.Tabled.{rows-length}
@@ -25,21 +25,29 @@ use Rattle.answers.specs.declared.Place.the-variants.{Part, NoPart}
 
 -- ---- a number of a row
 
--- the k-th number of the i-th row
-flat-at : (rs : List Row) (i k : ℕ) (d : Row) → i < length rs → k < 8 → getD (flat rs) (i * width + k) 0 ≡ getD (numbers (getD rs i d)) k 0
+-- the first record of a table, and those after it
+first-at : (x y : List ℕ) (k : ℕ) → k < length x → getD (x ++ y) (0 * width + k) 0 ≡ getD x k 0
+first-at x y k l = let z : 0 * width + k ≡ k = omega arith in ap (λ (n : ℕ). getD (x ++ y) n 0) z ∙ List·getD-append x y 0 k l
+
+later-at : (x y : List ℕ) (i k : ℕ) → length x ≡ width → getD (x ++ y) (suc i * width + k) 0 ≡ getD y (i * width + k) 0
+later-at x y i k e = let z : suc i * width + k ≡ length x + (i * width + k) = omega (arith, e) in ap (λ (n : ℕ). getD (x ++ y) n 0) z ∙ getD-append-add x y (i * width + k) 0
+
+-- the k-th number of the i-th record
+flat-at : (rs : List Row) (ps : List ℕ) (i k : ℕ) (d : Row) → i < length rs → k < width → getD (flat rs ps) (i * width + k) 0 ≡ getD (recorded (getD rs i d) (getD ps i 0)) k 0
 unfolding flat
-flat-at [] i k d h l = absurd (omega arith)
-flat-at (r ∷ rs) zero k d h l = let z : 0 * width + k ≡ k = omega arith in ap (λ (n : ℕ). getD (numbers r ++ flat rs) n 0) z ∙ List·getD-append (numbers r) (flat rs) 0 k l
-flat-at (r ∷ rs) (suc i) k d h l =
-    let z : suc i * width + k ≡ 8 + (i * width + k) = omega arith in
-    ap (λ (n : ℕ). getD (numbers r ++ flat rs) n 0) z ∙ getD-append-add (numbers r) (flat rs) (i * width + k) 0 ∙ flat-at rs i k d (omega arith) l
+flat-at [] ps i k d h l = absurd (omega arith)
+flat-at (r ∷ rs) [] zero k d h l = first-at (recorded r 0) (flat rs []) k l
+flat-at (r ∷ rs) (p ∷ ps) zero k d h l = first-at (recorded r p) (flat rs ps) k l
+flat-at (r ∷ rs) [] (suc i) k d h l = later-at (recorded r 0) (flat rs []) i k refl ∙ flat-at rs [] i k d (omega arith) l
+flat-at (r ∷ rs) (p ∷ ps) (suc i) k d h l = later-at (recorded r p) (flat rs ps) i k refl ∙ flat-at rs ps i k d (omega arith) l
 
 pub table-at : (c : List ℕ) (n : ℕ) (table : List ℕ) (m : ℕ) (t : Tree) → Own c n table m t → (node k : ℕ) → node < m → k < 8
     → getD table (node * width + k) 0 ≡ getD (numbers (rowOf t node)) k 0
 unfolding tableOf
 table-at c n table m t o node k h l =
     sym (getD-take (width * m) table (node * width + k) 0 (omega arith)) ∙ ap (λ (x : List ℕ). getD x (node * width + k) 0) (o .recorded)
-    ∙ flat-at (rows t 0) node k (plainRow 0 0 0) (omega (arith, rows-length t 0, o .counted)) l
+    ∙ flat-at (rows t 0) (parents t 0 0) node k (plainRow 0 0 0) (omega (arith, rows-length t 0, o .counted)) (omega arith)
+    ∙ List·getD-append (numbers (rowOf t node)) (parentOf t node ∷ []) 0 k l
 
 -- ---- a row's parts are parts of the octets
 
@@ -125,7 +133,7 @@ module _ (c : List ℕ) (n : ℕ) (table : List ℕ) (m node : ℕ) where
           tree-of (ownTree c n table m) (sym y ∙ e)
           (λ t i.
           let o : Own c n table m t = own-of c n table m t i in
-          record { few = omega (arith, o .counted, o .sheet .fitting .many); fits = omega (arith, own-lent c n table m t o); small = l })
+          record { few = omega (arith, o .counted, o .sheet .fitting .many); fits = omega (arith, own-lent c n table m t o); small = omega (arith, l) })
 
       -- the numbers in the table are the row's
       found : {G : Type 0} → node < m → ((r : Row) → row ≡ some r → ((k : ℕ) → k < 8 → getD table (node * width + k) 0 ≡ getD (numbers r) k 0) → G) → G

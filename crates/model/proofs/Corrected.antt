@@ -12,7 +12,7 @@ use Rattle.model.specs.Edit.{join, within, put, putIn, insert, remove}
 use Rattle.model.specs.Node.{nodeAt, nodeIn, elements, hasPlace}
 use Rattle.model.specs.Lexemes.{closeHint, lexeme, closeStrict, strictLexeme, before, lexemesBy, strictLexemes}
 use Rattle.model.specs.Strings.{bind, skip, number, decimal, first, run, past, sized, afterNumber, afterLength, verbatimOf}
-use Rattle.model.specs.Table.{numbers, rows, flat, tableOf}
+use Rattle.model.specs.Table.{rows, parents, flat, tableOf}
 use Rattle.model.specs.Tree.{digitsUpTo, digits, verbatim, canon, nodes, depth}
 
 -- the sheet ((0:)0:) with its table, in lent space of 12 octets and five records
@@ -21,11 +21,11 @@ sheet = (40 ∷ 40 ∷ 48 ∷ 58 ∷ 41 ∷ 48 ∷ 58 ∷ 41 ∷ []) ++ replicat
 
 abbrev table : List ℕ
 table =
-    (2 ∷ 0 ∷ 8 ∷ 4 ∷ 0 ∷ 0 ∷ 1 ∷ 7 ∷ [])
-    ++ (2 ∷ 1 ∷ 5 ∷ 2 ∷ 0 ∷ 0 ∷ 2 ∷ 4 ∷ [])
-    ++ (0 ∷ 2 ∷ 4 ∷ 1 ∷ 0 ∷ 0 ∷ 4 ∷ 4 ∷ [])
-    ++ (0 ∷ 5 ∷ 7 ∷ 1 ∷ 0 ∷ 0 ∷ 7 ∷ 7 ∷ [])
-    ++ replicate 8 9
+    (2 ∷ 0 ∷ 8 ∷ 4 ∷ 0 ∷ 0 ∷ 1 ∷ 7 ∷ 0 ∷ [])
+    ++ (2 ∷ 1 ∷ 5 ∷ 2 ∷ 0 ∷ 0 ∷ 2 ∷ 4 ∷ 0 ∷ [])
+    ++ (0 ∷ 2 ∷ 4 ∷ 1 ∷ 0 ∷ 0 ∷ 4 ∷ 4 ∷ 1 ∷ [])
+    ++ (0 ∷ 5 ∷ 7 ∷ 1 ∷ 0 ∷ 0 ∷ 7 ∷ 7 ∷ 0 ∷ [])
+    ++ replicate 9 9
 
 -- the text ()
 abbrev text : List ℕ
@@ -47,11 +47,11 @@ accepted octets count numbers past =
 cases : List (Outcome × Outcome)
 cases =
     -- first of the outer list: (()(0:)0:)
-    (insertion 0 0, accepted (40 ∷ 40 ∷ 41 ∷ 40 ∷ 48 ∷ 58 ∷ 41 ∷ 48 ∷ 58 ∷ 41 ∷ []) 5 (2 ∷ 0 ∷ 10 ∷ 5 ∷ 0 ∷ 0 ∷ 1 ∷ 9 ∷ 2 ∷ 1 ∷ 3 ∷ 1 ∷ 0 ∷ 0 ∷ 2 ∷ 2 ∷ 2 ∷ 3 ∷ 7 ∷ 2 ∷ 0 ∷ 0 ∷ 4 ∷ 6 ∷ 0 ∷ 4 ∷ 6 ∷ 1 ∷ 0 ∷ 0 ∷ 6 ∷ 6 ∷ 0 ∷ 7 ∷ 9 ∷ 1 ∷ 0 ∷ 0 ∷ 9 ∷ 9 ∷ []) (9 ∷ 9 ∷ []))
+    (insertion 0 0, accepted (40 ∷ 40 ∷ 41 ∷ 40 ∷ 48 ∷ 58 ∷ 41 ∷ 48 ∷ 58 ∷ 41 ∷ []) 5 (2 ∷ 0 ∷ 10 ∷ 5 ∷ 0 ∷ 0 ∷ 1 ∷ 9 ∷ 0 ∷ 2 ∷ 1 ∷ 3 ∷ 1 ∷ 0 ∷ 0 ∷ 2 ∷ 2 ∷ 0 ∷ 2 ∷ 3 ∷ 7 ∷ 2 ∷ 0 ∷ 0 ∷ 4 ∷ 6 ∷ 0 ∷ 0 ∷ 4 ∷ 6 ∷ 1 ∷ 0 ∷ 0 ∷ 6 ∷ 6 ∷ 2 ∷ 0 ∷ 7 ∷ 9 ∷ 1 ∷ 0 ∷ 0 ∷ 9 ∷ 9 ∷ 0 ∷ []) (9 ∷ 9 ∷ []))
     -- past its last element: ((0:)0:())
-    ∷ (insertion 0 2, accepted (40 ∷ 40 ∷ 48 ∷ 58 ∷ 41 ∷ 48 ∷ 58 ∷ 40 ∷ 41 ∷ 41 ∷ []) 5 (2 ∷ 0 ∷ 10 ∷ 5 ∷ 0 ∷ 0 ∷ 1 ∷ 9 ∷ 2 ∷ 1 ∷ 5 ∷ 2 ∷ 0 ∷ 0 ∷ 2 ∷ 4 ∷ 0 ∷ 2 ∷ 4 ∷ 1 ∷ 0 ∷ 0 ∷ 4 ∷ 4 ∷ 0 ∷ 5 ∷ 7 ∷ 1 ∷ 0 ∷ 0 ∷ 7 ∷ 7 ∷ 2 ∷ 7 ∷ 9 ∷ 1 ∷ 0 ∷ 0 ∷ 8 ∷ 8 ∷ []) (9 ∷ 9 ∷ []))
+    ∷ (insertion 0 2, accepted (40 ∷ 40 ∷ 48 ∷ 58 ∷ 41 ∷ 48 ∷ 58 ∷ 40 ∷ 41 ∷ 41 ∷ []) 5 (2 ∷ 0 ∷ 10 ∷ 5 ∷ 0 ∷ 0 ∷ 1 ∷ 9 ∷ 0 ∷ 2 ∷ 1 ∷ 5 ∷ 2 ∷ 0 ∷ 0 ∷ 2 ∷ 4 ∷ 0 ∷ 0 ∷ 2 ∷ 4 ∷ 1 ∷ 0 ∷ 0 ∷ 4 ∷ 4 ∷ 1 ∷ 0 ∷ 5 ∷ 7 ∷ 1 ∷ 0 ∷ 0 ∷ 7 ∷ 7 ∷ 0 ∷ 2 ∷ 7 ∷ 9 ∷ 1 ∷ 0 ∷ 0 ∷ 8 ∷ 8 ∷ 0 ∷ []) (9 ∷ 9 ∷ []))
     -- past the last of the inner list: ((0:())0:)
-    ∷ (insertion 1 1, accepted (40 ∷ 40 ∷ 48 ∷ 58 ∷ 40 ∷ 41 ∷ 41 ∷ 48 ∷ 58 ∷ 41 ∷ []) 5 (2 ∷ 0 ∷ 10 ∷ 5 ∷ 0 ∷ 0 ∷ 1 ∷ 9 ∷ 2 ∷ 1 ∷ 7 ∷ 3 ∷ 0 ∷ 0 ∷ 2 ∷ 6 ∷ 0 ∷ 2 ∷ 4 ∷ 1 ∷ 0 ∷ 0 ∷ 4 ∷ 4 ∷ 2 ∷ 4 ∷ 6 ∷ 1 ∷ 0 ∷ 0 ∷ 5 ∷ 5 ∷ 0 ∷ 7 ∷ 9 ∷ 1 ∷ 0 ∷ 0 ∷ 9 ∷ 9 ∷ []) (9 ∷ 9 ∷ []))
+    ∷ (insertion 1 1, accepted (40 ∷ 40 ∷ 48 ∷ 58 ∷ 40 ∷ 41 ∷ 41 ∷ 48 ∷ 58 ∷ 41 ∷ []) 5 (2 ∷ 0 ∷ 10 ∷ 5 ∷ 0 ∷ 0 ∷ 1 ∷ 9 ∷ 0 ∷ 2 ∷ 1 ∷ 7 ∷ 3 ∷ 0 ∷ 0 ∷ 2 ∷ 6 ∷ 0 ∷ 0 ∷ 2 ∷ 4 ∷ 1 ∷ 0 ∷ 0 ∷ 4 ∷ 4 ∷ 1 ∷ 2 ∷ 4 ∷ 6 ∷ 1 ∷ 0 ∷ 0 ∷ 5 ∷ 5 ∷ 1 ∷ 0 ∷ 7 ∷ 9 ∷ 1 ∷ 0 ∷ 0 ∷ 9 ∷ 9 ∷ 0 ∷ []) (9 ∷ 9 ∷ []))
     -- k too large; not a list; no such node, whatever k
     ∷ (insertion 1 2, refused 9)
     ∷ (insertion 2 0, refused 9)
@@ -59,11 +59,11 @@ cases =
     -- room one octet short: 6, after 9; four records: 5, before it
     ∷ (inserting 1 text (take 9 sheet) table 8 4 1 1, unchanged 6 (take 9 sheet) table)
     ∷ (inserting 1 text (take 9 sheet) table 8 4 1 2, unchanged 9 (take 9 sheet) table)
-    ∷ (inserting 1 text (take 9 sheet) (take 39 table) 8 4 1 1, unchanged 5 (take 9 sheet) (take 39 table))
+    ∷ (inserting 1 text (take 9 sheet) (take 44 table) 8 4 1 1, unchanged 5 (take 9 sheet) (take 44 table))
     -- the inner list, with what is in it: (0:), and zeros
-    ∷ (removal 1, accepted (40 ∷ 48 ∷ 58 ∷ 41 ∷ []) 2 (2 ∷ 0 ∷ 4 ∷ 2 ∷ 0 ∷ 0 ∷ 1 ∷ 3 ∷ 0 ∷ 1 ∷ 3 ∷ 1 ∷ 0 ∷ 0 ∷ 3 ∷ 3 ∷ 0 ∷ 0 ∷ 0 ∷ 0 ∷ 0 ∷ 0 ∷ 0 ∷ 0 ∷ 0 ∷ 0 ∷ 0 ∷ 0 ∷ 0 ∷ 0 ∷ 0 ∷ 0 ∷ 9 ∷ 9 ∷ 9 ∷ 9 ∷ 9 ∷ 9 ∷ 9 ∷ 9 ∷ []) (0 ∷ 0 ∷ 0 ∷ 0 ∷ 9 ∷ 9 ∷ 9 ∷ 9 ∷ []))
+    ∷ (removal 1, accepted (40 ∷ 48 ∷ 58 ∷ 41 ∷ []) 2 (2 ∷ 0 ∷ 4 ∷ 2 ∷ 0 ∷ 0 ∷ 1 ∷ 3 ∷ 0 ∷ 0 ∷ 1 ∷ 3 ∷ 1 ∷ 0 ∷ 0 ∷ 3 ∷ 3 ∷ 0 ∷ 0 ∷ 0 ∷ 0 ∷ 0 ∷ 0 ∷ 0 ∷ 0 ∷ 0 ∷ 0 ∷ 0 ∷ 0 ∷ 0 ∷ 0 ∷ 0 ∷ 0 ∷ 0 ∷ 0 ∷ 0 ∷ 9 ∷ 9 ∷ 9 ∷ 9 ∷ 9 ∷ 9 ∷ 9 ∷ 9 ∷ 9 ∷ []) (0 ∷ 0 ∷ 0 ∷ 0 ∷ 9 ∷ 9 ∷ 9 ∷ 9 ∷ []))
     -- the only element of the inner list: (()0:)
-    ∷ (removal 2, accepted (40 ∷ 40 ∷ 41 ∷ 48 ∷ 58 ∷ 41 ∷ []) 3 (2 ∷ 0 ∷ 6 ∷ 3 ∷ 0 ∷ 0 ∷ 1 ∷ 5 ∷ 2 ∷ 1 ∷ 3 ∷ 1 ∷ 0 ∷ 0 ∷ 2 ∷ 2 ∷ 0 ∷ 3 ∷ 5 ∷ 1 ∷ 0 ∷ 0 ∷ 5 ∷ 5 ∷ 0 ∷ 0 ∷ 0 ∷ 0 ∷ 0 ∷ 0 ∷ 0 ∷ 0 ∷ 9 ∷ 9 ∷ 9 ∷ 9 ∷ 9 ∷ 9 ∷ 9 ∷ 9 ∷ []) (0 ∷ 0 ∷ 9 ∷ 9 ∷ 9 ∷ 9 ∷ []))
+    ∷ (removal 2, accepted (40 ∷ 40 ∷ 41 ∷ 48 ∷ 58 ∷ 41 ∷ []) 3 (2 ∷ 0 ∷ 6 ∷ 3 ∷ 0 ∷ 0 ∷ 1 ∷ 5 ∷ 0 ∷ 2 ∷ 1 ∷ 3 ∷ 1 ∷ 0 ∷ 0 ∷ 2 ∷ 2 ∷ 0 ∷ 0 ∷ 3 ∷ 5 ∷ 1 ∷ 0 ∷ 0 ∷ 5 ∷ 5 ∷ 0 ∷ 0 ∷ 0 ∷ 0 ∷ 0 ∷ 0 ∷ 0 ∷ 0 ∷ 0 ∷ 0 ∷ 9 ∷ 9 ∷ 9 ∷ 9 ∷ 9 ∷ 9 ∷ 9 ∷ 9 ∷ 9 ∷ []) (0 ∷ 0 ∷ 9 ∷ 9 ∷ 9 ∷ 9 ∷ []))
     -- node 0; no such node; a table that is not the sheet's own, before either
     ∷ (removal 0, refused 9)
     ∷ (removal 4, refused 8)
@@ -71,5 +71,5 @@ cases =
     ∷ []
 
 corrections : map (λ c. c .0) cases ≡ map (λ c. c .1) cases
-unfolding cases member every equal chain isNone digitsUpTo digits verbatim canon nodes depth flat tableOf rows bind skip number decimal first run past sized afterNumber afterLength verbatimOf closeHint lexeme closeStrict strictLexeme before lexemesBy strictLexemes onto enclose place placeIn nestings onlyTree onlyIn nest decode₁ decode join within put putIn insert remove nodeAt nodeIn elements hasPlace verdict judged noForm the roomChecks textChecks settled fits fitting sheetTree owns ownTree braced placeOf telling filled inserted noPlace insertingChecks inserting removed removingChecks removing
+unfolding cases member every equal chain isNone digitsUpTo digits verbatim canon nodes depth flat tableOf rows parents bind skip number decimal first run past sized afterNumber afterLength verbatimOf closeHint lexeme closeStrict strictLexeme before lexemesBy strictLexemes onto enclose place placeIn nestings onlyTree onlyIn nest decode₁ decode join within put putIn insert remove nodeAt nodeIn elements hasPlace verdict judged noForm the roomChecks textChecks settled fits fitting sheetTree owns ownTree braced placeOf telling filled inserted noPlace insertingChecks inserting removed removingChecks removing
 corrections = refl

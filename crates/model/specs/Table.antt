@@ -4,7 +4,7 @@ use mathlib.Core.List.{List, [], _∷_, _++_}
 use lib.ListN.{length, getD}
 use Rattle.model.specs.Tree.{Tree, plain, hinted, list, Forest, nil, cons, digits, verbatim, canon, nodes}
 
--- 01, "Each record has eight numbers"
+-- 01, "Each record has eight numbers"; the ninth, by 02, is said beside them (`parents`)
 pub record Row : Type 0 where
   -- 0 string, 1 string with hint, 2 list
   pub kind : ℕ
@@ -19,8 +19,9 @@ pub record Row : Type 0 where
   pub dataEnd : ℕ
 
 -- how many numbers a record has in a table that is lent as plain numbers
+-- (02, "The table is lent nine to a record": 01's eight gives way)
 abbrev pub width : ℕ
-width = 8
+width = 9
 
 abbrev pub numbers : Row → List ℕ
 numbers r = r .kind ∷ r .start ∷ r .end ∷ r .count ∷ r .hintStart ∷ r .hintEnd ∷ r .dataStart ∷ r .dataEnd ∷ []
@@ -55,18 +56,39 @@ unfoldable mutual
   rowss nil at = []
   rowss (cons t f) at = rows t at ++ rowss f (at + length (canon t))
 
--- 01, "The table is first lent as plain numbers, eight to a record"
-unfoldable pub flat : List Row → List ℕ
-flat [] = []
-flat (r ∷ rs) = numbers r ++ flat rs
+-- 02, "Each record gets a ninth number, the node number of the list directly around it, and 0 for node 0": those of a tree whose own
+-- number is the first one, and that stands in the list of the second
+unfoldable mutual
+  pub parents : Tree → ℕ → ℕ → List ℕ
+  parents (plain d) own up = up ∷ []
+  parents (hinted h d) own up = up ∷ []
+  parents (list f) own up = up ∷ parentss f (own + 1) own
+
+  pub parentss : Forest → ℕ → ℕ → List ℕ
+  parentss nil own up = []
+  parentss (cons t f) own up = parents t own up ++ parentss f (own + nodes t) up
+
+-- a record as nine numbers
+abbrev pub recorded : Row → ℕ → List ℕ
+recorded r up = numbers r ++ (up ∷ [])
+
+-- 01, "The table is first lent as plain numbers": rows, each with its parent (there are as many)
+unfoldable pub flat : List Row → List ℕ → List ℕ
+flat [] ps = []
+flat (r ∷ rs) [] = recorded r 0 ++ flat rs []
+flat (r ∷ rs) (p ∷ ps) = recorded r p ++ flat rs ps
 
 -- a tree's table; offsets are into its canonical form
 unfoldable pub tableOf : Tree → List ℕ
-tableOf t = flat (rows t 0)
+tableOf t = flat (rows t 0) (parents t 0 0)
 
 -- the row of a node, by its number
 abbrev pub rowOf : Tree → ℕ → Row
 rowOf t node = getD (rows t 0) node (plainRow 0 0 0)
+
+-- the number of the list directly around a node
+abbrev pub parentOf : Tree → ℕ → ℕ
+parentOf t node = getD (parents t 0 0) node 0
 
 -- 01, "a remainder unused": how many records a table of so many numbers has
 abbrev pub records : List ℕ → ℕ

@@ -1,8 +1,8 @@
 -- The records compared with notes, one by one, are a table compared with a tree's.
-use mathlib.Core.Path.{_≡_, refl, sym, _∙_, ap, subst}
+use mathlib.Core.Path.{_≡_, refl, sym, _∙_, ap, ap₂, subst}
 use mathlib.Core.Bool.{Bool, true, false}
 use mathlib.Core.Option.{Option, none, some}
-use mathlib.Core.List.{List, [], _∷_}
+use mathlib.Core.List.{List, [], _∷_, _++_}
 use Prim.Native.Nat.{ℕ, zero, suc, _*_, _≤_, _<_}
 use native.Mathlib.Omega.{arith}
 use native.Mathlib.Numerals.{add-one}
@@ -17,7 +17,7 @@ use Rattle.model.specs.Table.{Row, width, tableOf}
 use Rattle.model.specs.Table as table
 use Rattle.model.specs.Answers.{owns, ownTree}
 use Rattle.walk.specs.Events.{recordAt}
-use Rattle.sheets.specs.Rows.{rowList, RowIs}
+use Rattle.sheets.specs.Rows.{recordList, RowIs}
 use Rattle.sheets.specs.Told.{rowAt, Holds, Fillable, Compared}
 use Rattle.sheets.specs.declared.rows.Row as coded
 use Rattle.sheets.proofs.Filling.{Comparing, compare-start, compare-on, compare-off, compare-end}
@@ -25,32 +25,34 @@ use Rattle.sheets.proofs.Telling.{holds-readable}
 use Rattle.lookup.specs.Noted.{Sheet, Sheeted, Owning, Readables}
 use Rattle.plan.specs.Planned.{Known, Lends}
 use Rattle.records.specs.declared.Record.{Record}
-use Rattle.records.specs.Numbers.{eight, numbers}
-use Rattle.records.specs.Told.{nil, agrees, agreed, looked, Comparable}
-use Rattle.records.proofs.Tables.{length-numbers, eight-numbers}
+use Rattle.records.specs.Numbers.{nine, numbers}
+use Rattle.records.specs.Told.{nil, parentAt, agrees, agreed, looked, Comparable}
+use Rattle.records.proofs.Tables.{length-numbers, nine-numbers}
 
--- ---- eight numbers
+-- ---- nine numbers
 
 unequal : (x y : List ℕ) (k : ℕ) → (getD x k 0 ≡ getD y k 0 → ⊥) → false ≡ equal x y
 unequal x y k n = by-bool (equal x y) (λ t. absurd (n (ap (λ (l : List ℕ). getD l k 0) (equal-true x y t)))) (λ t. sym t)
 
 -- the k-th differs
-pub apart : (k : ℕ) (r : Record) (row : coded.Row) → (getD (eight r) k 0 ≡ getD (rowList row) k 0 → ⊥) → false ≡ equal (eight r) (rowList row)
-apart k r row d = unequal (eight r) (rowList row) k d
+pub apart : (k : ℕ) (r : Record) (row : coded.Row) (up : ℕ) → (getD (nine r) k 0 ≡ getD (recordList row up) k 0 → ⊥) → false ≡ equal (nine r) (recordList row up)
+apart k r row up d = unequal (nine r) (recordList row up) k d
 
-pub all-but-last : (r : Record) (row : coded.Row) → r .kind ≡ row .kind → r .start ≡ row .start → r .end ≡ row .end → r .nodes ≡ row .nodes
-    → r .«hint_start» ≡ row .«hint_start» → r .«hint_end» ≡ row .«hint_end» → r .«data_start» ≡ row .«data_start» → eqb (r .«data_end») (row .«data_end») ≡ equal (eight r) (rowList row)
-all-but-last r row a b c d e f g =
-    by-eq (r .«data_end») (row .«data_end»)
-    (λ h. eq-eqb _ _ h ∙ sym (same-equal (eight r) (rowList row) (λ t. a t ∷ b t ∷ c t ∷ d t ∷ e t ∷ f t ∷ g t ∷ h t ∷ [])))
-    (λ h. ne-eqb _ _ h ∙ unequal (eight r) (rowList row) 7 h)
+pub all-but-last : (r : Record) (row : coded.Row) (up : ℕ) → r .kind ≡ row .kind → r .start ≡ row .start → r .end ≡ row .end → r .nodes ≡ row .nodes
+    → r .«hint_start» ≡ row .«hint_start» → r .«hint_end» ≡ row .«hint_end» → r .«data_start» ≡ row .«data_start» → r .«data_end» ≡ row .«data_end»
+    → eqb (r .parent) up ≡ equal (nine r) (recordList row up)
+all-but-last r row up a b c d e f g i =
+    by-eq (r .parent) up
+    (λ h. eq-eqb _ _ h ∙ sym (same-equal (nine r) (recordList row up) (λ t. a t ∷ b t ∷ c t ∷ d t ∷ e t ∷ f t ∷ g t ∷ i t ∷ h t ∷ [])))
+    (λ h. ne-eqb _ _ h ∙ unequal (nine r) (recordList row up) 8 h)
 
 -- ---- a record
 
 module _ (notes : List ℕ) (i : ℕ) (r : Record) (before : Bool) where
-  pub is-agreed : before ≡ true → (row : coded.Row) → RowIs row (rowAt notes i) → (b : Bool) → b ≡ equal (eight r) (rowList row) → b ≡ agrees notes i r before
+  pub is-agreed : before ≡ true → (row : coded.Row) → RowIs row (rowAt notes i) → (up : ℕ) → up ≡ parentAt notes i → (b : Bool) → b ≡ equal (nine r) (recordList row up)
+      → b ≡ agrees notes i r before
   unfolding agrees
-  is-agreed y row is b e = e ∙ ap (equal (eight r)) is ∙ sym (picked _ _ y)
+  is-agreed y row is up u b e = e ∙ ap (equal (nine r)) (ap₂ (λ (l : List ℕ) (p : ℕ). l ++ (p ∷ [])) is u) ∙ sym (picked _ _ y)
 
   pub is-not : before ≡ false → false ≡ agrees notes i r before
   unfolding agrees
@@ -90,11 +92,11 @@ module _ (ys : List Record) (notes : List ℕ) (n : ℕ) (g : Fillable notes n (
   unfolding agreed agrees
   walked-on k h (off y w) = off (unpicked _ _ y) w
   walked-on k h (on y w) =
-      let e : equal (eight (getD ys k nil)) (table.numbers (rowAt notes k)) ≡ equal (recordAt (numbers ys) k) (rowList (coded-row (rowAt notes k))) =
-      ap (λ (l : List ℕ). equal l (table.numbers (rowAt notes k))) (sym (eight-numbers ys k (omega arith))) in
-      by-bool (equal (eight (getD ys k nil)) (table.numbers (rowAt notes k)))
-      (λ q. on (picked _ _ y ∙ q) (subst (Comparing notes n (numbers ys)) (add-one k) (compare-on notes n (numbers ys) k w h (coded-row (rowAt notes k)) refl _ e q)))
-      (λ q. off (picked _ _ y ∙ q) (compare-off notes n (numbers ys) k w h (coded-row (rowAt notes k)) refl _ e q))
+      let e : equal (nine (getD ys k nil)) (table.recorded (rowAt notes k) (parentAt notes k)) ≡ equal (recordAt (numbers ys) k) (recordList (coded-row (rowAt notes k)) (parentAt notes k)) =
+      ap (λ (l : List ℕ). equal l (table.recorded (rowAt notes k) (parentAt notes k))) (sym (nine-numbers ys k (omega arith))) in
+      by-bool (equal (nine (getD ys k nil)) (table.recorded (rowAt notes k) (parentAt notes k)))
+      (λ q. on (picked _ _ y ∙ q) (subst (Comparing notes n (numbers ys)) (add-one k) (compare-on notes n (numbers ys) k w h (coded-row (rowAt notes k)) refl (parentAt notes k) refl _ e q)))
+      (λ q. off (picked _ _ y ∙ q) (compare-off notes n (numbers ys) k w h (coded-row (rowAt notes k)) refl (parentAt notes k) refl _ e q))
 
   walked-to : (k : ℕ) → k ≤ n → Walked notes n (numbers ys) k (agreed ys notes true k)
   unfolding agreed

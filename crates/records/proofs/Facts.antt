@@ -22,7 +22,7 @@ pub one-more : (i : ℕ) → i + 1 ≡ suc i
 one-more i = add-suc i zero ∙ ap suc (add-zero i)
 
 -- the place of a record fits
-pub scaled : (i n : ℕ) → i < n → n * 32 < 2 ^ 63 → i * 32 < 2 ^ 64
+pub scaled : (i n : ℕ) → i < n → n * 36 < 2 ^ 63 → i * 36 < 2 ^ 64
 scaled i n l f = omega arith
 
 -- a call that returns `()`, a `bool` or a `usize` returns a value of that type

@@ -7,14 +7,14 @@ use Rattle.base.specs.Choice.{pick}
 use Rattle.model.specs.Answers.{Part, hintPart, dataPart}
 use Rattle.records.specs.declared.Record.{Record}
 
--- the eight numbers of a record, in 01's order
-abbrev pub eight : Record → List ℕ
-eight r = r .kind ∷ r .start ∷ r .end ∷ r .nodes ∷ r .«hint_start» ∷ r .«hint_end» ∷ r .«data_start» ∷ r .«data_end» ∷ []
+-- the nine numbers of a record, in 01's order, and the ninth of 02
+abbrev pub nine : Record → List ℕ
+nine r = r .kind ∷ r .start ∷ r .end ∷ r .nodes ∷ r .«hint_start» ∷ r .«hint_end» ∷ r .«data_start» ∷ r .«data_end» ∷ r .parent ∷ []
 
--- 01, "Each record has eight numbers", "the host keeps the table as records": the numbers of each, one after another
+-- 02, "The table is lent nine to a record", and 01, "the host keeps the table as records": the numbers of each, one after another
 unfoldable pub numbers : List Record → List ℕ
 numbers [] = []
-numbers (r ∷ rs) = eight r ++ numbers rs
+numbers (r ∷ rs) = nine r ++ numbers rs
 
 -- where a node's hint stands, or its data: 01, "Asked for a node's hint, we show the part of the sheet that holds it …", "Asked for data …"
 unfoldable pub placeOf : Bool → List ℕ → ℕ → List ℕ → ℕ → ℕ → Option Part

@@ -7,19 +7,19 @@ use lib.Dec.{ltb}
 use Rattle.base.specs.Choice.{pick, both, equal}
 use Rattle.model.specs.Table.{Row}
 use Rattle.model.specs.Table as table
-use Rattle.sheets.specs.Told.{rowAt, Readable}
+use Rattle.sheets.specs.Told.{rowAt, parentPart, Readable}
 use Rattle.answers.specs.declared.Reading.{Reading}
 use Rattle.answers.specs.declared.Reading.the-variants as reading
 use Rattle.records.specs.declared.Record.{Record}
-use Rattle.records.specs.Numbers.{eight}
+use Rattle.records.specs.Numbers.{nine}
 
 -- a record of zeros
 abbrev pub nil : Record
-nil = record { kind = 0; start = 0; end = 0; nodes = 0; «hint_start» = 0; «hint_end» = 0; «data_start» = 0; «data_end» = 0 }
+nil = record { kind = 0; start = 0; end = 0; nodes = 0; «hint_start» = 0; «hint_end» = 0; «data_start» = 0; «data_end» = 0; parent = 0 }
 
--- the record with the numbers of a row
-abbrev pub recordOf : Row → Record
-recordOf r =
+-- the record with the numbers of a row, and of the list around its node
+abbrev pub recordOf : Row → ℕ → Record
+recordOf r up =
     record {
       kind = r .kind;
       start = r .start;
@@ -29,7 +29,12 @@ recordOf r =
       «hint_end» = r .hintEnd;
       «data_start» = r .dataStart;
       «data_end» = r .dataEnd;
+      parent = up;
     }
+
+-- the parent that a note tells
+abbrev pub parentAt : List ℕ → ℕ → ℕ
+parentAt notes i = parentPart (getD notes i 0)
 
 -- how many nodes an answer gives. 01, "Counts are 0 in a refusal"
 unfoldable pub countOf : Reading → ℕ
@@ -44,7 +49,7 @@ touched (reading.Refused f) old = 0
 
 -- record i of count nodes: the one that its note tells, and zeros past the count
 unfoldable pub toldAt : List ℕ → ℕ → ℕ → Record
-toldAt notes count i = pick (ltb i count) (recordOf (rowAt notes i)) nil
+toldAt notes count i = pick (ltb i count) (recordOf (rowAt notes i) (parentAt notes i)) nil
 
 -- the first n records become these
 unfoldable pub told : List ℕ → ℕ → ℕ → List Record → List Record
@@ -64,7 +69,7 @@ pub record Tells (notes : List ℕ) (r : Reading) (old room : ℕ) : Type 0 wher
 
 -- a record is the one that a note tells, and what came before is so too
 unfoldable pub agrees : List ℕ → ℕ → Record → Bool → Bool
-agrees notes i r before = both before (equal (eight r) (table.numbers (rowAt notes i)))
+agrees notes i r before = both before (equal (nine r) (table.recorded (rowAt notes i) (parentAt notes i)))
 
 -- the first n records are those that notes tell, if they were noted
 unfoldable pub agreed : List Record → List ℕ → Bool → ℕ → Bool

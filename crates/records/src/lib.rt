@@ -26,7 +26,7 @@ pub use foremen::extract;
 pub use foremen::extract_own;
 pub use piecing::pieces_end;
 
-// A node's record: its eight numbers, in document 01's order.
+// A node's record: its eight numbers, in document 01's order, and the number of the list directly around it, 0 for node 0.
 #[repr(C)]
 pub struct Record {
     pub kind: u32,
@@ -37,6 +37,7 @@ pub struct Record {
     pub hint_end: u32,
     pub data_start: u32,
     pub data_end: u32,
+    pub parent: u32,
 }
 
 // The records that an answer touches become those that notes tell.
@@ -134,8 +135,8 @@ fn read_middle(form: u32, source: &[u8], canonical: &mut [u8], records: &mut [Re
     read_in(form, source, canonical, records, &mut notes)
 }
 
-// A text of the form named (1 canonical, 2 basic, 3 advanced) into canonical octets and the records of its nodes. In a
-// refusal both lent buffers hold what they held; in an acceptance what lies past the octets and the records stays.
+// A text of the form named (1 canonical, 2 basic, 3 advanced, 4 advanced with trees in braces) into canonical octets and the records of
+// its nodes. In a refusal both lent buffers hold what they held; in an acceptance what lies past the octets and the records stays.
 pub fn read(form: u32, source: &[u8], canonical: &mut [u8], records: &mut [Record]) -> Reading
     ensures { λ r. ⌜ outcome r (now (canonical .exit)) (numbers (now (records .exit))) ≡ reading form (now (source .entry)) (now (canonical .entry)) (numbers (now (records .entry))) ⌝ }
 {

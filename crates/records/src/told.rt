@@ -1,16 +1,16 @@
 // The record that a note tells, and whether a record is that one.
 ghost use mathlib.Core.Path.{_≡_};
 ghost use Rattle.base.specs.Choice.{equal};
-ghost use Rattle.sheets.specs.Rows.{rowList};
+ghost use Rattle.sheets.specs.Rows.{recordList};
 ghost use Rattle.sheets.specs.Told.{Readable};
-ghost use Rattle.records.specs.Numbers.{eight};
+ghost use Rattle.records.specs.Numbers.{nine};
 ghost use Rattle.records.specs.Told.{nil, touched, countOf, toldAt, agrees, looked, Tellable};
 use crate::Record;
 use answers::Reading;
 
-// A record with the numbers of a row.
-fn record_with(row: sheets::Row) -> Record
-    ensures { λ r. ⌜ eight r ≡ rowList row ⌝ }
+// A record with the numbers of a row, and of the list around its node.
+fn record_with(row: sheets::Row, up: u32) -> Record
+    ensures { λ r. ⌜ nine r ≡ recordList row up ⌝ }
 {
     Record {
         kind: row.kind,
@@ -21,6 +21,7 @@ fn record_with(row: sheets::Row) -> Record
         hint_end: row.hint_end,
         data_start: row.data_start,
         data_end: row.data_end,
+        parent: up,
     }
 }
 
@@ -37,6 +38,7 @@ fn zero_record() -> Record
         hint_end: 0,
         data_start: 0,
         data_end: 0,
+        parent: 0,
     }
 }
 
@@ -56,7 +58,7 @@ pub fn record_by(notes: &[usize], r: Reading, i: usize) -> Record
     match r {
         Reading::Accepted { length: _, nodes } => {
             if i < nodes {
-                return record_with(sheets::row_of(notes, i));
+                return record_with(sheets::row_of(notes, i), sheets::parent_of(notes, i));
             }
             zero_record()
         }
@@ -74,9 +76,9 @@ pub fn touched_by(r: Reading, old: usize) -> usize
     }
 }
 
-// Whether a record has the numbers of a row.
-fn same_numbers(r: Record, row: sheets::Row) -> bool
-    ensures { λ b. ⌜ b ≡ equal (eight r) (rowList row) ⌝ }
+// Whether a record has the numbers of a row, and of the list around its node.
+fn same_numbers(r: Record, row: sheets::Row, up: u32) -> bool
+    ensures { λ b. ⌜ b ≡ equal (nine r) (recordList row up) ⌝ }
 {
     if r.kind != row.kind {
         return false;
@@ -99,7 +101,10 @@ fn same_numbers(r: Record, row: sheets::Row) -> bool
     if r.data_start != row.data_start {
         return false;
     }
-    r.data_end == row.data_end
+    if r.data_end != row.data_end {
+        return false;
+    }
+    r.parent == up
 }
 
 // The same, with room for every note.
@@ -116,7 +121,7 @@ pub fn record_agrees(notes: &[usize], i: usize, r: Record, before: bool) -> bool
     ensures { λ b. ⌜ b ≡ agrees (now (notes .entry)) i r before ⌝ }
 {
     if before {
-        return same_numbers(r, sheets::row_of(notes, i));
+        return same_numbers(r, sheets::row_of(notes, i), sheets::parent_of(notes, i));
     }
     false
 }

@@ -1,7 +1,7 @@
 -- A loop over lexemes that keeps notes: keeping what is still to come gives all notes, whatever text the lexemes are read from.
-use Prim.Native.Nat.{ℕ, _+_, _-_, _≤_, _<_, max}
+use Prim.Native.Nat.{ℕ, zero, suc, _+_, _-_, _≤_, _<_, max}
 use native.Mathlib.Omega.{arith}
-use mathlib.Core.Path.{_≡_, refl, sym, ap, _∙_}
+use mathlib.Core.Path.{_≡_, refl, sym, ap, ap₂, _∙_}
 use mathlib.Core.Option.{some}
 use mathlib.Core.List.{List, [], _∷_}
 use lib.ListN.{length, getD, set, length-set}
@@ -13,15 +13,21 @@ use Rattle.model.specs.Table.{Row}
 use Rattle.model.specs.Tree.{Tree, nodes, depth}
 use Rattle.model.proofs.Nesting.{unnest}
 use Rattle.model.specs.Count.{Count, count, step, walk, counts}
-use Rattle.walk.specs.Events.{event, Frame, events}
+use Rattle.walk.specs.Events.{event, Frame, above, events}
 use Rattle.walk.proofs.Chained.{walk-grows}
 use Rattle.walk.proofs.Fronts.{framesOf, frames-push, frames-pop, walk-front, close-step-is}
 use Rattle.walk.proofs.Walked.{walk-unnest}
-use Rattle.sheets.specs.Places.{spanBy}
-use Rattle.sheets.specs.Notes.{listMark, noteBy, noteOf, noted, keeping, Stacks, Entered, Leaving, Left}
-use Rattle.sheets.proofs.Keeping.{keeping-all}
+use Rattle.sheets.specs.Places.{shift, spanBy}
+use Rattle.sheets.specs.Notes.{listMark, noteBy, noteOf, noted, keeping, upOf, Stacks, Entered, Leaving, Left}
+use Rattle.sheets.proofs.Keeping.{up-below, keeping-all}
 
 -- ---- the lists that are open
+
+-- the innermost
+above-frames : (s n : List ℕ) (k : ℕ) → above (framesOf s n k) ≡ upOf n k
+unfolding above framesOf upOf
+above-frames s n zero = refl
+above-frames s n (suc k) = refl
 
 -- they begin below a bound, and their numbers are below `seen`
 pub record Stacked (starts nodeNos : List ℕ) (bound opened seen : ℕ) : Type 0 where
@@ -54,9 +60,12 @@ module _ (starts nodeNos : List ℕ) (bound opened seen : ℕ) (w : Stacked star
             (λ e. rw (getD-set-other nodeNos opened k seen 0 e) (omega (arith, w .numbersLow k (omega arith) l))));
       }
 
+  pub stacked-up : (k : ℕ) → k ≤ opened → seen < maxSource → upOf nodeNos k < shift
+  stacked-up k h s = up-below nodeNos k shift (omega arith) (w .stacks .numbersLong) (λ i j l. omega (arith, w .numbersLow i (omega arith) l))
+
   pub stacked-leaving : (at : ℕ) → (opened ≡ 0 → ⊥) → seen < maxSource → at ≤ maxSource → bound ≤ maxSource → Leaving starts nodeNos (opened - 1) seen at
   stacked-leaving at z s a b =
-      record { few = s; short = a; start = λ l. omega (arith, w .startsLow (opened - 1) (omega arith) l); number = λ l. w .numbersLow (opened - 1) (omega arith) l }
+      record { few = s; short = a; start = λ l. omega (arith, w .startsLow (opened - 1) (omega arith) l); number = λ l. w .numbersLow (opened - 1) (omega arith) l; long = w .stacks .numbersLong; above = stacked-up (opened - 1) (omega arith) s }
 
 -- ---- what is still to come
 
@@ -105,18 +114,18 @@ module _ (whole starts nodeNos notes : List ℕ) (at opened deepest seen : ℕ) 
         let p : at ≡ at + 1 - 1 = omega arith in
         record {
           walks = o;
-          same = ap (λ (y : List ℕ). keeping y (events ls (at + 1) seen (framesOf starts nodeNos (opened - 1)))) (v .kept l ∙ ap listed p)
+          same = ap (λ (y : List ℕ). keeping y (events ls (at + 1) seen (framesOf starts nodeNos (opened - 1)))) (v .kept l ∙ ap₂ listed p (sym (above-frames starts nodeNos (opened - 1))))
               ∙ ap (λ (st : List Frame). keeping notes (events (closing ∷ ls) at seen st)) (sym (frames-pop starts nodeNos opened (omega arith))) ∙ c .same;
         })
       where
-        listed : ℕ → List ℕ
-        listed e = set notes (getD nodeNos (opened - 1) 0) (noteBy (spanBy (getD starts (opened - 1) 0 + 1) e) (listMark + (seen - getD nodeNos (opened - 1) 0)))
+        listed : ℕ → ℕ → List ℕ
+        listed e u = set notes (getD nodeNos (opened - 1) 0) (noteBy (spanBy (getD starts (opened - 1) 0 + 1) e) (listMark + (seen - getD nodeNos (opened - 1) 0)) u)
 
     -- a string, whose row is given
     pub kept-string : (l : Lexeme) (row : Row) (next : ℕ) → Kept whole starts nodeNos notes at opened deepest seen t (l ∷ ls)
         → step l (count opened deepest seen) ≡ some (count opened deepest (seen + 1))
-        → events (l ∷ ls) at seen (framesOf starts nodeNos opened) ≡ event seen row ∷ events ls next (seen + 1) (framesOf starts nodeNos opened)
-        → (notes′ : List ℕ) → notes′ ≡ set notes seen (noteOf row) → Kept whole starts nodeNos notes′ next opened deepest (seen + 1) t ls
+        → events (l ∷ ls) at seen (framesOf starts nodeNos opened) ≡ event seen row (above (framesOf starts nodeNos opened)) ∷ events ls next (seen + 1) (framesOf starts nodeNos opened)
+        → (notes′ : List ℕ) → notes′ ≡ set notes seen (noteOf row (upOf nodeNos opened)) → Kept whole starts nodeNos notes′ next opened deepest (seen + 1) t ls
     unfolding keeping
     kept-string l row next c steps comes notes′ k =
         walk-front l ls (count opened deepest seen) (count 0 (depth t) (nodes t)) (c .walks)
@@ -124,5 +133,5 @@ module _ (whole starts nodeNos notes : List ℕ) (at opened deepest seen : ℕ) 
         let e : a ≡ count opened deepest (seen + 1) = some-same (λ (a : Count). a ≡ count opened deepest (seen + 1)) (sym steps ∙ i) refl in
         record {
           walks = ap (walk ls) (sym e) ∙ j;
-          same = ap (λ (z : List ℕ). keeping z (events ls next (seen + 1) (framesOf starts nodeNos opened))) k ∙ ap (keeping notes) (sym comes) ∙ c .same;
+          same = ap (λ (z : List ℕ). keeping z (events ls next (seen + 1) (framesOf starts nodeNos opened))) (k ∙ ap (λ (u : ℕ). set notes seen (noteOf row u)) (sym (above-frames starts nodeNos opened))) ∙ ap (keeping notes) (sym comes) ∙ c .same;
         })

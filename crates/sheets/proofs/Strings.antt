@@ -14,7 +14,7 @@ use Rattle.model.specs.Tree.{digits, verbatim}
 use Rattle.model.proofs.Sizes.{verbatim-length}
 use Rattle.decimal.specs.Numbers.{Wide}
 use Rattle.decimal.proofs.Writing.{wide-1, wide-2, wide-3, wide-4, wide-5}
-use Rattle.walk.specs.Events.{event, Frame, events, stringRow, hintRow}
+use Rattle.walk.specs.Events.{event, Frame, above, events, stringRow, hintRow}
 use Rattle.sheets.specs.Places.{shift, spanBy}
 use Rattle.sheets.specs.Notes.{noteBy, noteOf, Small}
 use Rattle.sheets.specs.Strung.{Verbatim, Bodied, BodyAt, Strung, plainly, hintedly, stringRowOf, Keepable, KeptString}
@@ -61,7 +61,7 @@ module _ (pos end : ℕ) (g : Bodied pos end) where
 
 -- ---- what is kept
 
-module _ (pos mid end : ℕ) (g : Keepable pos mid end) where
+module _ (pos mid end up : ℕ) (g : Keepable pos mid end up) where
   module _ (z : mid ≡ 0) where
     pub plain-bodied : Bodied pos end
     plain-bodied = by (g .is)
@@ -74,15 +74,18 @@ module _ (pos mid end : ℕ) (g : Keepable pos mid end) where
       pub plain-packs : s < shift
       plain-packs = omega (arith, b .below, g .small)
 
-      pub plain-kept : (span : ℕ) → span ≡ spanBy s end → (node : ℕ) (before after : List ℕ) → after ≡ set before node (noteBy span 0) → KeptString node pos mid end before after
+      pub plain-small : (span : ℕ) → span ≡ spanBy s end → Small span 0 up
+      plain-small span p = record { spans = omega (arith, b .below, g .small); thirds = omega arith; ups = g .ups }
+
+      pub plain-kept : (span : ℕ) → span ≡ spanBy s end → (node : ℕ) (before after : List ℕ) → after ≡ set before node (noteBy span 0 up) → KeptString node pos mid end up before after
       unfolding stringRowOf
-      plain-kept span p node before after k = record { long = ap length k ∙ length-set before node (noteBy span 0); kept = λ l w. by l w }
+      plain-kept span p node before after k = record { long = ap length k ∙ length-set before node (noteBy span 0 up); kept = λ l w. by l w }
         where
-          by : (l : Lexeme) → Strung l pos mid end → after ≡ set before node (noteOf (stringRowOf pos l))
+          by : (l : Lexeme) → Strung l pos mid end → after ≡ set before node (noteOf (stringRowOf pos l) up)
           by l (plainly d e m v) =
               let q : s ≡ bodyStart pos d = b .is d v in
               let r : end ≡ bodyEnd pos d = v .long in
-              rw e (k ∙ ap (λ (n : ℕ). set before node (noteBy n 0)) (p ∙ rw (q, r)))
+              rw e (k ∙ ap (λ (n : ℕ). set before node (noteBy n 0 up)) (p ∙ rw (q, r)))
           by l (hintedly h d to e m v w) = absurd (omega arith)
 
   module _ (z : mid ≡ 0 → ⊥) where
@@ -106,14 +109,14 @@ module _ (pos mid end : ℕ) (g : Keepable pos mid end) where
       pub data-packs : s < shift
       data-packs = omega (arith, b .below, g .small)
 
-      pub data-small : (span : ℕ) → span ≡ spanBy s end → Small span from
-      data-small span p = record { spans = omega (arith, b .below, g .small); thirds = omega (arith, a .below, bodied-from mid end data-bodied, g .small) }
+      pub data-small : (span : ℕ) → span ≡ spanBy s end → Small span from up
+      data-small span p = record { spans = omega (arith, b .below, g .small); thirds = omega (arith, a .below, bodied-from mid end data-bodied, g .small); ups = g .ups }
 
-      pub hint-kept : (span : ℕ) → span ≡ spanBy s end → (node : ℕ) (before after : List ℕ) → after ≡ set before node (noteBy span from) → KeptString node pos mid end before after
+      pub hint-kept : (span : ℕ) → span ≡ spanBy s end → (node : ℕ) (before after : List ℕ) → after ≡ set before node (noteBy span from up) → KeptString node pos mid end up before after
       unfolding stringRowOf
-      hint-kept span p node before after k = record { long = ap length k ∙ length-set before node (noteBy span from); kept = λ l w. by l w }
+      hint-kept span p node before after k = record { long = ap length k ∙ length-set before node (noteBy span from up); kept = λ l w. by l w }
         where
-          by : (l : Lexeme) → Strung l pos mid end → after ≡ set before node (noteOf (stringRowOf pos l))
+          by : (l : Lexeme) → Strung l pos mid end → after ≡ set before node (noteOf (stringRowOf pos l) up)
           by l (plainly d e m v) = absurd (z m)
           by l (hintedly h d to e m v w) =
               let t : to ≡ mid - 1 = omega arith in
@@ -121,11 +124,11 @@ module _ (pos mid end : ℕ) (g : Keepable pos mid end) where
               let y : mid ≡ bodyEnd (pos + 1) h + 1 = omega (arith, v .long) in
               let r : s ≡ bodyStart (bodyEnd (pos + 1) h + 1) d = b .is d w ∙ ap (λ (i : ℕ). bodyStart i d) y in
               let x : end ≡ bodyEnd (bodyEnd (pos + 1) h + 1) d = w .long ∙ ap (λ (i : ℕ). bodyEnd i d) y in
-              rw (e, ← r, ← x, ← q) (k ∙ ap (λ (n : ℕ). set before node (noteBy n from)) p)
+              rw (e, ← r, ← x, ← q) (k ∙ ap (λ (n : ℕ). set before node (noteBy n from up)) p)
 
 -- ---- and what is met
 
-pub string-events : (l : Lexeme) (pos mid end : ℕ) → Strung l pos mid end → (seen : ℕ) (ls : List Lexeme) (st : List Frame) → events (l ∷ ls) pos seen st ≡ event seen (stringRowOf pos l) ∷ events ls end (seen + 1) st
+pub string-events : (l : Lexeme) (pos mid end : ℕ) → Strung l pos mid end → (seen : ℕ) (ls : List Lexeme) (st : List Frame) → events (l ∷ ls) pos seen st ≡ event seen (stringRowOf pos l) (above st) ∷ events ls end (seen + 1) st
 unfolding events stringRowOf
 string-events l pos mid end (plainly d e m v) seen ls st = rw (e, v .long)
 string-events l pos mid end (hintedly h d to e m v w) seen ls st =

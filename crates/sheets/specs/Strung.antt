@@ -38,11 +38,12 @@ stringRowOf at (hinting h d) = hintRow at h d
 stringRowOf at opening = plainRow 0 0 0
 stringRowOf at closing = plainRow 0 0 0
 
-pub record Keepable (pos mid end : ℕ) : Type 0 where
+pub record Keepable (pos mid end up : ℕ) : Type 0 where
   pub lexeme : Lexeme
   pub is : Strung lexeme pos mid end
   pub small : end < shift
+  pub ups : up < shift
 
-pub record KeptString (node pos mid end : ℕ) (before after : List ℕ) : Type 0 where
+pub record KeptString (node pos mid end up : ℕ) (before after : List ℕ) : Type 0 where
   pub long : length after ≡ length before
-  pub kept : (l : Lexeme) → Strung l pos mid end → after ≡ set before node (noteOf (stringRowOf pos l))
+  pub kept : (l : Lexeme) → Strung l pos mid end → after ≡ set before node (noteOf (stringRowOf pos l) up)

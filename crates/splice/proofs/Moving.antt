@@ -1,5 +1,7 @@
 -- The functions over notes: what each does at one place, and what its loop keeps.
-use Prim.Native.Nat.{ℕ, _+_, _*_, _-_, _≤_, _<_}
+use mir.Syntax.{w64}
+use mir.Val.{Fits}
+use Prim.Native.Nat.{ℕ, _+_, _*_, _-_, _/_, _≤_, _<_}
 use native.Mathlib.Omega.{arith}
 use mathlib.Core.Path.{_≡_, refl, sym, ap, ap₂, _∙_, subst}
 use mathlib.Core.Bool.{Bool, true, false}
@@ -12,7 +14,7 @@ use Rattle.base.proofs.Cases.{by-eq, picked, unpicked}
 use Rattle.model.specs.Limits.{mostNodes}
 use Rattle.sheets.specs.Notes.{listMark}
 use Rattle.sheets.specs.Told.{rowBy, rowAt, startPart, endPart, thirdPart, Countable}
-use Rattle.splice.specs.Moved.{span, hinting, movedNote, grownNote, Moving, Growing, holds, Growable, Growths, Shiftable, Shifted, Renotable, Renoted}
+use Rattle.splice.specs.Moved.{span, hinting, top, movedNote, ownNote, grownNote, Moving, Owning, Growing, holds, Growable, Growths, Shiftable, Shifted, Renotable, Renoted}
 
 -- ---- one note
 
@@ -44,6 +46,19 @@ module _ (m l l′ : ℕ) where
 
     pub growing-low : Growing m b l l′ → b ≡ true → l ≤ m + l′
     growing-low g y = g .low y
+
+-- ---- the node's own
+
+module _ (note start m : ℕ) where
+  pub own-moving : Owning note start m → Moving note 0 start
+  own-moving g = g .moving
+
+  pub own-fits : Owning note start m → (r : ℕ) → r ≡ movedNote note 0 start → Fits w64 (r + m / top * top)
+  own-fits g r e = omega (arith, g .low, g .small, e)
+
+  pub own-note : (r : ℕ) → r ≡ movedNote note 0 start → r + m / top * top ≡ ownNote note start m
+  unfolding ownNote
+  own-note r e = ap (λ (x : ℕ). x + m / top * top) e
 
 -- ---- a store
 
@@ -158,7 +173,13 @@ module _ (notes : List ℕ) (node count start l l′ note : ℕ) (g : Renotable 
     pub renote-inside : node < length notes₁
     renote-inside = omega (arith, w .long, g .inside, g .fits)
 
-    module _ (v : ℕ) (e : v ≡ movedNote note 0 start) where
+    renote-same : getD notes₁ node 0 ≡ getD notes node 0
+    renote-same = w .rest node (omega arith)
+
+    pub renote-owning : Owning note start (getD notes₁ node 0)
+    renote-owning = rw renote-same (g .entry)
+
+    module _ (v : ℕ) (e : v ≡ ownNote note start (getD notes₁ node 0)) where
       abbrev notes₂ : List ℕ
       notes₂ = set notes₁ node v
 
@@ -181,6 +202,6 @@ module _ (notes : List ℕ) (node count start l l′ note : ℕ) (g : Renotable 
           record {
             long = s .long ∙ length-set notes₁ node v ∙ w .long;
             grew = λ i h. s .first i (omega arith) ∙ stored-other notes₁ node v i (λ q. omega arith) ∙ w .done i h;
-            entry = s .first node (omega arith) ∙ getD-set-same notes₁ node v 0 renote-inside ∙ e;
+            entry = s .first node (omega arith) ∙ getD-set-same notes₁ node v 0 renote-inside ∙ e ∙ ap (ownNote note start) renote-same;
             shifted = λ i h k. s .done i (omega arith) k ∙ ap (λ (m : ℕ). movedNote m l l′) (above i h);
           }

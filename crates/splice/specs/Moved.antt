@@ -1,5 +1,5 @@
 -- Notes where nodes keep their numbers and move, and the lists around grow.
-use Prim.Native.Nat.{ℕ, _+_, _*_, _-_, _≤_, _<_}
+use Prim.Native.Nat.{ℕ, _+_, _*_, _-_, _/_, _≤_, _<_}
 use mathlib.Core.Path.{_≡_}
 use mathlib.Core.Bool.{Bool, true}
 use mathlib.Core.List.{List}
@@ -20,11 +20,23 @@ span = shift + 1
 abbrev pub hinting : ℕ
 hinting = shift * shift + span
 
+-- above what else a note tells stands the number of the list around its node
+abbrev pub top : ℕ
+top = shift * shift * shift
+
+-- so small that a note and what it grows by fit 64 bits
+abbrev pub roomy : ℕ
+roomy = 49152 * top
+
 -- the note of a node that moves by l′ less l
 unfoldable pub movedNote : ℕ → ℕ → ℕ → ℕ
 movedNote m l l′ =
     pick (eqb (thirdPart m) 0) (m + l′ * span - l * span)
     (pick (ltb (thirdPart m) listMark) (m + l′ * hinting - l * hinting) (m + l′ * span - l * span))
+
+-- that of a node that comes to stand at `start` in place of one with the note m: in the same list
+unfoldable pub ownNote : ℕ → ℕ → ℕ → ℕ
+ownNote note start m = movedNote note 0 start + m / top * top
 
 -- that of a list around, whose end does
 unfoldable pub grownNote : ℕ → Bool → ℕ → ℕ → ℕ
@@ -32,13 +44,18 @@ grownNote m around l l′ = pick around (m + l′ - l) m
 
 -- lengths are a sheet's, and no difference is below 0
 pub record Moving (m l l′ : ℕ) : Type 0 where
-  pub small : m < 2 * (shift * shift * shift)
+  pub small : m < roomy
   pub short : (l ≤ maxSource) × (l′ ≤ maxSource)
   pub low : l * span ≤ m + l′ * span
   pub hinted : (thirdPart m ≡ 0 → ⊥) → thirdPart m < listMark → l * hinting ≤ m + l′ * hinting
 
+pub record Owning (note start m : ℕ) : Type 0 where
+  pub moving : Moving note 0 start
+  pub low : movedNote note 0 start < 3 * top
+  pub small : m < roomy
+
 pub record Growing (m : ℕ) (around : Bool) (l l′ : ℕ) : Type 0 where
-  pub small : m < 2 * (shift * shift * shift)
+  pub small : m < roomy
   pub short : (l ≤ maxSource) × (l′ ≤ maxSource)
   pub low : around ≡ true → l ≤ m + l′
 
@@ -81,11 +98,11 @@ pub record Renotable (notes : List ℕ) (node count start l l′ note : ℕ) : T
   pub fits : count ≤ length notes
   pub few : count ≤ mostNodes
   pub grows : (i : ℕ) → i < node → Growing (getD notes i 0) (holds notes node i) l l′
-  pub entry : Moving note 0 start
+  pub entry : Owning note start (getD notes node 0)
   pub shifts : (i : ℕ) → node < i → i < count → Moving (getD notes i 0) l l′
 
 pub record Renoted (notes : List ℕ) (node count start l l′ note : ℕ) (after : List ℕ) : Type 0 where
   pub long : length after ≡ length notes
   pub grew : (i : ℕ) → i < node → getD after i 0 ≡ grownNote (getD notes i 0) (holds notes node i) l l′
-  pub entry : getD after node 0 ≡ movedNote note 0 start
+  pub entry : getD after node 0 ≡ ownNote note start (getD notes node 0)
   pub shifted : (i : ℕ) → node < i → i < count → getD after i 0 ≡ movedNote (getD notes i 0) l l′

@@ -1,7 +1,7 @@
 // Notes where a string gives way to a string: every node keeps its number, so that no octet outside the node is gone through again.
 ghost use mathlib.Core.Path.{_≡_};
 ghost use lib.ListN.{length};
-ghost use Rattle.splice.specs.Moved.{movedNote, grownNote, Moving, Growing, Growable, Grown, Shiftable, Shifted, Renotable, Renoted};
+ghost use Rattle.splice.specs.Moved.{movedNote, ownNote, grownNote, Moving, Owning, Growing, Growable, Grown, Shiftable, Shifted, Renotable, Renoted};
 use sheets::notes::LIST;
 use sheets::places::SHIFT;
 
@@ -9,6 +9,9 @@ use sheets::places::SHIFT;
 const SPAN: usize = SHIFT + 1;
 
 const HINTED: usize = SHIFT * SHIFT + SPAN;
+
+// Above what else a note tells stands the number of the list around its node.
+const TOP: usize = SHIFT * SHIFT * SHIFT;
 
 // The note of a node that moves as the end of `l` octets does when they become `l2`.
 fn moved(note: usize, l: usize, l2: usize) -> usize
@@ -23,6 +26,14 @@ fn moved(note: usize, l: usize, l2: usize) -> usize
         return note + l2 * HINTED - l * HINTED;
     }
     note + l2 * SPAN - l * SPAN
+}
+
+// The note of a node that comes to stand at `start` in place of one with the old note: in the same list.
+fn own(note: usize, start: usize, old: usize) -> usize
+    requires { ⌜ Owning note start old ⌝ }
+    ensures { λ r. ⌜ r ≡ ownNote note start old ⌝ }
+{
+    moved(note, 0, start) + old / TOP * TOP
 }
 
 // The note of a list whose end moves so, if it does.
@@ -75,6 +86,6 @@ pub fn renote(
     ensures { λ r. ⌜ Renoted (now (notes .entry)) node count start l l2 note (now (notes .exit)) ⌝ }
 {
     around(notes, node, l, l2);
-    notes[node] = moved(note, 0, start);
+    notes[node] = own(note, start, notes[node]);
     after(notes, node + 1, count, l, l2);
 }

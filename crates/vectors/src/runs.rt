@@ -29,10 +29,10 @@ fn out_space() -> [u8; 40000]
     [0; 40000]
 }
 
-fn table_space() -> [u32; 70000]
-    ensures { λ r. ⌜ 70000 ≡ length r ⌝ }
+fn table_space() -> [u32; 80000]
+    ensures { λ r. ⌜ 80000 ≡ length r ⌝ }
 {
-    [0; 70000]
+    [0; 80000]
 }
 
 // Any entry.

@@ -1,21 +1,18 @@
 -- The rows of a tree's nodes as a loop over its canonical octets meets them: a string's where it begins, a list's where it ends.
 use Prim.Native.Nat.{ℕ, _+_, _*_, _-_}
-use mathlib.Core.Bool.{Bool, true}
 use mathlib.Core.List.{List, [], _∷_}
 use lib.ListN.{take, drop}
-use lib.Seq.{sets}
-use Rattle.base.specs.Choice.{both, equal}
 use Rattle.model.specs.Lexemes.{Lexeme, opening, closing, atom, hinting}
-use Rattle.model.specs.Strings.{number}
-use Rattle.model.specs.Table.{Row, width, numbers, plainRow, hintedRow, listRow, bodyStart, bodyEnd}
+use Rattle.model.specs.Table.{Row, width, plainRow, hintedRow, listRow, bodyStart, bodyEnd}
 
--- a node's number and its row
+-- a node's number, its row, and the number of the list around it
 pub record Event : Type 0 where
   pub number : ℕ
   pub row : Row
+  pub parent : ℕ
 
-abbrev pub event : ℕ → Row → Event
-event n r = record { number = n; row = r }
+abbrev pub event : ℕ → Row → ℕ → Event
+event n r p = record { number = n; row = r; parent = p }
 
 -- where a list that is open began, and its number
 pub record Frame : Type 0 where
@@ -24,6 +21,11 @@ pub record Frame : Type 0 where
 
 abbrev pub frame : ℕ → ℕ → Frame
 frame s n = record { start = s; number = n }
+
+-- the number of the innermost list that is open; 0 where none is
+unfoldable pub above : List Frame → ℕ
+above [] = 0
+above (f ∷ st) = f .number
 
 -- where the octets of a string with a hint end
 abbrev pub hintEnd : ℕ → List ℕ → ℕ
@@ -40,20 +42,10 @@ unfoldable pub events : List Lexeme → ℕ → ℕ → List Frame → List Even
 events [] at n st = []
 events (opening ∷ ls) at n st = events ls (at + 1) (n + 1) (frame at n ∷ st)
 events (closing ∷ ls) at n [] = []
-events (closing ∷ ls) at n (f ∷ st) = event (f .number) (listRow (f .start) (at + 1) (n - f .number)) ∷ events ls (at + 1) n st
-events (atom d ∷ ls) at n st = event n (stringRow at d) ∷ events ls (bodyEnd at d) (n + 1) st
-events (hinting h d ∷ ls) at n st = event n (hintRow at h d) ∷ events ls (bodyEnd (hintEnd at h + 1) d) (n + 1) st
-
--- the rows stored in a table
-unfoldable pub stored : List ℕ → List Event → List ℕ
-stored table [] = table
-stored table (e ∷ es) = stored (sets table (width * e .number) (numbers (e .row))) es
+events (closing ∷ ls) at n (f ∷ st) = event (f .number) (listRow (f .start) (at + 1) (n - f .number)) (above st) ∷ events ls (at + 1) n st
+events (atom d ∷ ls) at n st = event n (stringRow at d) (above st) ∷ events ls (bodyEnd at d) (n + 1) st
+events (hinting h d ∷ ls) at n st = event n (hintRow at h d) (above st) ∷ events ls (bodyEnd (hintEnd at h + 1) d) (n + 1) st
 
 -- the record of a number
 abbrev pub recordAt : List ℕ → ℕ → List ℕ
 recordAt table n = take width (drop (width * n) table)
-
--- the rows stand in a table already
-unfoldable pub standing : List ℕ → List Event → Bool
-standing table [] = true
-standing table (e ∷ es) = both (equal (recordAt table (e .number)) (numbers (e .row))) (standing table es)

@@ -12,7 +12,7 @@ pub const MAX_CANONICAL_ROOM: usize = 16_500;
 /// Most octets lent for output.
 pub const MAX_OUT_ROOM: usize = 40_000;
 /// Most numbers lent for a node table.
-pub const MAX_TABLE_ROOM: usize = 70_000;
+pub const MAX_TABLE_ROOM: usize = 80_000;
 
 /// A lent buffer: some elements are given, the rest follow from the fill.
 #[derive(Clone, Debug, Default, PartialEq, Eq)]

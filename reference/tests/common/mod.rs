@@ -14,10 +14,10 @@ pub const NUMBER: u32 = 0xdead_beef;
 /// The list that document 01 works with.
 pub const LIST: &[u8] = b"(3:abc[1:x]0:)";
 /// Its records, as document 01 prints them.
-pub const LIST_RECORDS: [[u32; 8]; 3] = [
-    [2, 0, 14, 3, 0, 0, 1, 13],
-    [0, 1, 6, 1, 0, 0, 3, 6],
-    [1, 6, 13, 1, 9, 10, 13, 13],
+pub const LIST_RECORDS: [[u32; RECORD]; 3] = [
+    [2, 0, 14, 3, 0, 0, 1, 13, 0],
+    [0, 1, 6, 1, 0, 0, 3, 6, 0],
+    [1, 6, 13, 1, 9, 10, 13, 13, 0],
 ];
 
 /// Canonical octets and records, or a refusal's number.

@@ -14,11 +14,11 @@ pub const NUMBER: u32 = 0xdead_beef;
 
 /// The list that document 01 works with.
 pub const LIST: &[u8] = b"(3:abc[1:x]0:)";
-/// Its table, as document 01 prints it.
-pub const LIST_TABLE: [u32; 24] = [
-    2, 0, 14, 3, 0, 0, 1, 13, //
-    0, 1, 6, 1, 0, 0, 3, 6, //
-    1, 6, 13, 1, 9, 10, 13, 13,
+/// Its table, as documents 01 and 02 print it.
+pub const LIST_TABLE: [u32; 27] = [
+    2, 0, 14, 3, 0, 0, 1, 13, 0, //
+    0, 1, 6, 1, 0, 0, 3, 6, 0, //
+    1, 6, 13, 1, 9, 10, 13, 13, 0,
 ];
 
 /// Octets of a sheet and numbers of its table, or why not.

@@ -13,8 +13,9 @@ pub const COMMAND: Command = Command {
     about: "print the node table, a node a line",
     details: "\
 The numbers are: kind (0 string, 1 string with a hint, 2 list), start, end (one
-past), nodes in it with itself, hint start and end, data start and end. Places
-are those in the canonical form.",
+past), nodes in it with itself, hint start and end, data start and end, and the
+number of the list directly around it, 0 for node 0. Places are those in the
+canonical form.",
     flags: &[FROM],
     run,
 };

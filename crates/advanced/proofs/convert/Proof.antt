@@ -1,6 +1,6 @@
 use Prim.Native.Nat.{_-_}
 use lib.ListN.{length}
-use Rattle.advanced.proofs.Converting.{Converting, convert-none, convert-inside, convert-long, convert-low, convert-notes, convert-stacks, convert-more, convert-whole, convert-short}
+use Rattle.advanced.proofs.Converting.{Converting, convert-none, convert-inside, convert-long, convert-low, convert-notes, convert-stacks, convert-numbers, convert-more, convert-whole, convert-short}
 use Rattle.advanced.proofs.Stepping.{one-room, one-less, open-on, close-none, close-leaving, close-on, node-spare, node-none, node-from, node-fits, node-less, node-keepable, node-on}
 use Rattle.advanced.proofs.Holding.{held-refused, held-less, held-deep, held-many, held-long, held-end, held-on}
 use native.Mathlib.Omega.{arith}
@@ -117,40 +117,43 @@ same-length-12 c = search (convert-notes, arith)
 returns-6 : tie.Need-returns-6 Inv-loop μ-loop
 returns-6 c = search (node-none, arith)
 
+up-of-requires : tie.Need-up-of-requires Inv-loop μ-loop
+up-of-requires c κs = search (convert-numbers, arith)
+
 keep-string-requires : tie.Need-keep-string-requires Inv-loop μ-loop
 keep-string-requires c κs =
-    let made = c .before .before .before .before in
+    let made = c .before .before .before .before .before .before in
     let past = made .before .before .before .before in
     let here = past .before .before .before .before .before in
     let start = here .before .before in
-    node-keepable _ _ _ _ _ _ _ _ _ _ _ _ _ _ (start .before .before .loop .inv) _ (start .before .skip-at .ensures) _ (start .closed .ensures) (here .before .if1 .left) (here .if3 .left) _ (past .before .opens .ensures) (past .if7 .left) _ _ _ _ (made .node .ensures) (c .before .if8 .left)
+    node-keepable _ _ _ _ _ _ _ _ _ _ _ _ _ _ (start .before .before .loop .inv) _ (start .before .skip-at .ensures) _ (start .closed .ensures) (here .before .if1 .left) (here .if3 .left) _ (past .before .opens .ensures) (past .if7 .left) _ _ _ _ (made .node .ensures) (c .before .before .before .if8 .left) (c .before .up-of .result) (c .before .up-of .ensures)
 
 sub-size : tie.Need-sub-size Inv-loop μ-loop
 sub-size c =
-    let made = c .before .before .before .before .before .before .before in
+    let made = c .before .before .before .before .before .before .before .before .before in
     let past = made .before .before .before .before in
     let here = past .before .before .before .before .before in
     let start = here .before .before in
-    node-from _ _ _ _ _ _ _ _ _ _ _ _ _ _ (start .before .before .loop .inv) _ (start .before .skip-at .ensures) _ (start .closed .ensures) (here .before .if1 .left) (here .if3 .left) _ (past .before .opens .ensures) (past .if7 .left) _ _ _ _ (made .node .ensures) (c .before .before .before .before .if8 .left)
+    node-from _ _ _ _ _ _ _ _ _ _ _ _ _ _ (start .before .before .loop .inv) _ (start .before .skip-at .ensures) _ (start .closed .ensures) (here .before .if1 .left) (here .if3 .left) _ (past .before .opens .ensures) (past .if7 .left) _ _ _ _ (made .node .ensures) (c .before .before .before .before .before .before .if8 .left)
 
 add-size-4 : tie.Need-add-size-4 Inv-loop μ-loop
 add-size-4 c =
-    let made = c .before .before .before .before .before .before .before in
+    let made = c .before .before .before .before .before .before .before .before .before in
     let past = made .before .before .before .before in
     let here = past .before .before .before .before .before in
     let start = here .before .before in
-    node-fits _ _ _ _ _ _ _ _ _ _ _ _ _ _ (start .before .before .loop .inv) _ (start .before .skip-at .ensures) _ (start .closed .ensures) (here .before .if1 .left) (here .if3 .left) _ (past .before .opens .ensures) (past .if7 .left) _ _ _ _ (made .node .ensures) (c .before .before .before .before .if8 .left)
+    node-fits _ _ _ _ _ _ _ _ _ _ _ _ _ _ (start .before .before .loop .inv) _ (start .before .skip-at .ensures) _ (start .closed .ensures) (here .before .if1 .left) (here .if3 .left) _ (past .before .opens .ensures) (past .if7 .left) _ _ _ _ (made .node .ensures) (c .before .before .before .before .before .before .if8 .left)
 
 loop-less-4 : tie.Need-loop-less-4 Inv-loop μ-loop
 loop-less-4 c = search (node-less, arith)
 
 loop-again-4 : tie.Need-loop-again-4 Inv-loop μ-loop
 loop-again-4 c =
-    let made = c .before .before .before .before .before .before .before .before in
+    let made = c .before .before .before .before .before .before .before .before .before .before in
     let past = made .before .before .before .before in
     let here = past .before .before .before .before .before in
     let start = here .before .before in
-    node-on _ _ _ _ _ _ _ _ _ _ _ _ _ _ (start .before .before .loop .inv) _ (start .before .skip-at .ensures) _ (start .closed .ensures) (here .before .if1 .left) (here .if3 .left) _ (past .before .opens .ensures) (past .if7 .left) _ _ _ _ (made .node .ensures) (c .before .before .before .before .before .if8 .left) _ (c .wrap4 .ensures) _ (c .before .before .before .keep-string .ensures)
+    node-on _ _ _ _ _ _ _ _ _ _ _ _ _ _ (start .before .before .loop .inv) _ (start .before .skip-at .ensures) _ (start .closed .ensures) (here .before .if1 .left) (here .if3 .left) _ (past .before .opens .ensures) (past .if7 .left) _ _ _ _ (made .node .ensures) (c .before .before .before .before .before .before .before .if8 .left) _ (c .wrap4 .ensures) (c .before .before .before .before .before .up-of .result) (c .before .before .before .before .before .up-of .ensures) _ (c .before .before .before .keep-string .ensures)
 
 pub convert-spec : {M : Type 1} → statement M
 convert-spec =
@@ -213,6 +216,7 @@ convert-spec =
     (λ c. search needs)
     same-length-12
     returns-6
+    up-of-requires
     keep-string-requires
     (λ c. search needs)
     sub-size

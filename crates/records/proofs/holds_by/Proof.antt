@@ -189,7 +189,7 @@ module _ {M : Type 1} (𝓤 : URA M) (H : Heap 𝓤) (A : Atoms 𝓤) (W : Given
           rewrite ! 10 (λ (t : Bool). ‵ (fat fullShare tyBool l₉ 0 (vbool t))) (holds (ltb i n) (lt→ltb i n small)) refl $ stays ! (load ! (from ! (stop !)) (look ! 10 refl)) $
           assigns ! (bin ! (load ! (from ! (stop !)) (look ! 14 refl)) (lit ! tt) (record { fits = place-fits })) (from ! (stop !)) (init ! 8 refl (tt, record { fits = place-fits })) $
           assigns ! (bin ! (load ! (from ! (fld ! refl (stop !))) (look-in ! 26 (sub ! 0 refl (whole !)))) (load ! (from ! (stop !)) (look ! 8 refl)) tt) (from ! (stop !)) (init ! 6 refl (tt, tt)) $
-          rewrite ! 6 (λ (j : ℕ). ‵ (fat fullShare tyPtr l₁₁ 0 (vptr b j))) (sym (place-is 32 o i)) refl $
+          rewrite ! 6 (λ (j : ℕ). ‵ (fat fullShare tyPtr l₁₁ 0 (vptr b j))) (sym (place-is 36 o i)) refl $
           -- the borrow of the records is looked into, by a copy of what the slice owns
           move ! (2 ∷ 3 ∷ []) $ use1 W (‵ Recs ⊛ ‵ Recs) (shr-slice-copy 𝓤 H A W (named 0) κ T.the-row .twice rec (s ∷ [])) $ split ! $ fsplit ! $ drop ! $ fsplit ! $ drop ! $ move ! (0 ∷ 2 ∷ []) $
           looks-slice ! tt T.the-row (Is T.the-row) (shows 𝓤 H A T.the-row) (LL.vals T.the-type T′.the-laws) (LL.tells T.the-type T′.the-laws) (LL.copy T.the-type T′.the-copy 𝓤 H A W) ys b o (λ q″.
@@ -216,7 +216,7 @@ module _ {M : Type 1} (𝓤 : URA M) (H : Heap 𝓤) (A : Atoms 𝓤) (W : Given
           in-recs : i < length ys
           in-recs = omega (arith, n-recs)
 
-          place-fits : i * 32 < 2 ^ 64
+          place-fits : i * 36 < 2 ^ 64
           place-fits = scaled i (length ys) in-recs (room .1)
 
           next-fits : i + 1 < 2 ^ 64

@@ -200,7 +200,7 @@ module _ {M : Type 1} (𝓤 : URA M) (H : Heap 𝓤) (A : Atoms 𝓤) (W : Given
           rewrite ! 4 (λ (v : Val). ‵ (fat fullShare T′.mir l₇ 0 v)) (ap only (LL.tells T.the-type T′.the-laws z _ is)) refl $
           assigns ! (bin ! (load ! (from ! (stop !)) (look ! 3 refl)) (lit ! tt) (record { fits = place-fits })) (from ! (stop !)) (init ! 6 refl (tt, record { fits = place-fits })) $
           assigns ! (bin ! (load ! (from ! (fld ! refl (stop !))) (look-in ! 8 (sub ! 0 refl (whole !)))) (load ! (from ! (stop !)) (look ! 6 refl)) tt) (from ! (stop !)) (init ! 7 refl (tt, tt)) $
-          rewrite ! 7 (λ (j : ℕ). ‵ (fat fullShare tyPtr l₁₀ 0 (vptr b j))) (sym (place-is 32 o i)) refl $
+          rewrite ! 7 (λ (j : ℕ). ‵ (fat fullShare tyPtr l₁₀ 0 (vptr b j))) (sym (place-is 36 o i)) refl $
           move ! (2 ∷ []) $ elem-out ! T.the-row (Is T.the-row) (shows 𝓤 H A T.the-row) (LL.vals T.the-type T′.the-laws) (LL.tells T.the-type T′.the-laws) fullShare (told fs (countOf r) i ys) i nil b o within (λ _.
           -- [records[i]; what it owns; the others; the token; nums; _6; _7; _8; _9; _10; _1; …]
           assigns ! (of-opd ! (load ! (from ! (stop !)) (look ! 6 refl))) (from ! (hop ! (look ! 9 refl) (stop !))) (store-raw ! 0 refl (LL.lawful T.the-type T′.the-laws 𝓤 H A W .typed z _ (lowered z u is) .0)) $
@@ -218,7 +218,7 @@ module _ {M : Type 1} (𝓤 : URA M) (H : Heap 𝓤) (A : Atoms 𝓤) (W : Given
           within : i < length (told fs (countOf r) i ys)
           within = omega (arith, length-told fs (countOf r) i ys, n-recs)
 
-          place-fits : i * 32 < 2 ^ 64
+          place-fits : i * 36 < 2 ^ 64
           place-fits = scaled i (length ys) in-recs (room .1)
 
           next-fits : i + 1 < 2 ^ 64

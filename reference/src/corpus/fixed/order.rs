@@ -6,7 +6,7 @@ use super::sizes::{empties, nested};
 use crate::corpus::case::{Case, Pair};
 use crate::corpus::known::scope::LIST;
 use crate::corpus::make;
-use crate::limits::{MAX_DEPTH, MAX_NODES, MAX_SOURCE};
+use crate::limits::{MAX_DEPTH, MAX_NODES, MAX_SOURCE, RECORD};
 
 /// The cases.
 pub fn cases() -> Vec<Case> {
@@ -45,7 +45,7 @@ fn replaces() -> Vec<Case> {
     let layout = layout(LIST);
     let own = || make::pair(&layout);
     let foreign = || Pair { nodes: 2, ..own() };
-    let exact = || make::pair_in(&layout, LIST.len(), layout.records.len() * 8);
+    let exact = || make::pair_in(&layout, LIST.len(), layout.records.len() * RECORD);
     vec![
         make::replace(9, &too_long, foreign(), 7),
         make::replace(3, &too_long, foreign(), 7),

@@ -71,7 +71,7 @@ fn fills() -> Vec<Case> {
     ];
     let mut cases = Vec::new();
     for (node, text) in texts {
-        for (room, numbers) in [(60, 99), (41, 96), (40, 96), (23, 48), (23, 55)] {
+        for (room, numbers) in [(60, 111), (41, 108), (40, 108), (23, 54), (23, 62)] {
             cases.push(make::replace(
                 3,
                 text,
@@ -101,8 +101,11 @@ fn foreign_tables() -> Vec<Case> {
     cases
 }
 
-/// Counts and node numbers that are off, also such that eight times the count
-/// would wrap to the right number.
+/// Nine times this is 2 in 64 bits.
+const WRAPPING: u64 = 2_049_638_230_412_172_402;
+
+/// Counts and node numbers that are off, also such that nine times the count
+/// would wrap to the numbers of no record, or of three.
 fn foreign_counts() -> Vec<Case> {
     let layout = layout(LIST);
     let mut cases = Vec::new();
@@ -117,6 +120,8 @@ fn foreign_counts() -> Vec<Case> {
         (1 << 32) + 3,
         (1 << 61) + 3,
         1 << 61,
+        WRAPPING,
+        WRAPPING + 3,
         u64::MAX,
     ] {
         let mut pair = make::pair(&layout);

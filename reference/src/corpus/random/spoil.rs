@@ -95,7 +95,8 @@ fn spoil_number(rng: &mut Rng, numbers: &mut [u32]) {
 }
 
 /// Numbers far past anything lent, some of which narrower arithmetic would
-/// take for the right one: eight times 2^61 is 0 in 64 bits.
+/// take for the right one: nine times the last but two is 2 in 64 bits, and
+/// nine times the last but one two more than nine times the number.
 pub fn huge(rng: &mut Rng, number: u64) -> u64 {
     rng.pick(&[
         u64::MAX,
@@ -106,6 +107,8 @@ pub fn huge(rng: &mut Rng, number: u64) -> u64 {
         (1 << 61) + number,
         1 << 32,
         (1 << 32) + number,
+        2_049_638_230_412_172_402,
+        2_049_638_230_412_172_402 + number,
         (1 << 16) + number,
     ])
 }

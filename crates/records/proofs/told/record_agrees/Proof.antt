@@ -11,4 +11,4 @@ returns-2 : tie.Need-returns-2
 returns-2 c = search (is-not, arith)
 
 pub record-agrees-spec : {M : Type 1} → statement M
-record-agrees-spec = tie.close (tie.spec (λ c κs. search needs) (λ c κs. search needs) returns returns-2)
+record-agrees-spec = tie.close (tie.spec (λ c κs. search needs) (λ c κs. search needs) (λ c κs. search needs) returns returns-2)

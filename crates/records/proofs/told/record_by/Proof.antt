@@ -7,6 +7,9 @@ use Rattle.records.proofs.told.record_by.Tie as tie
 row-of-requires : tie.Need-row-of-requires
 row-of-requires c κs = search (told-readable, arith)
 
+parent-of-requires : tie.Need-parent-of-requires
+parent-of-requires c κs = search (told-readable, arith)
+
 returns : tie.Need-returns
 returns c = search (told-row, arith)
 
@@ -22,6 +25,7 @@ record-by-spec =
     (tie.spec
     (λ c. search needs)
     row-of-requires
+    parent-of-requires
     (λ c κs. search needs)
     returns
     (λ c κs. search needs)

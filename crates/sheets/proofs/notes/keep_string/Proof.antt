@@ -1,4 +1,4 @@
-use Rattle.sheets.proofs.Strings.{plain-bodied, plain-kept, hint-bodied, data-bodied, data-small, hint-kept, hint-fits}
+use Rattle.sheets.proofs.Strings.{plain-bodied, plain-small, plain-kept, hint-bodied, data-bodied, data-small, hint-kept, hint-fits}
 use native.Mathlib.Omega.{arith}
 use borrow.Author.Needs.{needs}
 use Rattle.sheets.proofs.notes.keep_string.Statement.{statement}
@@ -6,6 +6,9 @@ use Rattle.sheets.proofs.notes.keep_string.Tie as tie
 
 body-at-requires : tie.Need-body-at-requires
 body-at-requires c κs = search (plain-bodied, arith)
+
+keep-requires : tie.Need-keep-requires
+keep-requires c κs = search (plain-small, arith)
 
 returns : tie.Need-returns
 returns c = search (plain-kept, arith)
@@ -31,7 +34,7 @@ keep-string-spec =
     (tie.spec
     body-at-requires
     (λ c κs. search needs)
-    (λ c κs. search needs)
+    keep-requires
     (λ c. search needs)
     returns
     add-body-at
