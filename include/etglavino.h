@@ -29,7 +29,7 @@
  * Stack that a call takes at most, in octets (x86-64), besides what the C
  * library's memset and memcpy take:
  *   etg_read                 120,776
- *   etg_read_records         119,992
+ *   etg_read_records         133,992
  *   etg_write                 35,112
  *   etg_replace              120,584
  *   etg_replace_records      134,488
