@@ -30,8 +30,8 @@
  *
  * Stack that a call takes at most, in octets (x86-64), besides what the C
  * library's memset and memcpy take:
- *   etg_read                 120,824
- *   etg_read_records         120,008
+ *   etg_read                 120,776
+ *   etg_read_records         133,992
  *   etg_write                 35,112
  *   etg_replace              120,632
  *   etg_replace_records      120,232

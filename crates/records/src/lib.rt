@@ -128,6 +128,9 @@ fn read_long(form: u32, source: &[u8], canonical: &mut [u8], records: &mut [Reco
 fn read_middle(form: u32, source: &[u8], canonical: &mut [u8], records: &mut [Record]) -> Reading
     ensures { λ r. ⌜ outcome r (now (canonical .exit)) (numbers (now (records .exit))) ≡ reading form (now (source .entry)) (now (canonical .entry)) (numbers (now (records .entry))) ⌝ }
 {
+    if source.len() > limits::SOURCE {
+        return read_long(form, source, canonical, records);
+    }
     if source.len() > limits::MIDDLE {
         return read_long(form, source, canonical, records);
     }
@@ -140,6 +143,10 @@ fn read_middle(form: u32, source: &[u8], canonical: &mut [u8], records: &mut [Re
 pub fn read(form: u32, source: &[u8], canonical: &mut [u8], records: &mut [Record]) -> Reading
     ensures { λ r. ⌜ outcome r (now (canonical .exit)) (numbers (now (records .exit))) ≡ reading form (now (source .entry)) (now (canonical .entry)) (numbers (now (records .entry))) ⌝ }
 {
+    // A function that is called at two places keeps a frame of its own; else each short call would pay for the largest.
+    if source.len() > limits::MIDDLE {
+        return read_middle(form, source, canonical, records);
+    }
     if source.len() > limits::SHORT {
         return read_middle(form, source, canonical, records);
     }
@@ -209,6 +216,9 @@ fn place_middle(
 ) -> Place
     ensures { λ r. ⌜ placed r ≡ placeOf hinted (now (canonical .entry)) length (numbers (now (records .entry))) nodes node ⌝ }
 {
+    if nodes > limits::NODES {
+        return place_long(canonical, length, records, nodes, node, hinted);
+    }
     if nodes > limits::MIDDLE_NOTES {
         return place_long(canonical, length, records, nodes, node, hinted);
     }
@@ -227,6 +237,10 @@ pub fn place(
 ) -> Place
     ensures { λ r. ⌜ placed r ≡ placeOf hinted (now (canonical .entry)) length (numbers (now (records .entry))) nodes node ⌝ }
 {
+    // At two places, as in `read`.
+    if nodes > limits::MIDDLE_NOTES {
+        return place_middle(canonical, length, records, nodes, node, hinted);
+    }
     if nodes > limits::SHORT_NOTES {
         return place_middle(canonical, length, records, nodes, node, hinted);
     }
