@@ -3,7 +3,7 @@
 use etglavino::Form;
 
 use crate::rng::Rng;
-use crate::spell::{advanced, basic, canonical, Tree};
+use crate::spell::{advanced, basic, canonical, terminal, Tree};
 
 const NAMES: [&str; 12] = [
     "ann", "bob", "cyn", "dov", "eva", "finn", "gus", "hana", "ivo", "jun", "kay", "lee",
@@ -53,13 +53,19 @@ pub fn made(factory: usize, number: usize, rng: &mut Rng) -> Made {
     let form = match fate {
         // Only spaces make a text so long.
         Fate::Refused(2) => Form::Advanced,
-        _ => rng.one_of(&[Form::Canonical, Form::Basic, Form::Advanced]),
+        _ => rng.one_of(&[
+            Form::Canonical,
+            Form::Basic,
+            Form::Advanced,
+            Form::Terminal1997,
+        ]),
     };
     let mut text = Vec::new();
     match form {
         Form::Canonical => canonical(&tree, &mut text),
         Form::Basic => basic(&tree, &mut text),
         Form::Advanced => advanced(&tree, rng, &mut text),
+        Form::Terminal1997 => terminal(&tree, rng, &mut text),
     }
     match fate {
         Fate::Refused(2) => text.resize(32_769, b' '),

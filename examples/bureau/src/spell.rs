@@ -58,6 +58,22 @@ pub fn advanced(tree: &Tree, rng: &mut Rng, out: &mut Vec<u8>) {
     }
 }
 
+/// As the terminals of 1997 send it: some trees in base-64 in braces.
+pub fn terminal(tree: &Tree, rng: &mut Rng, out: &mut Vec<u8>) {
+    match tree {
+        _ if rng.below(4) == 0 => basic(tree, out),
+        Tree::Word(..) => advanced(tree, rng, out),
+        Tree::List(elements) => {
+            out.push(b'(');
+            for element in elements {
+                terminal(element, rng, out);
+                out.push(b' ');
+            }
+            out.push(b')');
+        }
+    }
+}
+
 fn word(data: &[u8], rng: &mut Rng, out: &mut Vec<u8>) {
     let letters = !data.is_empty() && data.iter().all(u8::is_ascii_lowercase);
     let plain = |octet: &u8| matches!(octet, b' '..=b'~') && !b"\"\\".contains(octet);
