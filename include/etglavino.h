@@ -88,7 +88,8 @@ enum {
     ETG_CANONICAL = 1,
     ETG_BASIC = 2,
     ETG_ADVANCED = 3,
-    ETG_1997 = 4        /* advanced, with base-64 in braces wherever a value may
+    ETG_1997 = 4        /* advanced, with base-64 of one tree's canonical
+                           form in braces wherever a value may
                            stand; it is read and never written */
 };
 

@@ -1,8 +1,8 @@
 //! S-expressions (RFC 9804) read, written, corrected and compared by a library
 //! whose every answer is proved.
 //!
-//! Texts come in and go out in three [forms](Form). A tree's canonical octets
-//! in lent space, with their length, are a *sheet*; its node table has nine
+//! Texts come in in four [forms](Form) and go out in three. A tree's canonical
+//! octets in lent space, with their length, are a *sheet*; its node table has nine
 //! numbers to a node, lent flat or as [`Record`]s. Everything goes into slices
 //! that the caller lends; nothing is allocated. After an `Err` every lent slice
 //! holds what it held, but for the octets of [`Pieces`].
@@ -130,6 +130,7 @@ pub fn read_form(
 ///
 /// # Errors
 ///
+/// [`Refusal::Form`] of [`Form::Terminal1997`], which is read only;
 /// [`Refusal::NotOwn`] and [`Refusal::Size`].
 pub fn write(
     form: Form,
