@@ -30,37 +30,37 @@
  *
  * Stack that a call takes at most, in octets (x86-64), besides what the C
  * library's memset and memcpy take:
- *   etg_read                 120,776
- *   etg_read_records         133,992
+ *   etg_read                 120,824
+ *   etg_read_records         120,040
  *   etg_write                 35,112
  *   etg_replace              120,632
- *   etg_replace_records      120,232
+ *   etg_replace_records      134,552
  *   etg_insert               120,632
- *   etg_insert_records       120,232
+ *   etg_insert_records       134,552
  *   etg_remove               120,648
- *   etg_remove_records       120,248
+ *   etg_remove_records       134,552
  *   etg_same                   2,408
  *   etg_hint                  67,896
- *   etg_hint_records          67,816
+ *   etg_hint_records          81,976
  *   etg_data                  67,896
- *   etg_data_records          67,816
+ *   etg_data_records          81,976
  *   etg_spool_open             2,408
  *   etg_spool_add_start        2,472
  *   etg_spool_add_step            32
  *   etg_spool_add_commits          8
  *   etg_spool_add              2,472
  *   etg_value                 67,848
- *   etg_value_records         67,832
+ *   etg_value_records         67,848
  *   etg_put_value                 24
  *   etg_line                  67,864
  *   etg_line_records          67,848
  *   etg_total                     72
  *   etg_week                  67,848
  *   etg_week_records          67,832
- *   etg_extract              136,600
- *   etg_extract_own          136,600
- *   etg_extract_records      136,584
- *   etg_extract_own_records  136,584
+ *   etg_extract              136,616
+ *   etg_extract_own          136,616
+ *   etg_extract_records      136,600
+ *   etg_extract_own_records  136,616
  *   etg_split                    184
  *   etg_pieces_start               8
  *   etg_pieces_feed              328

@@ -32,7 +32,7 @@ class Extract(unittest.TestCase):
             with self.assertRaises(Refusal) as caught:
                 extract(bad)
             self.assertEqual(caught.exception.number, 7)
-        foreign = [*LIST_NODES[:2], Node(1, 6, 13, 1, 9, 10, 13, 12)]
+        foreign = [*LIST_NODES[:2], Node(1, 6, 13, 1, 9, 10, 13, 12, 0)]
         with self.assertRaises(Refusal) as caught:
             extract(Sheet(LIST, foreign))
         self.assertEqual(caught.exception.number, 7)

@@ -16,7 +16,7 @@ class Read(unittest.TestCase):
     def test_empty_list_and_empty_string(self) -> None:
         for form in Form:
             self.assertEqual(read(form, b"()").nodes, (Node(2, 0, 2, 1, 0, 0, 1, 1, 0),))
-            self.assertEqual(read(form, b"0:").nodes, (Node(0, 0, 2, 1, 0, 0, 2, 2),))
+            self.assertEqual(read(form, b"0:").nodes, (Node(0, 0, 2, 1, 0, 0, 2, 2, 0),))
         self.assertEqual(read(Form.BASIC, b"{KCk=}").canonical, b"()")
 
     def test_the_list_in_each_form(self) -> None:

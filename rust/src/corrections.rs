@@ -110,7 +110,7 @@ pub struct Slot {
 /// ```
 /// use etglavino::{Form, Slot};
 ///
-/// let (mut canonical, mut table) = ([0; 64], [0; 64]);
+/// let (mut canonical, mut table) = ([0; 64], [0; 72]);
 /// let week = etglavino::read(Form::Advanced, b"(week (mon early))", &mut canonical, &mut table)?;
 /// let slot = Slot { node: 0, k: 2 };
 /// let more = etglavino::insert(Form::Advanced, b"(tue late)", &mut canonical, &mut table, week, slot)?;

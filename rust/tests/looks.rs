@@ -84,7 +84,7 @@ fn parts_of_the_list() {
 
 #[test]
 fn an_empty_hint_is_shown_and_not_the_default() {
-    let sheet = Sheet::exact(b"[0:]1:a", &[1, 0, 7, 1, 3, 3, 6, 7]);
+    let sheet = Sheet::exact(b"[0:]1:a", &[1, 0, 7, 1, 3, 3, 6, 7, 0]);
     assert_eq!(hint_of(&sheet, 0), Some((3, 3)));
     let shown = hint(&sheet.canonical, &sheet.table, sheet.extent, 0, b"none");
     assert!(shown.is_empty());

@@ -12,7 +12,7 @@ fn canonical(form: u32, source: &[u8]) -> Result<Vec<u8>, Refusal> {
 #[test]
 fn the_empty_list_and_the_empty_string() {
     let list = Ok((b"()".to_vec(), vec![2, 0, 2, 1, 0, 0, 1, 1, 0]));
-    let string = Ok((b"0:".to_vec(), vec![0, 0, 2, 1, 0, 0, 2, 2]));
+    let string = Ok((b"0:".to_vec(), vec![0, 0, 2, 1, 0, 0, 2, 2, 0]));
     for form in [1, 2, 3, 4] {
         assert_eq!(read(form, b"()"), list);
         assert_eq!(read(form, b"0:"), string);
