@@ -52,7 +52,7 @@ pub use corrections::{
 };
 pub use extract::{extract, extract_own, extract_own_records, extract_records};
 pub use form::Form;
-pub use node::{Children, Kind, Node, Nodes};
+pub use node::{Ancestors, Children, Kind, Node, Nodes};
 #[cfg(feature = "std")]
 pub use pieces::OwnedPieces;
 pub use pieces::{LentPieces, Pieces, PiecesState};
