@@ -31,7 +31,7 @@
  * Stack that a call takes at most, in octets (x86-64), besides what the C
  * library's memset and memcpy take:
  *   etg_read                 120,824
- *   etg_read_records         120,040
+ *   etg_read_records         134,040
  *   etg_write                 35,112
  *   etg_replace              120,632
  *   etg_replace_records      134,552
