@@ -31,7 +31,7 @@
  * Stack that a call takes at most, in octets (x86-64), besides what the C
  * library's memset and memcpy take:
  *   etg_read                 120,824
- *   etg_read_records         120,040
+ *   etg_read_records         134,040
  *   etg_write                 35,112
  *   etg_replace              120,632
  *   etg_replace_records      134,552
@@ -88,7 +88,8 @@ enum {
     ETG_CANONICAL = 1,
     ETG_BASIC = 2,
     ETG_ADVANCED = 3,
-    ETG_1997 = 4        /* advanced, with base-64 in braces wherever a value may
+    ETG_1997 = 4        /* advanced, with base-64 of one tree's canonical
+                           form in braces wherever a value may
                            stand; it is read and never written */
 };
 

@@ -1,11 +1,13 @@
 //! Sheets of about as many nodes as octets can hold, each with its own table, and
-//! sheets as deep as may be. The corpus of `vectors` has no room for such tables.
+//! sheets as deep as may be; and texts of form 4 past the limits. The corpus of
+//! `vectors` has no room for such tables.
 
+use reference::base64;
 use reference::canonical;
 use reference::corpus::case::{Case, Pair};
-use reference::corpus::fixed::sizes::{empties, nested};
-use reference::corpus::make::{pair_in, replace};
-use reference::limits::{MAX_CANONICAL, MAX_DEPTH, MAX_NODES, RECORD};
+use reference::corpus::fixed::sizes::{empties, nested, verbatim};
+use reference::corpus::make::{pair_in, read_into, replace};
+use reference::limits::{MAX_CANONICAL, MAX_DEPTH, MAX_NODES, RECORD, TERMINAL};
 use reference::tree::Layout;
 
 /// The cases.
@@ -22,7 +24,38 @@ pub fn cases() -> Vec<Case> {
         let layout = laid(&nested(depth));
         around(&layout, depth + 1, &mut cases);
     }
+    cases.extend(past_limits());
     cases
+}
+
+/// Trees in braces, of form 4, in texts past the largest sheet: too deep, which
+/// comes before their size, more nodes than records, and broken all the same.
+fn past_limits() -> Vec<Case> {
+    let braced = |octets: &[u8]| [b"{", &base64::encode(octets)[..], b"}"].concat();
+    let long = verbatim(b'x', 9_000);
+    let read = |parts: &[&[u8]], records: usize| {
+        let text = [&[&b"("[..]], parts, &[b")"]].concat().concat();
+        read_into(TERMINAL, &text, MAX_CANONICAL, records * RECORD)
+    };
+    let deep = [
+        &nested(MAX_DEPTH)[..MAX_DEPTH],
+        &long,
+        &nested(MAX_DEPTH)[MAX_DEPTH..],
+    ]
+    .concat();
+    let many = braced(&empties(4_000));
+    let rest = &b"\"\"".repeat(4_191);
+    vec![
+        read(&[&braced(&deep), &long], MAX_NODES),
+        read(&[&long, &braced(&deep)], MAX_NODES),
+        read(&[&braced(&deep), &long, b"{"], MAX_NODES),
+        read(&[&braced(&long), &long, b"{MTph"], MAX_NODES),
+        read(&[&braced(&long), &long], 3),
+        read(&[&braced(&long), &long], 2),
+        // 8,193 nodes, in as many records and in one fewer.
+        read(&[&many, rest], MAX_NODES + 1),
+        read(&[&many, rest], MAX_NODES),
+    ]
 }
 
 fn laid(octets: &[u8]) -> Layout {

@@ -39,8 +39,8 @@ class Form(IntEnum):
     ADVANCED = 3
     """What people write."""
     TERMINAL_1997 = 4
-    """What the terminals of 1997 send: advanced, with base-64 in braces
-    wherever a value may stand. It is read and never written."""
+    """What the terminals of 1997 send: advanced, with base-64 of one
+    tree's canonical form in braces wherever a value may stand. It is read and never written."""
 
 
 class Refusal(ValueError):

@@ -101,6 +101,19 @@ class Sheet:
         record = self._record(node)
         return record.parent if node else None
 
+    def ancestors(self, node: int) -> tuple[int, ...]:
+        """The numbers of the lists around a node, from the innermost to the whole.
+        Refusals: 7, 8.
+
+        >>> read(3, b"(week (mon (from a)))").ancestors(5)
+        (4, 2, 0)
+        """
+        found, above = [], self.parent(node)
+        while above is not None:
+            found.append(above)
+            above = self.parent(above)
+        return tuple(found)
+
     def path(self, node: int) -> str:
         """A node's path from the whole, as `0/3/1`: elements level by level, each
         by its place from 0. Refusals: 7, 8."""

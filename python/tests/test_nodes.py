@@ -28,6 +28,12 @@ class Nodes(unittest.TestCase):
         self.assertEqual(self.sheet.children(6), ())
         self.assertEqual(self.sheet.children(1), ())
 
+    def test_ancestors(self) -> None:
+        self.assertEqual(self.sheet.ancestors(5), (4, 2, 0))
+        self.assertEqual(self.sheet.ancestors(6), (2, 0))
+        self.assertEqual(self.sheet.ancestors(7), (0,))
+        self.assertEqual(self.sheet.ancestors(0), ())
+
     def test_parents(self) -> None:
         parents = [self.sheet.parent(node) for node in range(8)]
         self.assertEqual(parents, [None, 0, 0, 2, 2, 4, 2, 0])
@@ -42,7 +48,7 @@ class Nodes(unittest.TestCase):
 
     def test_refusals(self) -> None:
         for node in (8, -1, 2**70):
-            for ask in (self.sheet.children, self.sheet.parent, self.sheet.path):
+            for ask in (self.sheet.children, self.sheet.parent, self.sheet.ancestors, self.sheet.path):
                 self.refused(8, ask, node)
         for path in ("8", "0/3", "0/-1", "1/0"):
             self.refused(8, self.sheet.at, path)
@@ -55,13 +61,13 @@ class Nodes(unittest.TestCase):
         endless = Node(2, 0, 14, 0, 0, 0, 1, 13, 0)
         for nodes in ((LIST_NODES[0], endless, endless), LIST_NODES[:2], ()):
             bad = Sheet(LIST, nodes)
-            for ask in (bad.children, bad.parent, bad.path):
+            for ask in (bad.children, bad.parent, bad.ancestors, bad.path):
                 self.refused(7, ask, 0)
             self.refused(7, bad.at, "0")
 
     def test_the_documentations_examples(self) -> None:
         tried = doctest.testmod(_sheet)
-        self.assertEqual((tried.failed, tried.attempted), (0, 3))
+        self.assertEqual((tried.failed, tried.attempted), (0, 4))
 
 
 if __name__ == "__main__":

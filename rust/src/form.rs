@@ -12,8 +12,8 @@ pub enum Form {
     Basic = 2,
     /// What people write.
     Advanced = 3,
-    /// What the terminals of 1997 send: advanced, with base-64 in braces
-    /// wherever a value may stand. It is read and never written.
+    /// What the terminals of 1997 send: advanced, with base-64 of one
+    /// tree's canonical form in braces wherever a value may stand. It is read and never written.
     Terminal1997 = 4,
 }
 

@@ -1,8 +1,8 @@
 //! S-expressions (RFC 9804) read, written, corrected and compared by a library
 //! whose every answer is proved.
 //!
-//! Texts come in and go out in three [forms](Form). A tree's canonical octets
-//! in lent space, with their length, are a *sheet*; its node table has nine
+//! Texts come in in four [forms](Form) and go out in three. A tree's canonical
+//! octets in lent space, with their length, are a *sheet*; its node table has nine
 //! numbers to a node, lent flat or as [`Record`]s. Everything goes into slices
 //! that the caller lends; nothing is allocated. After an `Err` every lent slice
 //! holds what it held, but for the octets of [`Pieces`].
@@ -52,7 +52,7 @@ pub use corrections::{
 };
 pub use extract::{extract, extract_own, extract_own_records, extract_records};
 pub use form::Form;
-pub use node::{Children, Kind, Node, Nodes};
+pub use node::{Ancestors, Children, Kind, Node, Nodes};
 #[cfg(feature = "std")]
 pub use pieces::OwnedPieces;
 pub use pieces::{LentPieces, Pieces, PiecesState};
@@ -130,6 +130,7 @@ pub fn read_form(
 ///
 /// # Errors
 ///
+/// [`Refusal::Form`] of [`Form::Terminal1997`], which is read only;
 /// [`Refusal::NotOwn`] and [`Refusal::Size`].
 pub fn write(
     form: Form,

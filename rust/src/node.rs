@@ -112,6 +112,19 @@ impl<'a> Node<'a> {
         (self.number > 0).then_some(Node { number, ..self })
     }
 
+    /// The lists around it, from the innermost to the whole.
+    ///
+    /// ```
+    /// let week = etglavino::OwnedSheet::of_text(etglavino::Form::Advanced, b"(week (mon (from a)))")?;
+    /// let from = week.node(5).expect("a node");
+    /// let around: Vec<_> = from.ancestors().map(|list| list.number()).collect();
+    /// assert_eq!((from.data(), around), (&b"from"[..], vec![4, 2, 0]));
+    /// # Ok::<(), etglavino::Refusal>(())
+    /// ```
+    pub fn ancestors(self) -> Ancestors<'a> {
+        Ancestors { of: self }
+    }
+
     /// Its value, by its hint; see [`crate::value`]. A raw value's place is one
     /// in the sheet.
     ///
@@ -156,6 +169,23 @@ impl fmt::Debug for Node<'_> {
             .finish()
     }
 }
+
+/// The lists around a node that are still to come, the innermost first.
+#[derive(Clone, Debug)]
+pub struct Ancestors<'a> {
+    of: Node<'a>,
+}
+
+impl<'a> Iterator for Ancestors<'a> {
+    type Item = Node<'a>;
+
+    fn next(&mut self) -> Option<Node<'a>> {
+        self.of = self.of.parent()?;
+        Some(self.of)
+    }
+}
+
+impl FusedIterator for Ancestors<'_> {}
 
 /// All nodes of a sheet, in the order in which they begin.
 #[derive(Clone, Debug)]

@@ -106,7 +106,8 @@ impl<O: AsRef<[u8]>, R: AsRef<[Record]>> Sheet<O, R> {
     ///
     /// # Errors
     ///
-    /// [`Refusal::Size`] where the room is too small; see [`crate::write`].
+    /// [`Refusal::Form`] of [`Form::Terminal1997`]; [`Refusal::Size`] where the
+    /// room is too small; see [`crate::write`].
     pub fn write(&self, form: Form, out: &mut [u8]) -> Result<usize, Refusal> {
         crate::write(form, self.octets.as_ref(), self.extent.length, out)
     }
@@ -115,7 +116,8 @@ impl<O: AsRef<[u8]>, R: AsRef<[Record]>> Sheet<O, R> {
     ///
     /// # Errors
     ///
-    /// [`Refusal::NotOwn`], only of a sheet whose space changed under its hands.
+    /// [`Refusal::Form`] of [`Form::Terminal1997`]; [`Refusal::NotOwn`], only of a
+    /// sheet whose space changed under its hands.
     #[cfg(feature = "std")]
     pub fn text(&self, form: Form) -> Result<Vec<u8>, Refusal> {
         let mut out = vec![0; 2 * self.extent.length + 2];

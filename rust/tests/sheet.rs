@@ -102,6 +102,12 @@ fn children_and_parents() {
         Some(0),
     ];
     assert_eq!(parents, expected);
+    let around = |node: usize| -> Vec<usize> {
+        let node = sheet.node(node).unwrap();
+        node.ancestors().map(|list| list.number()).collect()
+    };
+    assert_eq!((around(5), around(6)), (vec![4, 2, 0], vec![2, 0]));
+    assert_eq!((around(7), around(0)), (vec![0], vec![]));
     let child = |place| sheet.root().child(place).map(|node| node.number());
     assert_eq!((child(1), child(2), child(3)), (Some(2), Some(7), None));
 }
@@ -116,6 +122,8 @@ fn every_node_is_a_child_of_its_parent() {
                 .children()
                 .filter(|child| child.number() == node.number());
             assert_eq!(beside.count(), 1);
+            let last = node.ancestors().last().expect("some list");
+            assert_eq!(last.number(), 0);
         }
         let below: usize = sheet.nodes().map(|node| node.children().count()).sum();
         assert_eq!(below, sheet.extent().nodes - 1);

@@ -286,8 +286,8 @@ fn wrap(end: usize) -> usize
 }
 
 // The canonical octets of a text at the front of `out`, the sizes of the tree that it means, and its notes. No limit decides whether it
-// means one. Once more octets are written than a sheet has, octets and notes no longer matter. With braces, which form 4 has, no notes
-// are kept.
+// means one. Once more octets are written than a sheet has, octets and notes no longer matter. With braces, which form 4 has, nothing
+// is said of the notes.
 pub fn convert(
     classes: &[u8; 256],
     letters: &[u8; 256],

@@ -2,8 +2,8 @@
 use Prim.Native.Nat.{ℕ, zero, suc, _<_}
 use native.Mathlib.Omega.{arith}
 use mathlib.Core.Path.{_≡_, sym, ap, _∙_}
-use mathlib.Core.Bool.{Bool, true, false}
-use Rattle.base.specs.Choice.{pick, not}
+use mathlib.Core.Bool.{Bool, true, false, not}
+use Rattle.base.specs.Choice.{pick}
 use Rattle.base.proofs.Cases.{by-eq, untrue, pick-cases, picked}
 
 -- the test gives true at each number below the bound

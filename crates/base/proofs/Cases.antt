@@ -2,11 +2,11 @@
 use Prim.Native.Nat.{ℕ, _≤_, _<_}
 use native.Mathlib.Omega.{arith}
 use mathlib.Core.Path.{_≡_, refl, _∙_, subst}
-use mathlib.Core.Bool.{Bool, true, false}
+use mathlib.Core.Bool.{Bool, true, false, not}
 use mathlib.Core.Option.{Option, none, some}
 use lib.Dec.{leb, eqb}
 use borrow.Author.Tests.{le-leb, eqb-true, eqb-false, leb-true, leb-false}
-use Rattle.base.specs.Choice.{pick, both, either, not, among, chain}
+use Rattle.base.specs.Choice.{pick, both, either, among, chain}
 
 pub by-bool : {G : Type 0} (t : Bool) → (t ≡ true → G) → (t ≡ false → G) → G
 by-bool true f g = f refl

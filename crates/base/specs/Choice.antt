@@ -16,9 +16,6 @@ both t u = pick t u false
 abbrev pub either : Bool → Bool → Bool
 either t u = pick t true u
 
-abbrev pub not : Bool → Bool
-not t = pick t false true
-
 -- b is one of lo .. hi
 abbrev pub among : ℕ → ℕ → ℕ → Bool
 among lo hi b = both (leb lo b) (leb b hi)

@@ -4,12 +4,12 @@ use Prim.Native.Nat.{ℕ, _+_, _-_, _<_}
 use native.Mathlib.Omega.{arith}
 use native.Mathlib.Nat.{add-zero}
 use mathlib.Core.Path.{_≡_, refl, sym, ap, ap₂, _∙_, subst}
-use mathlib.Core.Bool.{false}
+use mathlib.Core.Bool.{false, not}
 use mathlib.Core.Option.{Option, none, some}
 use mathlib.Core.List.{List, [], _∷_, map}
 use lib.ListN.{take}
 use lib.Dec.{eqb}
-use Rattle.base.specs.Choice.{either, not, isNone}
+use Rattle.base.specs.Choice.{either, isNone}
 use Rattle.base.proofs.Cases.{not-false, untrue}
 use Rattle.model.specs.Answers.{Check, verdict, the, roomChecks, textChecks, Outcome, filled, unchanged, placeOf, telling}
 use Rattle.model.specs.Corrections.{inserted, noPlace, insertingChecks, inserting}

@@ -87,10 +87,10 @@ module _ {canonical table : List ℕ} {len count : ℕ} {old now : Tree} {k n s 
   records-shift j j′ h i l = change-shifts (c .change) j j′ h i l
 
   -- ---- 02, Ask 11, "Demand 3 then also settles this number for the records after a correction": the ninth of a record
-  ninth-was : (j : ℕ) → j < nodes old → getD (recordAt table j) 8 0 ≡ parentOf old j
+  pub ninth-was : (j : ℕ) → j < nodes old → getD (recordAt table j) 8 0 ≡ parentOf old j
   ninth-was j h = ap (λ (l : List ℕ). getD l 8 0) (record-was j h)
 
-  ninth-is : (j : ℕ) → j < nodes now → getD (recordAt (answer .table) j) 8 0 ≡ parentOf now j
+  pub ninth-is : (j : ℕ) → j < nodes now → getD (recordAt (answer .table) j) 8 0 ≡ parentOf now j
   ninth-is j h = ap (λ (l : List ℕ). getD l 8 0) (record-is j h)
 
   -- of an earlier record, of a list around the entry too, it stays

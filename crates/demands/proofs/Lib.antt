@@ -19,6 +19,7 @@ pub mod Inserting
 pub mod Removing
 pub mod Again
 pub mod Undone
+pub mod Upper
 pub mod Stray
 pub mod Escapes
 pub mod Larger

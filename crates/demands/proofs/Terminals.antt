@@ -1,13 +1,12 @@
 -- 02, Ask 13: "The 1997 terminals".
-use Prim.Native.Nat.{ℕ, _≤_}
+use Prim.Native.Nat.{ℕ}
 use native.Mathlib.Omega.{arith}
 use mathlib.Core.Path.{_≡_, refl}
 use mathlib.Core.Option.{some}
 use mathlib.Core.List.{List, [], _∷_}
-use Rattle.base.specs.Choice.{either}
 use Rattle.model.specs.Answers.{noOutForm, unwritten, writingChecks, writing}
 use Rattle.model.specs.Decode.{decode}
-use Rattle.model.specs.Grammar.{Whitespaces, no-whitespace, Base64Chars, CSexp, Value, braced-value, Advanced, sexp, form-4, rules}
+use Rattle.model.specs.Grammar.{Whitespaces, Base64Chars, CSexp, braced-value, sexp, form-4, rules}
 use Rattle.model.specs.Tree.{Tree}
 use Rattle.model.proofs.Judging.{judged-refused, verdict-here}
 use Rattle.model.proofs.Laws.{decode-exact}

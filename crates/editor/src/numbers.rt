@@ -1,7 +1,7 @@
 // A sheet changed where the table is lent as numbers. Notes stand in local space, in three sizes.
 ghost use mathlib.Core.Path.{_≡_};
 ghost use Prim.Native.Nat.{_*_, _≤_};
-ghost use lib.ListN.{length};
+ghost use lib.ListN.{length as size};
 ghost use Rattle.model.specs.Answers.{replacing};
 ghost use Rattle.model.specs.Corrections.{inserting, removing};
 ghost use Rattle.answers.specs.Cases.{outcome};
@@ -22,7 +22,7 @@ fn change_in(
     asked: Asked,
     notes: &mut [usize],
 ) -> Reading
-    requires { ⌜ Noteable held (2 * length (now text)) (length (now notes)) ⌝ }
+    requires { ⌜ Noteable held (2 * size (now text)) (size (now notes)) ⌝ }
     ensures { λ r. ⌜ outcome r (now (canonical .exit)) (now (table .exit)) ≡ changing asked form (now (text .entry)) (now (canonical .entry)) (now (table .entry)) old held ⌝ }
 {
     let own = lookup::own_notes(canonical, old, table, held, notes);
@@ -47,7 +47,7 @@ fn change_short(
     asked: Asked,
 ) -> Reading
     requires { ⌜ held ≤ 64 ⌝ }
-    requires { ⌜ length (now text) ≤ 64 ⌝ }
+    requires { ⌜ size (now text) ≤ 64 ⌝ }
     ensures { λ r. ⌜ outcome r (now (canonical .exit)) (now (table .exit)) ≡ changing asked form (now (text .entry)) (now (canonical .entry)) (now (table .entry)) old held ⌝ }
 {
     let mut notes: [usize; limits::SHORT_NOTES] = [0; limits::SHORT_NOTES];
@@ -65,7 +65,7 @@ fn change_middle(
     asked: Asked,
 ) -> Reading
     requires { ⌜ held ≤ 512 ⌝ }
-    requires { ⌜ length (now text) ≤ 512 ⌝ }
+    requires { ⌜ size (now text) ≤ 512 ⌝ }
     ensures { λ r. ⌜ outcome r (now (canonical .exit)) (now (table .exit)) ≡ changing asked form (now (text .entry)) (now (canonical .entry)) (now (table .entry)) old held ⌝ }
 {
     let mut notes: [usize; limits::MIDDLE_NOTES] = [0; limits::MIDDLE_NOTES];

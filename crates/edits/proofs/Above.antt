@@ -12,24 +12,10 @@ use Rattle.model.specs.Table.{parents, parentss, parentOf}
 use Rattle.model.specs.Tree.{Tree, plain, hinted, list, Forest, nil, cons, nodes, nodess}
 use Rattle.walk.proofs.Tabled.{parents-length, parentss-length}
 use Rattle.edits.specs.Moves.{Change}
-use Rattle.edits.specs.Place.{Place, here, past, down, number, upAt, upMoved}
+use Rattle.edits.specs.Place.{upAt, upMoved}
 use Rattle.edits.proofs.Changed.{change-moves, change-back}
-use Rattle.edits.proofs.Inside.{nth, within-at}
 use Rattle.edits.proofs.Moved.{in-first, in-second, in-third, getD-map-in}
 use Rattle.edits.proofs.Parents.{parentss-one, parents-at, lead-ups-length, parents-change, parentss-moved, up-stays, up-shifts}
-
--- ---- the place of the k-th element of a list is directly in that list
-pub nth-up : (f : Forest) (k own up : ℕ) → upAt (nth f k) own up ≡ up
-unfolding nth upAt
-nth-up f zero own up = refl
-nth-up nil (suc k) own up = refl
-nth-up (cons t f) (suc k) own up = nth-up f k (own + nodes t) up
-
-pub within-up : (p q : Place) (own up : ℕ) → upAt (within-at p q) own up ≡ upAt q (own + number p + 1) (own + number p)
-unfolding within-at upAt number
-within-up (here b) q own up = let e : own + 0 ≡ own = omega arith in rw e
-within-up (past t p) q own up = let e : own + (nodes t + number p) ≡ own + nodes t + number p = omega arith in rw (within-up p q, e)
-within-up (down p b) q own up = let e : own + (1 + number p) ≡ own + 1 + number p = omega arith in rw (within-up p q, e)
 
 -- ---- a tree's own nodes, numbered from k on: but for the first, their parents are its own
 pub inner-up : (u : Tree) (k up i : ℕ) → 0 < i → i < nodes u → getD (parents u k up) i 0 ≡ k + parentOf u i

@@ -3,14 +3,14 @@ use Prim.Native.Nat.{ℕ, zero, suc, _+_, _-_, _≤_, _<_}
 use native.Mathlib.Omega.{arith}
 use native.Mathlib.Nat.{add-zero}
 use mathlib.Core.Path.{_≡_, refl, sym, ap, ap₂, _∙_}
-use mathlib.Core.Bool.{true, false}
+use mathlib.Core.Bool.{true, false, not}
 use mathlib.Core.Option.{none, some}
 use mathlib.Core.List.{List, [], _∷_, _++_, append-nil}
 use lib.ListN.{length, take, getD, length-append}
 use lib.Dec.{leb, eqb}
 use lib.Seq.{getD-append-add}
 use borrow.Author.Tests.{lt-ltb, le-ltb, eq-eqb, ne-eqb, leb-true}
-use Rattle.base.specs.Choice.{pick, either, not, isNone}
+use Rattle.base.specs.Choice.{pick, either, isNone}
 use Rattle.base.proofs.Cases.{by-le, by-eq, by-bool, picked, unpicked, none-some, some-same}
 use Rattle.model.specs.Edit.{join, one, across, replace, put, putIn, insert, remove}
 use Rattle.model.specs.Node.{nodeAt, elements, hasPlace}

@@ -5,7 +5,7 @@ use mathlib.Core.List.{[], _∷_, _++_}
 use lib.ListN.{take}
 use Rattle.model.specs.Edit.{join, within, replace}
 use Rattle.edits.specs.Place.{moved, kept}
-use Rattle.model.specs.Table.{numbers, rows, parents, flat, tableOf, rowOf}
+use Rattle.model.specs.Table.{rowNumbers, rows, parents, flat, tableOf, rowOf}
 use Rattle.model.specs.Tree.{Tree, plain, hinted, list, nil, cons, digitsUpTo, digits, verbatim, canon, nodes}
 use Rattle.edits.specs.Node.{holds}
 use Rattle.edits.specs.Levels.{holders}
@@ -26,7 +26,7 @@ unfolding sheet corrected canon verbatim digits digitsUpTo rows parents flat tab
 records-of = refl
 
 -- the record of the list around grows, that of the node after moves, with its hint
-list-and-later : numbers (kept 1 5 4 1 1 (rowOf sheet 0)) ++ numbers (moved 5 4 (rowOf sheet 2)) ≡ (2 ∷ 0 ∷ 13 ∷ 3 ∷ 0 ∷ 0 ∷ 1 ∷ 12 ∷ 1 ∷ 5 ∷ 12 ∷ 1 ∷ 8 ∷ 9 ∷ 12 ∷ 12 ∷ [])
+list-and-later : rowNumbers (kept 1 5 4 1 1 (rowOf sheet 0)) ++ rowNumbers (moved 5 4 (rowOf sheet 2)) ≡ (2 ∷ 0 ∷ 13 ∷ 3 ∷ 0 ∷ 0 ∷ 1 ∷ 12 ∷ 1 ∷ 5 ∷ 12 ∷ 1 ∷ 8 ∷ 9 ∷ 12 ∷ 12 ∷ [])
 unfolding sheet canon verbatim digits digitsUpTo rows nodes
 list-and-later = refl
 

@@ -42,7 +42,7 @@ use Rattle.answers.specs.declared.Place.{Place}
 use Rattle.answers.proofs.Place as P
 use Rattle.answers.proofs.Place.Laws as P′
 use Rattle.records.specs.declared.Record.{Record}
-use Rattle.records.specs.Numbers.{numbers, placeOf}
+use Rattle.records.specs.Numbers.{numbers, partOf}
 use Rattle.records.proofs.Record as T
 use Rattle.etglavino_c.specs.Pointers.{HandsPlace, shown, shownOf}
 use Rattle.etglavino_c.proofs.Handed.{place-handed}
@@ -79,7 +79,7 @@ module _ {M : Type 1} (𝓤 : URA M) (hinted : Bool) where
   shows-part κs a = record {
     ghost = Unit {0};
     requires = λ _. emp 𝓤;
-    ensures = λ _ n last. fact 𝓤 (shown n (now (last .1 .1 .1 .1 .1 .0)) (now (last .1 .1 .1 .1 .1 .1 .0)) ≡ shownOf (placeOf hinted (now (a .0)) (a .1 .0) (numbers (now (a .1 .1 .0))) (a .1 .1 .1 .0) (a .1 .1 .1 .1 .0)));
+    ensures = λ _ n last. fact 𝓤 (shown n (now (last .1 .1 .1 .1 .1 .0)) (now (last .1 .1 .1 .1 .1 .1 .0)) ≡ shownOf (partOf hinted (now (a .0)) (a .1 .0) (numbers (now (a .1 .1 .0))) (a .1 .1 .1 .0) (a .1 .1 .1 .1 .0)));
   }
 
 module _ {M : Type 1} (𝓤 : URA M) (H : Heap 𝓤) (A : Atoms 𝓤) (W : Given 𝓤 H A) (mem : Memory → SProp 𝓤) (run : Routine → Fun 𝓤) (hinted : Bool) (κ₀ κ₁ κ₂ κ₃ : Lft) (q₀ q₁ q₂ q₃ : Share) (can : RefT (List ℕ)) (len : ℕ) (rec : RefT (List Record)) (nodes node : ℕ) (start end : RefT ℕ)
@@ -116,7 +116,7 @@ module _ {M : Type 1} (𝓤 : URA M) (H : Heap 𝓤) (A : Atoms 𝓤) (W : Given
   exits p found n w is s e h =
       qed W (‵ (fres (start .name) (usize .coded .code s)) ∷ ‵ (fres (end .name) (usize .coded .code e)) ∷ ‵ (flft κ₀ q₀) ∷ ‵ (flft κ₁ q₁) ∷ ‵ (flft κ₂ q₂) ∷ ‵ (flft κ₃ q₃) ∷ []) ∵
       suffices ! _ (ends-at 𝓤 H A entry.ended stayed (shows-part 𝓤 hinted) W ((κs, (q₀, (q₁, (q₂, (q₃, tt)))), tt, a, vals), tt) w n (tt, (tt, (tt, (tt, (tt, (s, (e, tt))))))) (tt, (tt, (tt, (tt, (tt, (tt, (tt, tt)))))))) $
-      says ! (place-handed p (placeOf hinted (can .now) len (numbers (rec .now)) nodes node) found n s e h) $
+      says ! (place-handed p (partOf hinted (can .now) len (numbers (rec .now)) nodes node) found n s e h) $
       nothing ! $ move ! (6 ∷ 0 ∷ []) $ join ! $ move ! (5 ∷ 0 ∷ []) $ join ! $ move ! (4 ∷ 0 ∷ []) $ join ! $ move ! (3 ∷ 0 ∷ []) $ join ! $ frame ! $ nothing ! $ move ! (2 ∷ 0 ∷ []) $ fjoin ! $ move ! (1 ∷ 0 ∷ []) $ fjoin ! $ nothing ! $ fjoin ! $ nothing ! $ fjoin ! $ nothing ! $ fjoin ! $ nothing ! $ fjoin ! $ nothing ! $ fjoin ! $ owned ! u32 (Is u32) (uint-makes 𝓤 H A W w32) n (w ∷ []) is $ move ! (1 ∷ 0 ∷ []) $ done !
 
   module _ (𝓣 : Tables 𝓤 H) (known-place : Triple 𝓤 (𝓣 .C #place) (Placing 𝓤 H A mem run)) (known-hand : Triple 𝓤 (𝓣 .C #hand) (Handing 𝓤 H A mem run)) where

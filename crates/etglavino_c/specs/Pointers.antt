@@ -37,14 +37,14 @@ flag true = 1
 flag false = 0
 
 -- the number, and yes or no
-pub record Compared : Type 0 where
+pub record ComparedOut : Type 0 where
   pub number : ℕ
   pub same : ℕ
 
-abbrev pub compared : ℕ → ℕ → Compared
+abbrev pub compared : ℕ → ℕ → ComparedOut
 compared n s = record { number = n; same = s }
 
-unfoldable pub comparedOf : Comparison → Compared
+unfoldable pub comparedOf : Comparison → ComparedOut
 comparedOf c = compared (c .number) (flag (c .yes))
 
 -- whether a part of the sheet is shown, and where it stands; 0 and 0 where none is

@@ -1,10 +1,10 @@
 -- What a C entry of the spool answers. A state is four numbers: where the old entries end, the sheet's octets, the stores made, and
 -- whether the addition is done (any number but 0).
+use mathlib.Core.Bool.{not}
 use Prim.Native.Nat.{ℕ}
 use mathlib.Core.List.{List, [], _∷_}
 use lib.ListN.{getD}
 use lib.Dec.{eqb}
-use Rattle.base.specs.Choice.{not}
 use Rattle.model.specs.Limits.{Accepted}
 use Rattle.model.specs.Answers.{part, octetsAt}
 use Rattle.spools.specs.Adding.{Adding, Start, Step, Added}

@@ -2,14 +2,14 @@
 use Prim.Native.Nat.{ℕ, _*_, _/_, _≤_, _<_}
 use native.Mathlib.Omega.{arith}
 use mathlib.Core.Path.{_≡_, refl, sym, ap, _∙_, subst}
-use mathlib.Core.Bool.{Bool, true, false}
+use mathlib.Core.Bool.{Bool, true, false, not}
 use mathlib.Core.Option.{Option, none, some}
 use mathlib.Core.List.{List}
 use lib.ListN.{length, take}
 use lib.Seq.{length-sets, length-take-le, take-at}
 use lib.Dec.{ltb, eqb}
 use borrow.Author.Tests.{lt-ltb, lt-leb, eq-eqb}
-use Rattle.base.specs.Choice.{pick, both, not, isNone, chain, equal}
+use Rattle.base.specs.Choice.{pick, both, isNone, chain, equal}
 use Rattle.base.proofs.Cases.{none-some, some-same}
 use Rattle.base.proofs.Stores.{sets-all}
 use Rattle.model.specs.Answers.{Outcome, verdict, judged, the, unchanged, fitting, sheetTree, owns, ownTree, reading}
@@ -35,7 +35,7 @@ use Rattle.extracts.specs.Extracting.{extractOf, extracting, extractingOwn}
 use Rattle.extracts.proofs.Answered.{own-sheet}
 use Rattle.extracts.proofs.Sizes.{never-longer}
 use Rattle.extract.specs.Cut as cut
-use Rattle.extract.specs.Given.{Judges, Judged, Gives, Sheeted, Shows, Tellable, Tells}
+use Rattle.extract.specs.Given.{Judges, Judged, Gives, Sheeted, ShowsExtract, Tellable, Tells}
 
 -- ---- the table
 
@@ -189,7 +189,7 @@ module _ (sheet : List ℕ) (len : ℕ) (notes : List ℕ) (n : ℕ) (scratch : 
     unfolding extractOf isNone the judged verdict
     shown-answer canonical table = ap (λ (x : List ℕ). reading 1 x canonical table) text-is
 
-    pub show-read : (canonical canonical′ : List ℕ) (k : ℕ) (notes′ : List ℕ) (r : Reading) → Puts (reading 1 (take m scratch′) canonical) canonical′ k notes′ r → Shows sheet len notes n canonical canonical′ k notes′ r
+    pub show-read : (canonical canonical′ : List ℕ) (k : ℕ) (notes′ : List ℕ) (r : Reading) → Puts (reading 1 (take m scratch′) canonical) canonical′ k notes′ r → ShowsExtract sheet len notes n canonical canonical′ k notes′ r
     show-read canonical canonical′ k notes′ r p =
         record {
           is = λ t e h.
@@ -204,7 +204,7 @@ module _ (sheet : List ℕ) (len : ℕ) (before : List ℕ) (n : ℕ) (own : Boo
   give-sheeted y = tree-of (g .found) (sym y ∙ g .judges .tells) (λ t e. record { tree = t; is = g .judges .sheeted t e; held = g .judges .held t e })
 
 module _ (sheet : List ℕ) (len : ℕ) (before : List ℕ) (n : ℕ) (own : Bool) (canonical : List ℕ) (k : ℕ) where
-  pub give-shown : own ≡ true → (canonical′ notes : List ℕ) (r : Reading) → Shows sheet len before n canonical canonical′ k notes r → Gives sheet len before n own canonical canonical′ k notes r
+  pub give-shown : own ≡ true → (canonical′ notes : List ℕ) (r : Reading) → ShowsExtract sheet len before n canonical canonical′ k notes r → Gives sheet len before n own canonical canonical′ k notes r
   give-shown y canonical′ notes r s =
       record {
         is = λ o j.

@@ -13,7 +13,7 @@ use Rattle.base.specs.Choice.{both, equal}
 use Rattle.base.proofs.Cases.{untrue, differ, picked, unpicked}
 use Rattle.base.proofs.Stores.{sets-append}
 use Rattle.model.specs.Limits.{maxSource}
-use Rattle.model.specs.Table.{Row, numbers, rows, rowOf}
+use Rattle.model.specs.Table.{Row, rowNumbers, rows, rowOf}
 use Rattle.model.specs.Tree.{Tree, canon, nodes}
 use Rattle.model.proofs.Laws.{canonical-unique}
 use Rattle.walk.proofs.Tabled.{rows-length}
@@ -50,7 +50,7 @@ module _ (notes : List ℕ) (n : ℕ) (t : Tree) (g : Holds notes n t) (k : ℕ)
   here = omega (arith, g .counted)
 
   coded-row : (row : coded.Row) → RowIs row (rowAt notes k) → Coded row (rowOf t k)
-  coded-row row is = coded-as row (rowOf t k) (is ∙ ap numbers (holds-row notes n t g k h))
+  coded-row row is = coded-as row (rowOf t k) (is ∙ ap rowNumbers (holds-row notes n t g k h))
 
   heads : Heading (length (canon t)) 0 (rowOf t k) (drop (suc k) (rows t 0))
   heads = node-heads t k here (laid-drop k (rows t 0) (laid-whole t))

@@ -1,11 +1,11 @@
 -- An extract given by the notes of a sheet, and the foreman's table filled.
 use Prim.Native.Nat.{ℕ, _/_}
 use mathlib.Core.Path.{_≡_}
-use mathlib.Core.Bool.{Bool}
+use mathlib.Core.Bool.{Bool, not}
 use mathlib.Core.Option.{Option, some}
 use mathlib.Core.List.{List}
 use lib.ListN.{length}
-use Rattle.base.specs.Choice.{not, isNone}
+use Rattle.base.specs.Choice.{isNone}
 use Rattle.model.specs.Answers.{Outcome, sheetTree}
 use Rattle.model.specs.Table.{width}
 use Rattle.model.specs.Tree.{Tree}
@@ -37,7 +37,7 @@ pub record Sheeted (sheet : List ℕ) (len : ℕ) (notes : List ℕ) (n : ℕ) :
   pub held : Holds notes n tree
 
 -- its extract, but for the table
-pub record Shows (sheet : List ℕ) (len : ℕ) (before : List ℕ) (n : ℕ) (canonical canonical′ : List ℕ) (records : ℕ) (notes : List ℕ) (r : Reading) : Type 0 where
+pub record ShowsExtract (sheet : List ℕ) (len : ℕ) (before : List ℕ) (n : ℕ) (canonical canonical′ : List ℕ) (records : ℕ) (notes : List ℕ) (r : Reading) : Type 0 where
   pub is : (t : Tree) → sheetTree sheet len ≡ some t → Holds before n t → Puts (extractOf (some t) canonical) canonical′ records notes r
 
 -- an answer whose table notes tell, for so many numbers

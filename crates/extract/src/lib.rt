@@ -11,7 +11,7 @@ ghost use Rattle.model.specs.Limits.{maxCanonical};
 ghost use Rattle.answers.specs.Cases.{outcome};
 ghost use Rattle.reader.specs.Stored.{Puts};
 ghost use Rattle.extracts.specs.Extracting.{extracting, extractingOwn};
-ghost use Rattle.extract.specs.Given.{Judges, Judged, Gives, Sheeted, Shows, Tellable, Tells};
+ghost use Rattle.extract.specs.Given.{Judges, Judged, Gives, Sheeted, ShowsExtract, Tellable, Tells};
 use answers::Reading;
 use answers::refused;
 use walk::Extent;
@@ -70,7 +70,7 @@ fn show(
     scratch: &mut [u8],
 ) -> Reading
     requires { ⌜ Sheeted (now sheet) octets (now notes) nodes × (maxCanonical ≤ length (now scratch)) ⌝ }
-    ensures { λ r. ⌜ Shows (now (sheet .entry)) octets (now (notes .entry)) nodes (now (canonical .entry)) (now (canonical .exit)) records (now (notes .exit)) r ⌝ }
+    ensures { λ r. ⌜ ShowsExtract (now (sheet .entry)) octets (now (notes .entry)) nodes (now (canonical .entry)) (now (canonical .exit)) records (now (notes .exit)) r ⌝ }
 {
     let part = &sheet[..octets];
     let n = cut::cut(part, notes, nodes, scratch);

@@ -2,11 +2,11 @@
 use Prim.Native.Nat.{ℕ, _≤_}
 use native.Mathlib.Omega.{arith}
 use mathlib.Core.Path.{_≡_, refl, sym, ap, ap₂, _∙_}
-use mathlib.Core.Bool.{Bool, true, false}
+use mathlib.Core.Bool.{Bool, true, false, not}
 use mathlib.Core.Option.{Option, none, some}
 use mathlib.Core.List.{List, [], _∷_}
 use lib.ListN.{length, take}
-use Rattle.base.specs.Choice.{pick, either, not, chain, isNone}
+use Rattle.base.specs.Choice.{pick, either, chain, isNone}
 use Rattle.base.proofs.Cases.{true-both}
 use Rattle.model.specs.Answers.{when, verdict, judged, the, fitting, sheetTree, uncompared, comparingChecks, comparing}
 use Rattle.model.specs.Compare.{same, sames}

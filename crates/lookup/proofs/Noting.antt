@@ -2,19 +2,19 @@
 use Prim.Native.Nat.{ℕ, _+_, _*_, _/_, _≤_, _<_}
 use native.Mathlib.Omega.{arith}
 use mathlib.Core.Path.{_≡_, refl, sym, ap, _∙_, subst}
-use mathlib.Core.Bool.{Bool, true, false}
+use mathlib.Core.Bool.{Bool, true, false, not}
 use mathlib.Core.Option.{Option, none, some}
 use mathlib.Core.List.{List}
 use lib.ListN.{length, take, getD}
 use lib.Seq.{length-take-le}
 use lib.Dec.{leb}
 use borrow.Author.Tests.{eq-eqb}
-use Rattle.base.specs.Choice.{pick, not, chain, isNone}
+use Rattle.base.specs.Choice.{pick, chain, isNone}
 use Rattle.base.proofs.Cases.{by-bool, differ, picked, unpicked, some-same}
 use Rattle.model.specs.Limits.{maxCanonical, maxDepth, mostNodes, maxSource}
 use Rattle.model.specs.Answers.{fits, fitting, sheetTree, owns, ownTree, hintPart, dataPart}
 use Rattle.model.specs.Decode.{decode₁}
-use Rattle.model.specs.Table.{width, numbers, records, rowOf}
+use Rattle.model.specs.Table.{width, rowNumbers, records, rowOf}
 use Rattle.model.specs.Tree.{Tree, canon, nodes, depth}
 use Rattle.model.proofs.Exact.{canon-sound}
 use Rattle.model.proofs.Laws.{small-nodes}
@@ -30,7 +30,7 @@ use Rattle.sheets.proofs.Telling.{holds-row}
 use Rattle.answers.specs.Cases.{placed}
 use Rattle.answers.specs.declared.Place.{Place}
 use Rattle.answers.specs.declared.Place.the-variants.{Part, NoPart}
-use Rattle.lookup.specs.Noted.{Notes, Sheet, Sheeted, Owned, Owning, Readables, Shows}
+use Rattle.lookup.specs.Noted.{Notes, Sheet, Sheeted, Owned, Owning, Readables, ShowsPlace}
 use Rattle.lookup.proofs.Sheets.{no-tree, tree-of, none-of, fitted, within, sheet-none, sheet-deep, Own, own-of, own-beyond, own-long, own-unlent}
 use Rattle.lookup.proofs.Shown.{table-at, hint-unowned, hint-beyond, hint-other, hint-found, data-unowned, data-beyond, data-found}
 
@@ -136,18 +136,18 @@ module _ (notes : List ℕ) (m node : ℕ) (own hinted : Bool) where
   show-readable g y h = g .read y node h
 
   show-by : (r : Place) → ((c : List ℕ) (n : ℕ) (table : List ℕ) → Owning c n table m notes own → hinted ≡ true → placed r ≡ hintPart c n table m node)
-      → ((c : List ℕ) (n : ℕ) (table : List ℕ) → Owning c n table m notes own → hinted ≡ false → placed r ≡ dataPart c n table m node) → Shows notes m node own hinted r
+      → ((c : List ℕ) (n : ℕ) (table : List ℕ) → Owning c n table m notes own → hinted ≡ false → placed r ≡ dataPart c n table m node) → ShowsPlace notes m node own hinted r
   show-by r f g =
       record {
         is = λ c n table o.
             by-bool hinted (λ y. f c n table o y ∙ sym (picked _ _ y)) (λ y. g c n table o y ∙ sym (unpicked _ _ y));
       }
 
-  pub show-unowned : own ≡ false → Shows notes m node own hinted NoPart
+  pub show-unowned : own ≡ false → ShowsPlace notes m node own hinted NoPart
   show-unowned y = show-by NoPart (λ c n table o z. hint-unowned c n table m node own (o .tells) y) (λ c n table o z. data-unowned c n table m node own (o .tells) y)
 
   module _ (y : own ≡ true) where
-    pub show-beyond : m ≤ node → Shows notes m node own hinted NoPart
+    pub show-beyond : m ≤ node → ShowsPlace notes m node own hinted NoPart
     show-beyond h = show-by NoPart (λ c n table o z. hint-beyond c n table m node own (o .tells) y h) (λ c n table o z. data-beyond c n table m node own (o .tells) y h)
 
     module _ (h : node < m) (row : coded.Row) (is : RowIs row (rowAt notes node)) where
@@ -156,16 +156,16 @@ module _ (notes : List ℕ) (m node : ℕ) (own hinted : Bool) where
       number-at c n table o k l =
           tree-of (ownTree c n table m) (sym y ∙ o .tells)
           (λ t e.
-          ap (λ (x : List ℕ). getD x k 0) (is ∙ ap numbers (holds-row notes m t (o .held t e) node h))
+          ap (λ (x : List ℕ). getD x k 0) (is ∙ ap rowNumbers (holds-row notes m t (o .held t e) node h))
           ∙ sym (table-at c n table m t (own-of c n table m t e) node k h l))
 
-      pub show-other : hinted ≡ true → (row .kind ≡ 1 → ⊥) → Shows notes m node own hinted NoPart
+      pub show-other : hinted ≡ true → (row .kind ≡ 1 → ⊥) → ShowsPlace notes m node own hinted NoPart
       show-other z d =
           show-by NoPart
           (λ c n table o x. hint-other c n table m node own (o .tells) y h (row .kind) (number-at c n table o 0 (omega arith)) d)
           (λ c n table o x. differ z x)
 
-      pub show-hint : hinted ≡ true → row .kind ≡ 1 → Shows notes m node own hinted (Part (row .«hint_start») (row .«hint_end»))
+      pub show-hint : hinted ≡ true → row .kind ≡ 1 → ShowsPlace notes m node own hinted (Part (row .«hint_start») (row .«hint_end»))
       show-hint z d =
           show-by _
           (λ c n table o x.
@@ -173,7 +173,7 @@ module _ (notes : List ℕ) (m node : ℕ) (own hinted : Bool) where
           (row .«hint_start») (row .«hint_end») (number-at c n table o 4 (omega arith)) (number-at c n table o 5 (omega arith)))
           (λ c n table o x. differ z x)
 
-      pub show-data : hinted ≡ false → Shows notes m node own hinted (Part (row .«data_start») (row .«data_end»))
+      pub show-data : hinted ≡ false → ShowsPlace notes m node own hinted (Part (row .«data_start») (row .«data_end»))
       show-data z =
           show-by _
           (λ c n table o x. differ x z)

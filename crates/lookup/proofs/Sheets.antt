@@ -2,7 +2,7 @@
 use Prim.Native.Nat.{ℕ, _*_, _/_, _≤_, _<_}
 use native.Mathlib.Omega.{arith}
 use mathlib.Core.Path.{_≡_, refl, sym, ap, _∙_, subst}
-use mathlib.Core.Bool.{Bool, true, false}
+use mathlib.Core.Bool.{Bool, true, false, not}
 use mathlib.Core.Option.{Option, none, some}
 use mathlib.Core.List.{List}
 use lib.ListN.{length, take, length-take}
@@ -10,7 +10,7 @@ use lib.Seq.{length-take-le}
 use lib.Dec.{leb, ltb, eqb}
 use borrow.Author.Tests.{le-ltb, le-leb, lt-leb, eqb-true, ltb-false}
 use Rattle.model.specs.Limits.{maxCanonical, maxDepth, mostNodes, maxSource}
-use Rattle.base.specs.Choice.{both, not, equal, chain, isNone}
+use Rattle.base.specs.Choice.{both, equal, chain, isNone}
 use Rattle.base.proofs.Cases.{by-le, untrue, pick-cases, picked, unpicked, both-true, true-both, some-same, none-some, chain-cases}
 use Rattle.base.proofs.Lists.{equal-true}
 use Rattle.model.specs.Answers.{fits, fitting, sheetTree, owns, ownTree}

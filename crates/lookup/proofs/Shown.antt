@@ -2,17 +2,17 @@
 use Prim.Native.Nat.{ℕ, zero, suc, _+_, _*_, _-_, _≤_, _<_}
 use native.Mathlib.Omega.{arith}
 use mathlib.Core.Path.{_≡_, refl, sym, ap, ap₂, _∙_}
-use mathlib.Core.Bool.{Bool, true, false}
+use mathlib.Core.Bool.{Bool, true, false, not}
 use mathlib.Core.Option.{Option, none, some}
 use mathlib.Core.List.{List, [], _∷_, _++_}
 use lib.ListN.{List·getD-append, length, take, drop, getD, length-append}
 use lib.Seq.{getD-append-add, getD-take}
 use lib.Dec.{ltb, eqb}
 use borrow.Author.Tests.{lt-ltb, le-ltb, eq-eqb, ne-eqb}
-use Rattle.base.specs.Choice.{pick, not, chain, isNone}
+use Rattle.base.specs.Choice.{pick, chain, isNone}
 use Rattle.base.proofs.Cases.{pick-cases, picked, unpicked, some-same, none-some, chain-cases}
 use Rattle.model.specs.Answers.{ownTree, part, octetsAt, shownRow, hintPart, dataPart, shownOr, hintShown, dataShown}
-use Rattle.model.specs.Table.{Row, width, numbers, recorded, plainRow, rows, rowss, parents, parentOf, flat, tableOf, rowOf}
+use Rattle.model.specs.Table.{Row, width, rowNumbers, recorded, plainRow, rows, rowss, parents, parentOf, flat, tableOf, rowOf}
 use Rattle.model.specs.Tree.{Tree, plain, hinted, list, Forest, nil, cons, verbatim, canon, canons, nodes}
 use Rattle.model.proofs.Sizes.{verbatim-length}
 use Rattle.walk.proofs.Tabled.{rows-length}
@@ -42,12 +42,12 @@ flat-at (r ∷ rs) [] (suc i) k d h l = later-at (recorded r 0) (flat rs []) i k
 flat-at (r ∷ rs) (p ∷ ps) (suc i) k d h l = later-at (recorded r p) (flat rs ps) i k refl ∙ flat-at rs ps i k d (omega arith) l
 
 pub table-at : (c : List ℕ) (n : ℕ) (table : List ℕ) (m : ℕ) (t : Tree) → Own c n table m t → (node k : ℕ) → node < m → k < 8
-    → getD table (node * width + k) 0 ≡ getD (numbers (rowOf t node)) k 0
+    → getD table (node * width + k) 0 ≡ getD (rowNumbers (rowOf t node)) k 0
 unfolding tableOf
 table-at c n table m t o node k h l =
     sym (getD-take (width * m) table (node * width + k) 0 (omega arith)) ∙ ap (λ (x : List ℕ). getD x (node * width + k) 0) (o .recorded)
     ∙ flat-at (rows t 0) (parents t 0 0) node k (plainRow 0 0 0) (omega (arith, rows-length t 0, o .counted)) (omega arith)
-    ∙ List·getD-append (numbers (rowOf t node)) (parentOf t node ∷ []) 0 k l
+    ∙ List·getD-append (rowNumbers (rowOf t node)) (parentOf t node ∷ []) 0 k l
 
 -- ---- a row's parts are parts of the octets
 
@@ -136,7 +136,7 @@ module _ (c : List ℕ) (n : ℕ) (table : List ℕ) (m node : ℕ) where
           record { few = omega (arith, o .counted, o .sheet .fitting .many); fits = omega (arith, own-lent c n table m t o); small = omega (arith, l) })
 
       -- the numbers in the table are the row's
-      found : {G : Type 0} → node < m → ((r : Row) → row ≡ some r → ((k : ℕ) → k < 8 → getD table (node * width + k) 0 ≡ getD (numbers r) k 0) → G) → G
+      found : {G : Type 0} → node < m → ((r : Row) → row ≡ some r → ((k : ℕ) → k < 8 → getD table (node * width + k) 0 ≡ getD (rowNumbers r) k 0) → G) → G
       unfolding shownRow chain
       found h g =
           tree-of (ownTree c n table m) (sym y ∙ e)

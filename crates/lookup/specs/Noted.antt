@@ -1,10 +1,10 @@
 -- A sheet by its notes.
 use Prim.Native.Nat.{ℕ, _≤_, _<_, min}
 use mathlib.Core.Path.{_≡_}
-use mathlib.Core.Bool.{Bool, true, false}
+use mathlib.Core.Bool.{Bool, true, false, not}
 use mathlib.Core.Option.{none, some}
 use mathlib.Core.List.{List}
-use Rattle.base.specs.Choice.{pick, not, isNone}
+use Rattle.base.specs.Choice.{pick, isNone}
 use Rattle.model.specs.Tree.{Tree}
 use Rattle.model.specs.Limits.{mostNodes}
 use Rattle.model.specs.Table.{records}
@@ -44,5 +44,5 @@ pub record Readables (notes : List ℕ) (count : ℕ) (own : Bool) : Type 0 wher
   pub read : own ≡ true → (i : ℕ) → i < count → Readable notes i
 
 -- the place of a node's hint or data, in every sheet and table of which the truth value tells
-pub record Shows (notes : List ℕ) (count node : ℕ) (own hinted : Bool) (r : Place) : Type 0 where
+pub record ShowsPlace (notes : List ℕ) (count node : ℕ) (own hinted : Bool) (r : Place) : Type 0 where
   pub is : (c : List ℕ) (len : ℕ) (table : List ℕ) → Owning c len table count notes own → placed r ≡ pick hinted (hintPart c len table count node) (dataPart c len table count node)

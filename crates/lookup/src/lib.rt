@@ -4,11 +4,12 @@ pub mod noted; // noted.rt: a sheet by its notes
 mod parts; // parts.rt: octets compared
 mod tiers; // tiers.rt: notes in local space
 
+ghost use mathlib.Core.Bool.{not};
 ghost use mathlib.Core.Path.{_≡_};
 ghost use Prim.Native.Nat.{_+_, _*_, _≤_, _<_};
-ghost use lib.ListN.{length, getD};
+ghost use lib.ListN.{length as size, getD};
 ghost use Rattle.model.specs.Table.{width};
-ghost use Rattle.base.specs.Choice.{not, isNone};
+ghost use Rattle.base.specs.Choice.{isNone};
 ghost use Rattle.model.specs.Answers.{sheetTree, ownTree, hintPart, dataPart, hintShown, dataShown, comparing};
 ghost use Rattle.answers.specs.Cases.{placed, told};
 ghost use Rattle.answers.specs.Shown.{Shows, shownAt};
@@ -58,7 +59,7 @@ pub fn own_sheet(canonical: &[u8], length: usize, table: &[u32], nodes: usize) -
 
 // The k-th number of a node's record.
 pub fn number(table: &[u32], node: usize, k: usize) -> usize
-    requires { ⌜ InRecord (length (now table)) node k ⌝ }
+    requires { ⌜ InRecord (size (now table)) node k ⌝ }
     ensures { λ r. ⌜ r ≡ getD (now (table .entry)) (node * width + k) 0 ⌝ }
 {
     table[node * limits::WIDTH + k] as usize

@@ -1,7 +1,7 @@
 // A sheet by its notes: noted, and what a node of it shows.
 ghost use mathlib.Core.Path.{_≡_};
-ghost use lib.ListN.{length};
-ghost use Rattle.lookup.specs.Noted.{Notes, Sheeted, Owned, Readables, Shows};
+ghost use lib.ListN.{length as size};
+ghost use Rattle.lookup.specs.Noted.{Notes, Sheeted, Owned, Readables, ShowsPlace};
 use answers::Place;
 use walk::Extent;
 
@@ -14,7 +14,7 @@ pub fn note_in(
     records: usize,
     nodes: usize,
 ) -> bool
-    requires { ⌜ Notes nodes (length (now notes)) ⌝ }
+    requires { ⌜ Notes nodes (size (now notes)) ⌝ }
     ensures { λ r. ⌜ Sheeted (now (canonical .entry)) len nodes records (now (notes .exit)) r ⌝ }
 {
     if len > canonical.len() {
@@ -67,7 +67,7 @@ pub fn own_notes(
     nodes: usize,
     notes: &mut [usize],
 ) -> bool
-    requires { ⌜ Notes nodes (length (now notes)) ⌝ }
+    requires { ⌜ Notes nodes (size (now notes)) ⌝ }
     ensures { λ r. ⌜ Owned (now (canonical .entry)) len (now (table .entry)) nodes (now (notes .exit)) r ⌝ }
 {
     let records = table.len() / limits::WIDTH;
@@ -81,7 +81,7 @@ pub fn own_notes(
 // be its own records'.
 pub fn place_by(notes: &[usize], nodes: usize, node: usize, own: bool, hinted: bool) -> Place
     requires { ⌜ Readables (now notes) nodes own ⌝ }
-    ensures { λ r. ⌜ Shows (now (notes .entry)) nodes node own hinted r ⌝ }
+    ensures { λ r. ⌜ ShowsPlace (now (notes .entry)) nodes node own hinted r ⌝ }
 {
     if own {
         if node >= nodes {

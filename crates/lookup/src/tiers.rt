@@ -1,7 +1,8 @@
 // A sheet's notes in local space, sized by its node count: a short sheet does not pay for clearing the notes of the largest.
+ghost use mathlib.Core.Bool.{not};
 ghost use mathlib.Core.Path.{_≡_};
 ghost use Prim.Native.Nat.{_≤_};
-ghost use Rattle.base.specs.Choice.{not, isNone};
+ghost use Rattle.base.specs.Choice.{isNone};
 ghost use Rattle.model.specs.Answers.{ownTree};
 use crate::noted::own_notes;
 

@@ -1,10 +1,10 @@
 -- Inserting and removing (02, Ask 5): what they answer, and what the lent sheet and table hold afterwards. Both are corrections, as
 -- replacing is: rows 7 and 8, then 9, and the tree that they make is put where the sheet stood (`filled`).
 use Prim.Native.Nat.{ℕ}
-use mathlib.Core.Bool.{Bool}
+use mathlib.Core.Bool.{Bool, not}
 use mathlib.Core.List.{List, [], _∷_}
 use lib.Dec.{leb, eqb}
-use Rattle.base.specs.Choice.{pick, not, isNone}
+use Rattle.base.specs.Choice.{pick, isNone}
 use Rattle.model.specs.Tree.{Tree}
 use Rattle.model.specs.Node.{nodeAt, hasPlace}
 use Rattle.model.specs.Edit.{insert, remove}

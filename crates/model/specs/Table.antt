@@ -23,8 +23,8 @@ pub record Row : Type 0 where
 abbrev pub width : ℕ
 width = 9
 
-abbrev pub numbers : Row → List ℕ
-numbers r = r .kind ∷ r .start ∷ r .end ∷ r .count ∷ r .hintStart ∷ r .hintEnd ∷ r .dataStart ∷ r .dataEnd ∷ []
+abbrev pub rowNumbers : Row → List ℕ
+rowNumbers r = r .kind ∷ r .start ∷ r .end ∷ r .count ∷ r .hintStart ∷ r .hintEnd ∷ r .dataStart ∷ r .dataEnd ∷ []
 
 -- 01, "Without a hint both hint numbers are 0"
 abbrev pub plainRow : ℕ → ℕ → ℕ → Row
@@ -70,7 +70,7 @@ unfoldable mutual
 
 -- a record as nine numbers
 abbrev pub recorded : Row → ℕ → List ℕ
-recorded r up = numbers r ++ (up ∷ [])
+recorded r up = rowNumbers r ++ (up ∷ [])
 
 -- 01, "The table is first lent as plain numbers": rows, each with its parent (there are as many)
 unfoldable pub flat : List Row → List ℕ → List ℕ

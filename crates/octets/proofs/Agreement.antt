@@ -1,12 +1,12 @@
 -- The list agrees with the grammar's ranges at each octet, by one computed test.
 use Prim.Native.Nat.{ℕ, zero, suc}
 use mathlib.Core.Path.{_≡_, refl, sym, _∙_}
-use mathlib.Core.Bool.{Bool, true}
+use mathlib.Core.Bool.{Bool, true, not}
 use mathlib.Core.List.{List, [], _∷_}
 use lib.ListN.{getD}
 use lib.Dec.{leb, ltb, eqb}
 use borrow.Author.Tests.{eqb-true}
-use Rattle.base.specs.Choice.{pick, both, not, among, member}
+use Rattle.base.specs.Choice.{pick, both, among, member}
 use Rattle.base.proofs.Below.{below, below-at}
 use Rattle.base.proofs.Cases.{pick-cases, both-true, not-true}
 use Rattle.model.specs.Lexemes.{opening, closing}

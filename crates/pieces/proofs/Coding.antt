@@ -1,12 +1,11 @@
 -- A state as numbers, and back.
 use Prim.Native.Nat.{ℕ}
 use mathlib.Core.Path.{_≡_, refl, sym, ap, _∙_}
-use mathlib.Core.Bool.{Bool, true, false}
+use mathlib.Core.Bool.{Bool, true, false, not}
 use mathlib.Core.List.{List, [], _∷_}
 use lib.ListN.{getD}
 use lib.Dec.{eqb}
 use borrow.Author.Tests.{ne-eqb}
-use Rattle.base.specs.Choice.{not}
 use Rattle.base.proofs.Cases.{unpicked}
 use Rattle.pieces.specs.Coded.{bit, phaseIn, kindOf, hintOf, numberOf, stateIn, stateNumbers}
 use Rattle.pieces.specs.declared.state.State.{State}

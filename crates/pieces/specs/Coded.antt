@@ -1,10 +1,10 @@
 -- A running state as ten numbers, for callers in other languages; any numbers are allowed.
 use Prim.Native.Nat.{ℕ}
-use mathlib.Core.Bool.{Bool, false}
+use mathlib.Core.Bool.{Bool, false, not}
 use mathlib.Core.List.{List, [], _∷_}
 use lib.ListN.{getD}
 use lib.Dec.{eqb}
-use Rattle.base.specs.Choice.{pick, not}
+use Rattle.base.specs.Choice.{pick}
 use Rattle.pieces.specs.declared.state.State.{State}
 use Rattle.pieces.specs.declared.track.Phase.{Phase}
 use Rattle.pieces.specs.declared.track.Phase.the-variants.{Between, Sizing, Counting, Filling, Bracket, Dead}

@@ -9,7 +9,7 @@ use lib.Dec.{ltb}
 use borrow.Author.Tests.{lt-ltb, le-ltb, eq-eqb, ne-eqb}
 use Rattle.base.specs.Choice.{pick}
 use Rattle.base.proofs.Cases.{by-eq, picked, unpicked}
-use Rattle.model.specs.Table.{Row, numbers}
+use Rattle.model.specs.Table.{Row, rowNumbers}
 use Rattle.sheets.specs.Notes.{listMark}
 use Rattle.sheets.specs.Places.{shift}
 use Rattle.sheets.specs.Rows.{rowList, RowIs}

@@ -2,13 +2,13 @@
 use Prim.Native.Nat.{ℕ, _-_, _≤_, _<_}
 use native.Mathlib.Omega.{arith}
 use mathlib.Core.Path.{_≡_, refl, sym, ap, _∙_, subst}
-use mathlib.Core.Bool.{Bool, true, false}
+use mathlib.Core.Bool.{Bool, true, false, not}
 use mathlib.Core.Option.{Option, some}
 use mathlib.Core.List.{List}
 use lib.ListN.{length}
 use lib.Dec.{ltb}
 use borrow.Author.Tests.{le-ltb, ltb-false}
-use Rattle.base.specs.Choice.{not, isNone}
+use Rattle.base.specs.Choice.{isNone}
 use Rattle.base.proofs.Cases.{some-same}
 use Rattle.model.specs.Limits.{maxDepth}
 use Rattle.model.specs.Table.{records}

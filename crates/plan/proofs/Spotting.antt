@@ -2,17 +2,17 @@
 use Prim.Native.Nat.{ℕ, zero, suc, _+_, _-_, _≤_, _<_}
 use native.Mathlib.Omega.{arith}
 use mathlib.Core.Path.{_≡_, refl, sym, ap, ap₂, _∙_, subst}
-use mathlib.Core.Bool.{Bool, true, false}
+use mathlib.Core.Bool.{Bool, true, false, not}
 use mathlib.Core.Option.{Option, none, some}
 use mathlib.Core.List.{List}
 use lib.ListN.{length, take, getD}
 use lib.Dec.{ltb, eqb}
 use borrow.Author.Tests.{lt-ltb, le-ltb, eq-eqb, ne-eqb}
-use Rattle.base.specs.Choice.{pick, not, isNone}
+use Rattle.base.specs.Choice.{pick, isNone}
 use Rattle.base.proofs.Cases.{by-le, picked, unpicked}
 use Rattle.model.specs.Limits.{mostNodes}
 use Rattle.model.specs.Node.{nodeAt, hasPlace}
-use Rattle.model.specs.Table.{Row, rows, rowOf, numbers}
+use Rattle.model.specs.Table.{Row, rows, rowOf, rowNumbers}
 use Rattle.model.specs.Tree.{Tree, Forest, nil, nodes, nodess}
 use Rattle.sheets.specs.Rows.{rowList, RowIs}
 use Rattle.sheets.specs.Told.{rowAt, Readable, Holds}
@@ -64,7 +64,7 @@ module _ (notes : List ℕ) (count : ℕ) (kept : Kept notes count) (node : ℕ)
           is = refl;
           inside = h;
           at = λ t held.
-              let e : rowList row ≡ numbers (rowOf t node) = is ∙ ap numbers (holds-row notes count t held node h) in
+              let e : rowList row ≡ rowNumbers (rowOf t node) = is ∙ ap rowNumbers (holds-row notes count t held node h) in
               record {
                 begins = ap (λ (x : List ℕ). getD x 1 0) e;
                 ends = ap (λ (x : List ℕ). getD x 2 0) e;

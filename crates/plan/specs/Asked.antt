@@ -1,11 +1,11 @@
 -- What is asked of a sheet, and what it answers: a node gives way to a text's tree (01, "correcting"), a text's tree comes into a list,
 -- or a node is removed (02, Ask 5). One list of checks and one new tree for all three.
 use Prim.Native.Nat.{ℕ}
-use mathlib.Core.Bool.{Bool, true, false}
+use mathlib.Core.Bool.{Bool, true, false, not}
 use mathlib.Core.Option.{Option}
 use mathlib.Core.List.{List, _∷_}
 use lib.Dec.{leb, eqb}
-use Rattle.base.specs.Choice.{not, isNone}
+use Rattle.base.specs.Choice.{isNone}
 use Rattle.model.specs.Tree.{Tree, Forest, nil}
 use Rattle.model.specs.Edit.{one, replace, insert, remove}
 use Rattle.model.specs.Node.{nodeAt, hasPlace}

@@ -1,11 +1,11 @@
 -- A change by steps: its spot, the sizes of the new tree, and what rows 7, 8, 9 and 4 to 6 say of it.
 use Prim.Native.Nat.{ℕ, _+_, _-_, _≤_, _<_}
 use mathlib.Core.Path.{_≡_}
-use mathlib.Core.Bool.{Bool, true}
+use mathlib.Core.Bool.{Bool, true, not}
 use mathlib.Core.Option.{some}
 use mathlib.Core.List.{List}
 use lib.ListN.{length}
-use Rattle.base.specs.Choice.{not, isNone}
+use Rattle.base.specs.Choice.{isNone}
 use Rattle.model.specs.Tree.{Tree, Forest, canon, canons, nodes, nodess, depth, depths}
 use Rattle.model.specs.Table.{records}
 use Rattle.model.specs.Limits.{maxDepth, mostNodes, maxCanonical}

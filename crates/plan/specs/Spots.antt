@@ -1,12 +1,12 @@
 -- Where a change takes place, found by notes: the nodes that give way, their octets, and the lists around them.
 use Prim.Native.Nat.{ℕ, zero, suc, _+_, _-_, _≤_, _<_}
 use mathlib.Core.Path.{_≡_}
-use mathlib.Core.Bool.{Bool, true, false}
+use mathlib.Core.Bool.{Bool, true, false, not}
 use mathlib.Core.Option.{Option, none, some}
 use mathlib.Core.List.{List}
 use lib.ListN.{length, take}
 use lib.Dec.{ltb}
-use Rattle.base.specs.Choice.{pick, not, isNone}
+use Rattle.base.specs.Choice.{pick, isNone}
 use Rattle.model.specs.Tree.{Tree, nodes, nodess}
 use Rattle.model.specs.Table.{rows, rowOf}
 use Rattle.model.specs.Limits.{mostNodes}

@@ -1,6 +1,6 @@
 -- The records compared with notes, one by one, are a table compared with a tree's.
 use mathlib.Core.Path.{_≡_, refl, sym, _∙_, ap, ap₂, subst}
-use mathlib.Core.Bool.{Bool, true, false}
+use mathlib.Core.Bool.{Bool, true, false, not}
 use mathlib.Core.Option.{Option, none, some}
 use mathlib.Core.List.{List, [], _∷_, _++_}
 use Prim.Native.Nat.{ℕ, zero, suc, _*_, _≤_, _<_}
@@ -9,7 +9,7 @@ use native.Mathlib.Numerals.{add-one}
 use lib.Dec.{eqb}
 use lib.ListN.{length, take, getD}
 use borrow.Author.Tests.{eq-eqb, ne-eqb}
-use Rattle.base.specs.Choice.{pick, not, equal, chain, isNone}
+use Rattle.base.specs.Choice.{pick, equal, chain, isNone}
 use Rattle.base.proofs.Cases.{by-bool, by-eq, differ, picked, unpicked, some-same, none-some}
 use Rattle.base.proofs.Lists.{equal-true, same-equal}
 use Rattle.model.specs.Tree.{Tree, nodes}

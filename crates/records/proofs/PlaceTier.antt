@@ -51,7 +51,7 @@ use Rattle.answers.proofs.Place as P
 use Rattle.answers.proofs.Place.Laws as P′
 use Rattle.lookup.specs.Noted.{Notes}
 use Rattle.records.specs.declared.Record.{Record}
-use Rattle.records.specs.Numbers.{numbers, placeOf}
+use Rattle.records.specs.Numbers.{numbers, partOf}
 use Rattle.records.proofs.Spelled.{word, placeTy, toNote, bytes, recs, notesBy}
 use Rattle.records.proofs.Noted.{at-local}
 use Rattle.records.proofs.Local.{arrayTy, noughts, noughtVal, length-noughts, noughts-typed, Stays-with, lends-row, row-dies, number, number-lit}
@@ -76,26 +76,32 @@ module _ {M : Type 1} (𝓤 : URA M) (H : Heap 𝓤) (A : Atoms 𝓤) (mem : Mem
   abbrev pub Next : Contract 𝓤
   Next = tripleOf 𝓤 H A entry.signature (entry.spec 𝓤 H A mem run)
 
--- the rest of the body after 1 tests, and what a test that holds leads to
-abbrev rest₁ : Bool → ℕ → Body
-rest₁ big n = seq (assign (place 7 []) (repeat (int w64 0) n)) (seq (assign (place 9 []) (addrOf (place 7 []))) (seq (assign (place 10 []) (aggregate (copy (place 9 []) ∷ number big n ∷ []))) (seq (call #core (copy (place 1 []) ∷ copy (place 2 []) ∷ copy (place 3 []) ∷ copy (place 4 []) ∷ copy (place 5 []) ∷ copy (place 6 []) ∷ copy (place 10 []) ∷ []) (place 0 [])) (return))))
+-- the rest of the body after 2 tests, and what a test that holds leads to
+abbrev rest₂ : Bool → ℕ → Body
+rest₂ big n = seq (assign (place 7 []) (repeat (int w64 0) n)) (seq (assign (place 9 []) (addrOf (place 7 []))) (seq (assign (place 10 []) (aggregate (copy (place 9 []) ∷ number big n ∷ []))) (seq (call #core (copy (place 1 []) ∷ copy (place 2 []) ∷ copy (place 3 []) ∷ copy (place 4 []) ∷ copy (place 5 []) ∷ copy (place 6 []) ∷ copy (place 10 []) ∷ []) (place 0 [])) (return))))
+
+abbrev hand₁ : Name → Body
+hand₁ next = seq (call next (copy (place 1 []) ∷ copy (place 2 []) ∷ copy (place 3 []) ∷ copy (place 4 []) ∷ copy (place 5 []) ∷ copy (place 6 []) ∷ []) (place 0 [])) (return)
+
+abbrev rest₁ : Bool → Bool → Bool → ℕ → ℕ → ℕ → Name → Body
+rest₁ big huge large n most-bound bound next = seq (assign (place 8 []) (op2 (lt unsigned) (number large bound) (copy (place 4 [])))) (seq (cond (copy (place 8 [])) (hand₁ next) skip) (rest₂ big n))
 
 abbrev hand₀ : Name → Body
 hand₀ next = seq (call next (copy (place 1 []) ∷ copy (place 2 []) ∷ copy (place 3 []) ∷ copy (place 4 []) ∷ copy (place 5 []) ∷ copy (place 6 []) ∷ []) (place 0 [])) (return)
 
-abbrev rest₀ : Bool → Bool → ℕ → ℕ → Name → Body
-rest₀ big large n bound next = seq (assign (place 8 []) (op2 (lt unsigned) (number large bound) (copy (place 4 [])))) (seq (cond (copy (place 8 [])) (hand₀ next) skip) (rest₁ big n))
+abbrev rest₀ : Bool → Bool → Bool → ℕ → ℕ → ℕ → Name → Body
+rest₀ big huge large n most-bound bound next = seq (assign (place 8 []) (op2 (lt unsigned) (number huge most-bound) (copy (place 4 [])))) (seq (cond (copy (place 8 [])) (hand₀ next) skip) (rest₁ big huge large n most-bound bound next))
 
-abbrev pub function : Bool → Bool → ℕ → ℕ → Name → Fn
-function big large n bound next = record {
+abbrev pub function : Bool → Bool → Bool → ℕ → ℕ → ℕ → Name → Fn
+function big huge large n most-bound bound next = record {
   lifetimes = 2;
   outlives = [];
   params = 6;
   locals = local placeTy valueLocal ∷ local (bytes (named 0) imm) valueLocal ∷ local word valueLocal ∷ local (recs (named 1) imm) valueLocal ∷ local word valueLocal ∷ local word valueLocal ∷ local tyBool valueLocal ∷ local (arrayTy n) memorySlot ∷ local tyBool valueLocal ∷ local (tyRef erased mut (arrayTy n)) valueLocal ∷ local (notesBy erased mut) valueLocal ∷ [];
-  body = rest₀ big large n bound next;
+  body = rest₀ big huge large n most-bound bound next;
 }
 
-module _ {M : Type 1} (𝓤 : URA M) (H : Heap 𝓤) (A : Atoms 𝓤) (W : Given 𝓤 H A) (mem : Memory → SProp 𝓤) (run : Routine → Fun 𝓤) (big large : Bool) (n bound : ℕ) (next : Name) (n-room : Room usize n) (bound-fits : bound < 2 ^ 64) (enough : (m : ℕ) → m ≤ bound → Notes m n) (κ₀ κ₁ : Lft) (q₀ q₁ : Share) (can : RefT (List ℕ)) (len : ℕ) (rec : RefT (List Record)) (nodes : ℕ) (node : ℕ) (hinted : Bool) (can-room : Room u8 (length (can .now))) (len-fits : len < 2 ^ 64) (rec-room : Room T.the-row (length (rec .now))) (nodes-fits : nodes < 2 ^ 64) (node-fits : node < 2 ^ 64) where
+module _ {M : Type 1} (𝓤 : URA M) (H : Heap 𝓤) (A : Atoms 𝓤) (W : Given 𝓤 H A) (mem : Memory → SProp 𝓤) (run : Routine → Fun 𝓤) (big huge large : Bool) (n most-bound bound : ℕ) (next : Name) (n-room : Room usize n) (most-bound-fits : most-bound < 2 ^ 64) (bound-fits : bound < 2 ^ 64) (enough : (m : ℕ) → m ≤ bound → Notes m n) (κ₀ κ₁ : Lft) (q₀ q₁ : Share) (can : RefT (List ℕ)) (len : ℕ) (rec : RefT (List Record)) (nodes : ℕ) (node : ℕ) (hinted : Bool) (can-room : Room u8 (length (can .now))) (len-fits : len < 2 ^ 64) (rec-room : Room T.the-row (length (rec .now))) (nodes-fits : nodes < 2 ^ 64) (node-fits : node < 2 ^ 64) where
   abbrev κs : Lfts 2
   κs = (κ₀, (κ₁, tt))
 
@@ -141,8 +147,8 @@ module _ {M : Type 1} (𝓤 : URA M) (H : Heap 𝓤) (A : Atoms 𝓤) (W : Given
     abbrev Next-next : Val → Item 𝓤
     Next-next u = later (some (λ (r : Place). ((‵ (flft κ₀ q₀) ⊛ ‵ (flft κ₁ q₁) ⊛ ‵ ftrue) ⊛ ‵ (P.the-row .own r (u ∷ []))) ⊛ raw (ensured 𝓤 H A entry.ended (entry.clauses 𝓤 H A mem run) (κ₀, (κ₁, tt)) (can, (len, (rec, (nodes, (node, (hinted, tt)))))) tt r)))
 
-    told-next : (r : Place) → ent 𝓤 (ensured 𝓤 H A entry.ended (entry.clauses 𝓤 H A mem run) (κ₀, (κ₁, tt)) (can, (len, (rec, (nodes, (node, (hinted, tt)))))) tt r) (fact 𝓤 (placed r ≡ placeOf hinted (can .now) len (numbers (rec .now)) nodes node))
-    told-next r = exE 𝓤 _ (λ ws. snd∗ 𝓤 (sem 𝓤 H A (lasts entry.ended (κ₀, (κ₁, tt)) (can, (len, (rec, (nodes, (node, (hinted, tt)))))) ws)) (fact 𝓤 (placed r ≡ placeOf hinted (can .now) len (numbers (rec .now)) nodes node)))
+    told-next : (r : Place) → ent 𝓤 (ensured 𝓤 H A entry.ended (entry.clauses 𝓤 H A mem run) (κ₀, (κ₁, tt)) (can, (len, (rec, (nodes, (node, (hinted, tt)))))) tt r) (fact 𝓤 (placed r ≡ partOf hinted (can .now) len (numbers (rec .now)) nodes node))
+    told-next r = exE 𝓤 _ (λ ws. snd∗ 𝓤 (sem 𝓤 H A (lasts entry.ended (κ₀, (κ₁, tt)) (can, (len, (rec, (nodes, (node, (hinted, tt)))))) ws)) (fact 𝓤 (placed r ≡ partOf hinted (can .now) len (numbers (rec .now)) nodes node)))
 
   module _ (l ν : ℕ) (ε : GName) where
     abbrev to-core : Core 𝓤 H A mem run .Ghost
@@ -160,9 +166,9 @@ module _ {M : Type 1} (𝓤 : URA M) (H : Heap 𝓤) (A : Atoms 𝓤) (W : Given
     Next-core u = later (some (λ (r : Place). ((‵ (flft κ₀ q₀) ⊛ ‵ (flft κ₁ q₁) ⊛ ‵ (flft (ν ∷ []) fullShare) ⊛ ‵ ftrue) ⊛ ‵ (P.the-row .own r (u ∷ []))) ⊛ raw (ensured 𝓤 H A core.ended (core.clauses 𝓤 H A mem run) (κ₀, (κ₁, ((ν ∷ []), tt))) (can, (len, (rec, (nodes, (node, (hinted, ((at-local l ε (noughts n)), tt))))))) tt r)))
 
     abbrev Last-core : Place → Item 𝓤
-    Last-core r = some (λ (ws : Unit {0} × (Unit {0} × (Unit {0} × (Unit {0} × (Unit {0} × (Unit {0} × (List ℕ × Unit {0}))))))). ‵ (lasts core.ended (κ₀, (κ₁, ((ν ∷ []), tt))) (can, (len, (rec, (nodes, (node, (hinted, ((at-local l ε (noughts n)), tt))))))) ws) ⊛ raw (fact 𝓤 (placed r ≡ placeOf hinted (can .now) len (numbers (rec .now)) nodes node)))
+    Last-core r = some (λ (ws : Unit {0} × (Unit {0} × (Unit {0} × (Unit {0} × (Unit {0} × (Unit {0} × (List ℕ × Unit {0}))))))). ‵ (lasts core.ended (κ₀, (κ₁, ((ν ∷ []), tt))) (can, (len, (rec, (nodes, (node, (hinted, ((at-local l ε (noughts n)), tt))))))) ws) ⊛ raw (fact 𝓤 (placed r ≡ partOf hinted (can .now) len (numbers (rec .now)) nodes node)))
 
-  exits : (r : Place) (u : Val) → Is P.the-row r (u ∷ []) → placed r ≡ placeOf hinted (can .now) len (numbers (rec .now)) nodes node
+  exits : (r : Place) (u : Val) → Is P.the-row r (u ∷ []) → placed r ≡ partOf hinted (can .now) len (numbers (rec .now)) nodes node
       → ent 𝓤 (⋆ 𝓤 H A (‵ (flft κ₀ q₀) ∷ ‵ (flft κ₁ q₁) ∷ [])) (Post u)
   exits r u is e =
       qed W (‵ (flft κ₀ q₀) ∷ ‵ (flft κ₁ q₁) ∷ []) ∵
@@ -185,23 +191,39 @@ module _ {M : Type 1} (𝓤 : URA M) (H : Heap 𝓤) (A : Atoms 𝓤) (W : Given
       Mid₀ = ‵ (R-can) ∷ ‵ (R-rec) ∷ ‵ (flft κ₀ q₀) ∷ ‵ (flft κ₁ q₁) ∷ ‵ (froom (notesBy erased mut) l₁₀ 0) ∷ ‵ (fdies (notesBy erased mut) l₁₀) ∷ ‵ (froom (tyRef erased mut (arrayTy n)) l₉ 0) ∷ ‵ (fdies (tyRef erased mut (arrayTy n)) l₉) ∷ ‵ (froom tyBool l₈ 0) ∷ ‵ (fdies tyBool l₈) ∷ ‵ (froom (arrayTy n) l₇ 0) ∷ ‵ (fdies (arrayTy n) l₇) ∷ ‵ (fat fullShare tyBool l₆ 0 (vbool hinted)) ∷ ‵ (fdies tyBool l₆) ∷ ‵ (fat fullShare word l₅ 0 (vint w64 node)) ∷ ‵ (fdies word l₅) ∷ ‵ (fat fullShare word l₄ 0 (vint w64 nodes)) ∷ ‵ (fdies word l₄) ∷ ‵ (fat fullShare (recs (named 1) imm) l₃ 0 s-rec) ∷ ‵ (fdies (recs (named 1) imm) l₃) ∷ ‵ (fat fullShare word l₂ 0 (vint w64 len)) ∷ ‵ (fdies word l₂) ∷ ‵ (fat fullShare (bytes (named 0) imm) l₁ 0 s-can) ∷ ‵ (fdies (bytes (named 0) imm) l₁) ∷ ‵ (froom placeTy l₀ 0) ∷ ‵ (fdies placeTy l₀) ∷ []
 
       abbrev Held₀ : List (Item 𝓤)
-      Held₀ = ‵ (R-can) ∷ ‵ (R-rec) ∷ ‵ (flft κ₀ q₀) ∷ ‵ (flft κ₁ q₁) ∷ ‵ (froom (notesBy erased mut) l₁₀ 0) ∷ ‵ (fdies (notesBy erased mut) l₁₀) ∷ ‵ (froom (tyRef erased mut (arrayTy n)) l₉ 0) ∷ ‵ (fdies (tyRef erased mut (arrayTy n)) l₉) ∷ ‵ (fat fullShare tyBool l₈ 0 (vbool (ltb bound nodes))) ∷ ‵ (fdies tyBool l₈) ∷ ‵ (froom (arrayTy n) l₇ 0) ∷ ‵ (fdies (arrayTy n) l₇) ∷ ‵ (fat fullShare tyBool l₆ 0 (vbool hinted)) ∷ ‵ (fdies tyBool l₆) ∷ ‵ (fat fullShare word l₅ 0 (vint w64 node)) ∷ ‵ (fdies word l₅) ∷ ‵ (fat fullShare word l₄ 0 (vint w64 nodes)) ∷ ‵ (fdies word l₄) ∷ ‵ (fat fullShare (recs (named 1) imm) l₃ 0 s-rec) ∷ ‵ (fdies (recs (named 1) imm) l₃) ∷ ‵ (fat fullShare word l₂ 0 (vint w64 len)) ∷ ‵ (fdies word l₂) ∷ ‵ (fat fullShare (bytes (named 0) imm) l₁ 0 s-can) ∷ ‵ (fdies (bytes (named 0) imm) l₁) ∷ ‵ (froom placeTy l₀ 0) ∷ ‵ (fdies placeTy l₀) ∷ []
+      Held₀ = ‵ (R-can) ∷ ‵ (R-rec) ∷ ‵ (flft κ₀ q₀) ∷ ‵ (flft κ₁ q₁) ∷ ‵ (froom (notesBy erased mut) l₁₀ 0) ∷ ‵ (fdies (notesBy erased mut) l₁₀) ∷ ‵ (froom (tyRef erased mut (arrayTy n)) l₉ 0) ∷ ‵ (fdies (tyRef erased mut (arrayTy n)) l₉) ∷ ‵ (fat fullShare tyBool l₈ 0 (vbool (ltb most-bound nodes))) ∷ ‵ (fdies tyBool l₈) ∷ ‵ (froom (arrayTy n) l₇ 0) ∷ ‵ (fdies (arrayTy n) l₇) ∷ ‵ (fat fullShare tyBool l₆ 0 (vbool hinted)) ∷ ‵ (fdies tyBool l₆) ∷ ‵ (fat fullShare word l₅ 0 (vint w64 node)) ∷ ‵ (fdies word l₅) ∷ ‵ (fat fullShare word l₄ 0 (vint w64 nodes)) ∷ ‵ (fdies word l₄) ∷ ‵ (fat fullShare (recs (named 1) imm) l₃ 0 s-rec) ∷ ‵ (fdies (recs (named 1) imm) l₃) ∷ ‵ (fat fullShare word l₂ 0 (vint w64 len)) ∷ ‵ (fdies word l₂) ∷ ‵ (fat fullShare (bytes (named 0) imm) l₁ 0 s-can) ∷ ‵ (fdies (bytes (named 0) imm) l₁) ∷ ‵ (froom placeTy l₀ 0) ∷ ‵ (fdies placeTy l₀) ∷ []
 
       abbrev Mid₁ : List (Item 𝓤)
-      Mid₁ = ‵ (R-can) ∷ ‵ (R-rec) ∷ ‵ (flft κ₀ q₀) ∷ ‵ (flft κ₁ q₁) ∷ ‵ (froom (notesBy erased mut) l₁₀ 0) ∷ ‵ (fdies (notesBy erased mut) l₁₀) ∷ ‵ (froom (tyRef erased mut (arrayTy n)) l₉ 0) ∷ ‵ (fdies (tyRef erased mut (arrayTy n)) l₉) ∷ ‵ (fat fullShare tyBool l₈ 0 (vbool (ltb bound nodes))) ∷ ‵ (fdies tyBool l₈) ∷ ‵ (froom (arrayTy n) l₇ 0) ∷ ‵ (fdies (arrayTy n) l₇) ∷ ‵ (fat fullShare tyBool l₆ 0 (vbool hinted)) ∷ ‵ (fdies tyBool l₆) ∷ ‵ (fat fullShare word l₅ 0 (vint w64 node)) ∷ ‵ (fdies word l₅) ∷ ‵ (fat fullShare word l₄ 0 (vint w64 nodes)) ∷ ‵ (fdies word l₄) ∷ ‵ (fat fullShare (recs (named 1) imm) l₃ 0 s-rec) ∷ ‵ (fdies (recs (named 1) imm) l₃) ∷ ‵ (fat fullShare word l₂ 0 (vint w64 len)) ∷ ‵ (fdies word l₂) ∷ ‵ (fat fullShare (bytes (named 0) imm) l₁ 0 s-can) ∷ ‵ (fdies (bytes (named 0) imm) l₁) ∷ ‵ (froom placeTy l₀ 0) ∷ ‵ (fdies placeTy l₀) ∷ []
+      Mid₁ = ‵ (R-can) ∷ ‵ (R-rec) ∷ ‵ (flft κ₀ q₀) ∷ ‵ (flft κ₁ q₁) ∷ ‵ (froom (notesBy erased mut) l₁₀ 0) ∷ ‵ (fdies (notesBy erased mut) l₁₀) ∷ ‵ (froom (tyRef erased mut (arrayTy n)) l₉ 0) ∷ ‵ (fdies (tyRef erased mut (arrayTy n)) l₉) ∷ ‵ (fat fullShare tyBool l₈ 0 (vbool (ltb most-bound nodes))) ∷ ‵ (fdies tyBool l₈) ∷ ‵ (froom (arrayTy n) l₇ 0) ∷ ‵ (fdies (arrayTy n) l₇) ∷ ‵ (fat fullShare tyBool l₆ 0 (vbool hinted)) ∷ ‵ (fdies tyBool l₆) ∷ ‵ (fat fullShare word l₅ 0 (vint w64 node)) ∷ ‵ (fdies word l₅) ∷ ‵ (fat fullShare word l₄ 0 (vint w64 nodes)) ∷ ‵ (fdies word l₄) ∷ ‵ (fat fullShare (recs (named 1) imm) l₃ 0 s-rec) ∷ ‵ (fdies (recs (named 1) imm) l₃) ∷ ‵ (fat fullShare word l₂ 0 (vint w64 len)) ∷ ‵ (fdies word l₂) ∷ ‵ (fat fullShare (bytes (named 0) imm) l₁ 0 s-can) ∷ ‵ (fdies (bytes (named 0) imm) l₁) ∷ ‵ (froom placeTy l₀ 0) ∷ ‵ (fdies placeTy l₀) ∷ []
 
-      hands₀ : Sq W Held₀ (runs C Λ En (hand₀ next) (anyQ (afterSeq 𝓤 H (Wp 𝓤 H C Λ En (rest₁ big n) (atReturn 𝓤 H En Post)) (atReturn 𝓤 H En Post))))
+      abbrev Held₁ : List (Item 𝓤)
+      Held₁ = ‵ (R-can) ∷ ‵ (R-rec) ∷ ‵ (flft κ₀ q₀) ∷ ‵ (flft κ₁ q₁) ∷ ‵ (froom (notesBy erased mut) l₁₀ 0) ∷ ‵ (fdies (notesBy erased mut) l₁₀) ∷ ‵ (froom (tyRef erased mut (arrayTy n)) l₉ 0) ∷ ‵ (fdies (tyRef erased mut (arrayTy n)) l₉) ∷ ‵ (fat fullShare tyBool l₈ 0 (vbool (ltb bound nodes))) ∷ ‵ (fdies tyBool l₈) ∷ ‵ (froom (arrayTy n) l₇ 0) ∷ ‵ (fdies (arrayTy n) l₇) ∷ ‵ (fat fullShare tyBool l₆ 0 (vbool hinted)) ∷ ‵ (fdies tyBool l₆) ∷ ‵ (fat fullShare word l₅ 0 (vint w64 node)) ∷ ‵ (fdies word l₅) ∷ ‵ (fat fullShare word l₄ 0 (vint w64 nodes)) ∷ ‵ (fdies word l₄) ∷ ‵ (fat fullShare (recs (named 1) imm) l₃ 0 s-rec) ∷ ‵ (fdies (recs (named 1) imm) l₃) ∷ ‵ (fat fullShare word l₂ 0 (vint w64 len)) ∷ ‵ (fdies word l₂) ∷ ‵ (fat fullShare (bytes (named 0) imm) l₁ 0 s-can) ∷ ‵ (fdies (bytes (named 0) imm) l₁) ∷ ‵ (froom placeTy l₀ 0) ∷ ‵ (fdies placeTy l₀) ∷ []
+
+      abbrev Mid₂ : List (Item 𝓤)
+      Mid₂ = ‵ (R-can) ∷ ‵ (R-rec) ∷ ‵ (flft κ₀ q₀) ∷ ‵ (flft κ₁ q₁) ∷ ‵ (froom (notesBy erased mut) l₁₀ 0) ∷ ‵ (fdies (notesBy erased mut) l₁₀) ∷ ‵ (froom (tyRef erased mut (arrayTy n)) l₉ 0) ∷ ‵ (fdies (tyRef erased mut (arrayTy n)) l₉) ∷ ‵ (fat fullShare tyBool l₈ 0 (vbool (ltb bound nodes))) ∷ ‵ (fdies tyBool l₈) ∷ ‵ (froom (arrayTy n) l₇ 0) ∷ ‵ (fdies (arrayTy n) l₇) ∷ ‵ (fat fullShare tyBool l₆ 0 (vbool hinted)) ∷ ‵ (fdies tyBool l₆) ∷ ‵ (fat fullShare word l₅ 0 (vint w64 node)) ∷ ‵ (fdies word l₅) ∷ ‵ (fat fullShare word l₄ 0 (vint w64 nodes)) ∷ ‵ (fdies word l₄) ∷ ‵ (fat fullShare (recs (named 1) imm) l₃ 0 s-rec) ∷ ‵ (fdies (recs (named 1) imm) l₃) ∷ ‵ (fat fullShare word l₂ 0 (vint w64 len)) ∷ ‵ (fdies word l₂) ∷ ‵ (fat fullShare (bytes (named 0) imm) l₁ 0 s-can) ∷ ‵ (fdies (bytes (named 0) imm) l₁) ∷ ‵ (froom placeTy l₀ 0) ∷ ‵ (fdies placeTy l₀) ∷ []
+
+      hands₀ : Sq W Held₀ (runs C Λ En (hand₀ next) (anyQ (afterSeq 𝓤 H (Wp 𝓤 H C Λ En (rest₁ big huge large n most-bound bound next) (atReturn 𝓤 H En Post)) (atReturn 𝓤 H En Post))))
       hands₀ =
           move ! (2 ∷ 3 ∷ []) $ join ! $ move ! (1 ∷ 2 ∷ []) $ join ! $ move ! (1 ∷ 0 ∷ []) $ use2 W (raw (Next 𝓤 H A mem run .pre (to-next))) (goes-next) $
           calls-at ! (fmOf 𝓤 H (W .laws) 𝓣) (Next 𝓤 H A mem run) known-next (to-next) (and-then ! (load ! (from ! (stop !)) (look ! 19 refl)) (and-then ! (load ! (from ! (stop !)) (look ! 17 refl)) (and-then ! (load ! (from ! (stop !)) (look ! 15 refl)) (and-then ! (load ! (from ! (stop !)) (look ! 13 refl)) (and-then ! (load ! (from ! (stop !)) (look ! 11 refl)) (and-then ! (load ! (from ! (stop !)) (look ! 9 refl)) (no-more !))))))) (λ u.
-          use1 W (Next-next u) (id⊢ 𝓤 _) $ await ! tt $ pick ! (λ r. split ! $ move ! (1 ∷ []) $ use1 W (raw (fact 𝓤 (placed r ≡ placeOf hinted (can .now) len (numbers (rec .now)) nodes node))) (told-next r) $ heard ! (placed r ≡ placeOf hinted (can .now) len (numbers (rec .now)) nodes node) (λ said. split ! $ move ! (1 ∷ []) $ peeks ! P.the-row (Is P.the-row) (shows 𝓤 H A P.the-row) r (u ∷ []) (λ is. drop ! $
+          use1 W (Next-next u) (id⊢ 𝓤 _) $ await ! tt $ pick ! (λ r. split ! $ move ! (1 ∷ []) $ use1 W (raw (fact 𝓤 (placed r ≡ partOf hinted (can .now) len (numbers (rec .now)) nodes node))) (told-next r) $ heard ! (placed r ≡ partOf hinted (can .now) len (numbers (rec .now)) nodes node) (λ said. split ! $ move ! (1 ∷ []) $ peeks ! P.the-row (Is P.the-row) (shows 𝓤 H A P.the-row) r (u ∷ []) (λ is. drop ! $
           land ! (from ! (stop !)) (init ! 21 refl (EL.lawful P.the-type P′.the-laws 𝓤 H A W tt .typed r _ is .0)) $
           split ! $ move ! (1 ∷ []) $ split ! $ returns-within ! Post refl (look ! 23 refl) $
           forget ! 23 refl $ forget ! 21 refl $ forget ! 19 refl $ forget ! 17 refl $ forget ! 15 refl $ forget ! 13 refl $ forget ! 11 refl $ forget ! 7 refl $
           move ! (23 ∷ 24 ∷ []) $ free1 ! $ move ! (21 ∷ 22 ∷ []) $ free1 ! $ move ! (19 ∷ 20 ∷ []) $ free1 ! $ move ! (17 ∷ 18 ∷ []) $ free1 ! $ move ! (15 ∷ 16 ∷ []) $ free1 ! $ move ! (13 ∷ 14 ∷ []) $ free1 ! $ move ! (11 ∷ 12 ∷ []) $ free1 ! $ move ! (9 ∷ 10 ∷ []) $ free1 ! $ move ! (7 ∷ 8 ∷ []) $ free1 ! $ move ! (5 ∷ 6 ∷ []) $ free1 ! $ move ! (3 ∷ 4 ∷ []) $ free1 ! $ free0 ! $ keep ! (2 ∷ 0 ∷ []) $ by ! (exits r u is said)))))
 
-      fills : nodes ≤ bound → Sq W Mid₁ (runs C Λ En (rest₁ big n) (atRet En Post))
-      fills under₀ =
+      hands₁ : Sq W Held₁ (runs C Λ En (hand₁ next) (anyQ (afterSeq 𝓤 H (Wp 𝓤 H C Λ En (rest₂ big n) (atReturn 𝓤 H En Post)) (atReturn 𝓤 H En Post))))
+      hands₁ =
+          move ! (2 ∷ 3 ∷ []) $ join ! $ move ! (1 ∷ 2 ∷ []) $ join ! $ move ! (1 ∷ 0 ∷ []) $ use2 W (raw (Next 𝓤 H A mem run .pre (to-next))) (goes-next) $
+          calls-at ! (fmOf 𝓤 H (W .laws) 𝓣) (Next 𝓤 H A mem run) known-next (to-next) (and-then ! (load ! (from ! (stop !)) (look ! 19 refl)) (and-then ! (load ! (from ! (stop !)) (look ! 17 refl)) (and-then ! (load ! (from ! (stop !)) (look ! 15 refl)) (and-then ! (load ! (from ! (stop !)) (look ! 13 refl)) (and-then ! (load ! (from ! (stop !)) (look ! 11 refl)) (and-then ! (load ! (from ! (stop !)) (look ! 9 refl)) (no-more !))))))) (λ u.
+          use1 W (Next-next u) (id⊢ 𝓤 _) $ await ! tt $ pick ! (λ r. split ! $ move ! (1 ∷ []) $ use1 W (raw (fact 𝓤 (placed r ≡ partOf hinted (can .now) len (numbers (rec .now)) nodes node))) (told-next r) $ heard ! (placed r ≡ partOf hinted (can .now) len (numbers (rec .now)) nodes node) (λ said. split ! $ move ! (1 ∷ []) $ peeks ! P.the-row (Is P.the-row) (shows 𝓤 H A P.the-row) r (u ∷ []) (λ is. drop ! $
+          land ! (from ! (stop !)) (init ! 21 refl (EL.lawful P.the-type P′.the-laws 𝓤 H A W tt .typed r _ is .0)) $
+          split ! $ move ! (1 ∷ []) $ split ! $ returns-within ! Post refl (look ! 23 refl) $
+          forget ! 23 refl $ forget ! 21 refl $ forget ! 19 refl $ forget ! 17 refl $ forget ! 15 refl $ forget ! 13 refl $ forget ! 11 refl $ forget ! 7 refl $
+          move ! (23 ∷ 24 ∷ []) $ free1 ! $ move ! (21 ∷ 22 ∷ []) $ free1 ! $ move ! (19 ∷ 20 ∷ []) $ free1 ! $ move ! (17 ∷ 18 ∷ []) $ free1 ! $ move ! (15 ∷ 16 ∷ []) $ free1 ! $ move ! (13 ∷ 14 ∷ []) $ free1 ! $ move ! (11 ∷ 12 ∷ []) $ free1 ! $ move ! (9 ∷ 10 ∷ []) $ free1 ! $ move ! (7 ∷ 8 ∷ []) $ free1 ! $ move ! (5 ∷ 6 ∷ []) $ free1 ! $ move ! (3 ∷ 4 ∷ []) $ free1 ! $ free0 ! $ keep ! (2 ∷ 0 ∷ []) $ by ! (exits r u is said)))))
+
+      fills : nodes ≤ most-bound → nodes ≤ bound → Sq W Mid₂ (runs C Λ En (rest₂ big n) (atRet En Post))
+      fills under₀ under₁ =
           assigns ! (rep ! n (lit ! tt)) (from ! (stop !)) (init ! 10 refl (noughts-typed 𝓤 H A W n)) $
           assigns ! (addr ! (from ! (stop !))) (from ! (stop !)) (init ! 6 refl (tt, tt)) $
           assigns ! (agg ! (and-then ! (load ! (from ! (stop !)) (look ! 6 refl)) (and-then ! (number-lit ! big n (n-room .0)) (no-more !)))) (from ! (stop !)) (init ! 4 refl (tt, (tt, (record { fits = n-room .0 }, tt)))) $
@@ -209,7 +231,7 @@ module _ {M : Type 1} (𝓤 : URA M) (H : Heap 𝓤) (A : Atoms 𝓤) (W : Given
           use1 W (later (some (λ (ε : GName). ‵ (MutSlice (named 2) (ν ∷ []) usize .own (at-local l₇ ε (noughts n)) (sliceVal (l₇, 0) (length (noughts n)) ∷ [])) ⊛ ‵ (Stays-with 𝓤 H A W n l₇ (ν ∷ []) ε)))) (lends-row 𝓤 H A W n l₇ (ν ∷ []) n-room (named 2)) $ await ! tt $ pick ! (λ ε. split ! $
           move ! (6 ∷ 2 ∷ []) $ join ! $ move ! (5 ∷ 0 ∷ []) $ join ! $ move ! (4 ∷ 1 ∷ []) $ join ! $ move ! (3 ∷ 0 ∷ []) $ join ! $ move ! (1 ∷ 0 ∷ []) $ use2 W (raw (Core 𝓤 H A mem run .pre (to-core l₇ ν ε))) (goes-core l₇ ν ε wanted) $
           calls-at ! (fmOf 𝓤 H (W .laws) 𝓣) (Core 𝓤 H A mem run) known-core (to-core l₇ ν ε) (and-then ! (load ! (from ! (stop !)) (look ! 19 refl)) (and-then ! (load ! (from ! (stop !)) (look ! 17 refl)) (and-then ! (load ! (from ! (stop !)) (look ! 15 refl)) (and-then ! (load ! (from ! (stop !)) (look ! 13 refl)) (and-then ! (load ! (from ! (stop !)) (look ! 11 refl)) (and-then ! (load ! (from ! (stop !)) (look ! 9 refl)) (and-then ! (load ! (from ! (stop !)) (look ! 2 refl)) (no-more !)))))))) (λ u.
-          use1 W (Next-core l₇ ν ε u) (id⊢ 𝓤 _) $ await ! tt $ pick ! (λ r. split ! $ move ! (1 ∷ []) $ use1 W (Last-core l₇ ν ε r) (id⊢ 𝓤 _) $ pick ! (λ ws-core. split ! $ move ! (1 ∷ []) $ heard ! (placed r ≡ placeOf hinted (can .now) len (numbers (rec .now)) nodes node) (λ said.
+          use1 W (Next-core l₇ ν ε u) (id⊢ 𝓤 _) $ await ! tt $ pick ! (λ r. split ! $ move ! (1 ∷ []) $ use1 W (Last-core l₇ ν ε r) (id⊢ 𝓤 _) $ pick ! (λ ws-core. split ! $ move ! (1 ∷ []) $ heard ! (placed r ≡ partOf hinted (can .now) len (numbers (rec .now)) nodes node) (λ said.
           fsplit ! $ move ! (1 ∷ []) $ fsplit ! $ move ! (1 ∷ []) $ fsplit ! $ move ! (1 ∷ []) $ fsplit ! $ move ! (1 ∷ []) $ fsplit ! $ move ! (1 ∷ []) $ fsplit ! $ move ! (1 ∷ []) $ fsplit ! $ fsplit ! $ move ! (1 ∷ []) $ feqL ! (λ row-len. move ! (8 ∷ []) $ split ! $ move ! (1 ∷ []) $ peeks ! P.the-row (Is P.the-row) (shows 𝓤 H A P.the-row) r (u ∷ []) (λ is. drop ! $
           land ! (from ! (stop !)) (init ! 29 refl (EL.lawful P.the-type P′.the-laws 𝓤 H A W tt .typed r _ is .0)) $
           split ! $ move ! (1 ∷ []) $ split ! $ move ! (1 ∷ []) $ split ! $ lft-end ! tt $ move ! (0 ∷ 12 ∷ 4 ∷ []) $ use3 W (later (some (λ (v : Val). ‵ (fat fullShare (arrayTy n) l₇ 0 v)))) (row-dies 𝓤 H A W n l₇ (ν ∷ []) ε (ws-core .1 .1 .1 .1 .1 .1 .0)) $ await ! tt $ pick ! (λ v.
@@ -218,27 +240,33 @@ module _ {M : Type 1} (𝓤 : URA M) (H : Heap 𝓤) (A : Atoms 𝓤) (W : Given
           move ! (30 ∷ 31 ∷ []) $ free1 ! $ move ! (28 ∷ 29 ∷ []) $ free1 ! $ move ! (26 ∷ 27 ∷ []) $ free1 ! $ move ! (24 ∷ 25 ∷ []) $ free1 ! $ move ! (22 ∷ 23 ∷ []) $ free1 ! $ move ! (20 ∷ 21 ∷ []) $ free1 ! $ move ! (18 ∷ 19 ∷ []) $ free1 ! $ move ! (0 ∷ 17 ∷ []) $ free1 ! $ move ! (14 ∷ 15 ∷ []) $ free1 ! $ move ! (12 ∷ 13 ∷ []) $ free1 ! $ move ! (10 ∷ 11 ∷ []) $ free1 ! $ free0 ! $ keep ! (2 ∷ 1 ∷ []) $ by ! (exits r u is said))))))))))
         where
           wanted : Notes nodes (length (noughts n))
-          wanted = subst (λ (m : ℕ). Notes nodes m) (sym (length-noughts n)) (enough nodes under₀)
+          wanted = subst (λ (m : ℕ). Notes nodes m) (sym (length-noughts n)) (enough nodes under₁)
 
-      picks₀ : Sq W Mid₀ (runs C Λ En (rest₀ big large n bound next) (atRet En Post))
-      picks₀ =
+      picks₁ : nodes ≤ most-bound → Sq W Mid₁ (runs C Λ En (rest₁ big huge large n most-bound bound next) (atRet En Post))
+      picks₁ under₀ =
+          forget ! 8 refl $
           assigns ! (bin ! (number-lit ! large bound bound-fits) (load ! (from ! (stop !)) (look ! 16 refl)) tt) (from ! (stop !)) (init ! 8 refl (tt, tt)) $
-          first ! $ branches ! (load ! (from ! (stop !)) (look ! 8 refl)) (λ _. hands₀) (λ no. skips ! $ exec ! C Λ En (rest₁ big n) (atRet En Post) $ fills (nltb→le bound nodes no))
+          first ! $ branches ! (load ! (from ! (stop !)) (look ! 8 refl)) (λ _. hands₁) (λ no. skips ! $ exec ! C Λ En (rest₂ big n) (atRet En Post) $ fills under₀ (nltb→le bound nodes no))
 
-    walk : ent 𝓤 (onEntry 𝓤 H A entry.signature κs (q₀, (q₁, tt)) a vals) (WpFn 𝓤 H C Λ (function big large n bound next) (s-can ∷ (vint w64 len) ∷ s-rec ∷ (vint w64 nodes) ∷ (vint w64 node) ∷ (vbool hinted) ∷ []) Post)
+      picks₀ : Sq W Mid₀ (runs C Λ En (rest₀ big huge large n most-bound bound next) (atRet En Post))
+      picks₀ =
+          assigns ! (bin ! (number-lit ! huge most-bound most-bound-fits) (load ! (from ! (stop !)) (look ! 16 refl)) tt) (from ! (stop !)) (init ! 8 refl (tt, tt)) $
+          first ! $ branches ! (load ! (from ! (stop !)) (look ! 8 refl)) (λ _. hands₀) (λ no. skips ! $ exec ! C Λ En (rest₁ big huge large n most-bound bound next) (atRet En Post) $ picks₁ (nltb→le most-bound nodes no))
+
+    walk : ent 𝓤 (onEntry 𝓤 H A entry.signature κs (q₀, (q₁, tt)) a vals) (WpFn 𝓤 H C Λ (function big huge large n most-bound bound next) (s-can ∷ (vint w64 len) ∷ s-rec ∷ (vint w64 nodes) ∷ (vint w64 node) ∷ (vbool hinted) ∷ []) Post)
     walk =
-        qed W ((‵ (flft κ₀ q₀) ⊛ ‵ (flft κ₁ q₁) ⊛ ‵ ftrue) ∷ ‵ (owns (ShrSlice (named 0) κ₀ u8 ∷ usize ∷ ShrSlice (named 1) κ₁ T.the-row ∷ usize ∷ usize ∷ bool ∷ []) a vals) ∷ []) ∵ enter ! C Λ (function big large n bound next) (s-can ∷ (vint w64 len) ∷ s-rec ∷ (vint w64 nodes) ∷ (vint w64 node) ∷ (vbool hinted) ∷ []) _ $
+        qed W ((‵ (flft κ₀ q₀) ⊛ ‵ (flft κ₁ q₁) ⊛ ‵ ftrue) ∷ ‵ (owns (ShrSlice (named 0) κ₀ u8 ∷ usize ∷ ShrSlice (named 1) κ₁ T.the-row ∷ usize ∷ usize ∷ bool ∷ []) a vals) ∷ []) ∵ enter ! C Λ (function big huge large n most-bound bound next) (s-can ∷ (vint w64 len) ∷ s-rec ∷ (vint w64 nodes) ∷ (vint w64 node) ∷ (vbool hinted) ∷ []) _ $
         alloc1 ! (λ l₀. alloc1 ! (λ l₁. alloc1 ! (λ l₂. alloc1 ! (λ l₃. alloc1 ! (λ l₄. alloc1 ! (λ l₅. alloc1 ! (λ l₆. alloc1 ! (λ l₇. alloc1 ! (λ l₈. alloc1 ! (λ l₉. alloc1 ! (λ l₁₀. alloc0 ! $ params1 ! $ pass1 ! (init ! 18 refl (tt, (tt, (record { fits = can-room .0 }, tt)))) $ pass1 ! (init ! 16 refl (tt, record { fits = len-fits })) $ pass1 ! (init ! 14 refl (tt, (tt, (record { fits = rec-room .0 }, tt)))) $ pass1 ! (init ! 12 refl (tt, record { fits = nodes-fits })) $ pass1 ! (init ! 10 refl (tt, record { fits = node-fits })) $ pass1 ! (init ! 8 refl (tt, tt)) $ pass0 ! $
         move ! (23 ∷ []) $ fsplit ! $ move ! (1 ∷ []) $ fsplit ! $ move ! (1 ∷ []) $ fsplit ! $ move ! (26 ∷ []) $ split ! $ move ! (1 ∷ []) $ split ! $ keep ! (6 ∷ 3 ∷ 2 ∷ 0 ∷ 7 ∷ 8 ∷ 9 ∷ 10 ∷ 11 ∷ 12 ∷ 13 ∷ 14 ∷ 15 ∷ 16 ∷ 17 ∷ 18 ∷ 19 ∷ 20 ∷ 21 ∷ 22 ∷ 23 ∷ 24 ∷ 25 ∷ 26 ∷ 27 ∷ 28 ∷ []) $ picks₀ l₀ l₁ l₂ l₃ l₄ l₅ l₆ l₇ l₈ l₉ l₁₀)))))))))))
 
-module _ {M : Type 1} (𝓤 : URA M) (H : Heap 𝓤) (A : Atoms 𝓤) (W : Given 𝓤 H A) (mem : Memory → SProp 𝓤) (run : Routine → Fun 𝓤) (big large : Bool) (n bound : ℕ) (next : Name) (n-room : Room usize n) (bound-fits : bound < 2 ^ 64) (enough : (m : ℕ) → m ≤ bound → Notes m n) (𝓣 : Tables 𝓤 H)
+module _ {M : Type 1} (𝓤 : URA M) (H : Heap 𝓤) (A : Atoms 𝓤) (W : Given 𝓤 H A) (mem : Memory → SProp 𝓤) (run : Routine → Fun 𝓤) (big huge large : Bool) (n most-bound bound : ℕ) (next : Name) (n-room : Room usize n) (most-bound-fits : most-bound < 2 ^ 64) (bound-fits : bound < 2 ^ 64) (enough : (m : ℕ) → m ≤ bound → Notes m n) (𝓣 : Tables 𝓤 H)
     (known-core : Triple 𝓤 (𝓣 .C #core) (Core 𝓤 H A mem run)) (known-next : Triple 𝓤 (𝓣 .C next) (Next 𝓤 H A mem run)) where
-  walks : Walks 𝓤 H A entry.ended stayed (WpFn 𝓤 H (𝓣 .C) (𝓣 .Λ) (function big large n bound next)) (entry.clauses 𝓤 H A mem run)
-  walks = walked 𝓤 H A entry.ended stayed (entry.clauses 𝓤 H A mem run) (WpFn 𝓤 H (𝓣 .C) (𝓣 .Λ) (function big large n bound next))
+  walks : Walks 𝓤 H A entry.ended stayed (WpFn 𝓤 H (𝓣 .C) (𝓣 .Λ) (function big huge large n most-bound bound next)) (entry.clauses 𝓤 H A mem run)
+  walks = walked 𝓤 H A entry.ended stayed (entry.clauses 𝓤 H A mem run) (WpFn 𝓤 H (𝓣 .C) (𝓣 .Λ) (function big huge large n most-bound bound next))
       (λ κs. (slice-vals, (uint-vals w64, (slice-vals, (uint-vals w64, (uint-vals w64, (bool-vals, tt))))))) (λ κs. (shr-slice-tells (named 0) (κs .0) u8, (uint-tells w64, (shr-slice-tells (named 1) (κs .1 .0) T.the-row, (uint-tells w64, (uint-tells w64, (bool-tells, tt)))))))
-      (λ κs qs bounds a g are. via 𝓤 _ (fst∗ 𝓤 _ (emp 𝓤)) (walk 𝓤 H A W mem run big large n bound next n-room bound-fits enough (κs .0) (κs .1 .0) (qs .0) (qs .1 .0) (a .0) (a .1 .0) (a .1 .1 .0) (a .1 .1 .1 .0) (a .1 .1 .1 .1 .0) (a .1 .1 .1 .1 .1 .0) (are .0 .0 .1) (are .1 .0 .1) (are .1 .1 .0 .0 .1) (are .1 .1 .1 .0 .1) (are .1 .1 .1 .1 .0 .1) 𝓣 known-core known-next))
+      (λ κs qs bounds a g are. via 𝓤 _ (fst∗ 𝓤 _ (emp 𝓤)) (walk 𝓤 H A W mem run big huge large n most-bound bound next n-room most-bound-fits bound-fits enough (κs .0) (κs .1 .0) (qs .0) (qs .1 .0) (a .0) (a .1 .0) (a .1 .1 .0) (a .1 .1 .1 .0) (a .1 .1 .1 .1 .0) (a .1 .1 .1 .1 .1 .0) (are .0 .0 .1) (are .1 .0 .1) (are .1 .1 .0 .0 .1) (are .1 .1 .1 .0 .1) (are .1 .1 .1 .1 .0 .1) 𝓣 known-core known-next))
 
-  pub meets : Meets 𝓤 H A entry.signature (WpFn 𝓤 H (𝓣 .C) (𝓣 .Λ) (function big large n bound next)) (entry.spec 𝓤 H A mem run)
+  pub meets : Meets 𝓤 H A entry.signature (WpFn 𝓤 H (𝓣 .C) (𝓣 .Λ) (function big huge large n most-bound bound next)) (entry.spec 𝓤 H A mem run)
   meets =
       walk-meets 𝓤 H A entry.ended stayed W (goes-dropped 𝓤 H A W 2 (shrSliceOf (0 ∷ []) tt (plain (λ _. u8))) yes (λ κs x f. refl), (goes-dropped 𝓤 H A W 2 (plain (λ _. usize)) yes (λ κs x f. refl), (goes-dropped 𝓤 H A W 2 (shrSliceOf (1 ∷ []) tt (plain (λ _. T.the-row))) yes (λ κs x f. refl), (goes-dropped 𝓤 H A W 2 (plain (λ _. usize)) yes (λ κs x f. refl), (goes-dropped 𝓤 H A W 2 (plain (λ _. usize)) yes (λ κs x f. refl), (goes-dropped 𝓤 H A W 2 (plain (λ _. bool)) yes (λ κs x f. refl), tt))))))
-      (entry.clauses 𝓤 H A mem run) (WpFn 𝓤 H (𝓣 .C) (𝓣 .Λ) (function big large n bound next)) (WpFn-mono 𝓤 H (W .laws) 𝓣 (function big large n bound next)) walks
+      (entry.clauses 𝓤 H A mem run) (WpFn 𝓤 H (𝓣 .C) (𝓣 .Λ) (function big huge large n most-bound bound next)) (WpFn-mono 𝓤 H (W .laws) 𝓣 (function big huge large n most-bound bound next)) walks

@@ -28,7 +28,7 @@ use Rattle.answers.specs.Cases.{placed}
 use Rattle.answers.specs.declared.Place.{Place}
 use Rattle.answers.proofs.Place as P
 use Rattle.records.specs.declared.Record.{Record}
-use Rattle.records.specs.Numbers.{numbers, placeOf}
+use Rattle.records.specs.Numbers.{numbers, partOf}
 use Rattle.records.proofs.Record as T
 use Rattle.records.proofs.place as place
 
@@ -59,7 +59,7 @@ module _ {M : Type 1} (𝓤 : URA M) (H : Heap 𝓤) (A : Atoms 𝓤) (W : Given
         nothing ! $ owned ! bool (Is bool) (bool-makes 𝓤 H A W) hinted _ refl $ fjoin ! $ owned ! usize (Is usize) (uint-makes 𝓤 H A W w64) node _ (refl, node-fits) $ fjoin ! $ owned ! usize (Is usize) (uint-makes 𝓤 H A W w64) nodes _ (refl, nodes-fits) $ fjoin ! $ move ! (2 ∷ 0 ∷ []) $ fjoin ! $ owned ! usize (Is usize) (uint-makes 𝓤 H A W w64) len _ (refl, len-fits) $ fjoin ! $ move ! (1 ∷ 0 ∷ []) $ fjoin ! $ move ! (1 ∷ 0 ∷ []) $ join ! $ frame ! $ done !
 
     abbrev pub Placed : Place → Type 0
-    Placed p = placed p ≡ placeOf hinted (can .now) len (numbers (rec .now)) nodes node
+    Placed p = placed p ≡ partOf hinted (can .now) len (numbers (rec .now)) nodes node
 
     -- what `place` leaves: the tokens, a place, and what is said of it
     abbrev pub Left : Val → Item 𝓤

@@ -78,26 +78,32 @@ module _ {M : Type 1} (𝓤 : URA M) (H : Heap 𝓤) (A : Atoms 𝓤) (mem : Mem
   abbrev pub Next : Contract 𝓤
   Next = tripleOf 𝓤 H A entry.signature (entry.spec 𝓤 H A mem run)
 
--- the rest of the body after 1 tests, and what a test that holds leads to
-abbrev rest₁ : Bool → ℕ → Body
-rest₁ big n = seq (assign (place 5 []) (repeat (int w64 0) n)) (seq (assign (place 12 []) (addrOf (place 3 (field 0 ∷ deref (tyInt w8) ∷ [])))) (seq (assign (place 13 []) (aggregate (copy (place 12 []) ∷ copy (place 3 (field 1 ∷ [])) ∷ []))) (seq (assign (place 14 []) (addrOf (place 4 (field 0 ∷ deref (T′.mir) ∷ [])))) (seq (assign (place 15 []) (aggregate (copy (place 14 []) ∷ copy (place 4 (field 1 ∷ [])) ∷ []))) (seq (assign (place 16 []) (addrOf (place 5 []))) (seq (assign (place 17 []) (aggregate (copy (place 16 []) ∷ number big n ∷ []))) (seq (call #core (copy (place 1 []) ∷ copy (place 2 []) ∷ copy (place 13 []) ∷ copy (place 15 []) ∷ copy (place 17 []) ∷ []) (place 0 [])) (return))))))))
+-- the rest of the body after 2 tests, and what a test that holds leads to
+abbrev rest₂ : Bool → ℕ → Body
+rest₂ big n = seq (assign (place 5 []) (repeat (int w64 0) n)) (seq (assign (place 16 []) (addrOf (place 3 (field 0 ∷ deref (tyInt w8) ∷ [])))) (seq (assign (place 17 []) (aggregate (copy (place 16 []) ∷ copy (place 3 (field 1 ∷ [])) ∷ []))) (seq (assign (place 18 []) (addrOf (place 4 (field 0 ∷ deref (T′.mir) ∷ [])))) (seq (assign (place 19 []) (aggregate (copy (place 18 []) ∷ copy (place 4 (field 1 ∷ [])) ∷ []))) (seq (assign (place 20 []) (addrOf (place 5 []))) (seq (assign (place 21 []) (aggregate (copy (place 20 []) ∷ number big n ∷ []))) (seq (call #core (copy (place 1 []) ∷ copy (place 2 []) ∷ copy (place 17 []) ∷ copy (place 19 []) ∷ copy (place 21 []) ∷ []) (place 0 [])) (return))))))))
+
+abbrev hand₁ : Name → Body
+hand₁ next = seq (assign (place 12 []) (addrOf (place 3 (field 0 ∷ deref (tyInt w8) ∷ [])))) (seq (assign (place 13 []) (aggregate (copy (place 12 []) ∷ copy (place 3 (field 1 ∷ [])) ∷ []))) (seq (assign (place 14 []) (addrOf (place 4 (field 0 ∷ deref (T′.mir) ∷ [])))) (seq (assign (place 15 []) (aggregate (copy (place 14 []) ∷ copy (place 4 (field 1 ∷ [])) ∷ []))) (seq (call next (copy (place 1 []) ∷ copy (place 2 []) ∷ copy (place 13 []) ∷ copy (place 15 []) ∷ []) (place 0 [])) (return)))))
+
+abbrev rest₁ : Bool → Bool → Bool → ℕ → ℕ → ℕ → Name → Body
+rest₁ big huge large n most-bound bound next = seq (assign (place 6 []) (rvOpd (copy (place 2 (field 1 ∷ []))))) (seq (assign (place 7 []) (op2 (lt unsigned) (number large bound) (copy (place 6 [])))) (seq (cond (copy (place 7 [])) (hand₁ next) skip) (rest₂ big n)))
 
 abbrev hand₀ : Name → Body
 hand₀ next = seq (assign (place 8 []) (addrOf (place 3 (field 0 ∷ deref (tyInt w8) ∷ [])))) (seq (assign (place 9 []) (aggregate (copy (place 8 []) ∷ copy (place 3 (field 1 ∷ [])) ∷ []))) (seq (assign (place 10 []) (addrOf (place 4 (field 0 ∷ deref (T′.mir) ∷ [])))) (seq (assign (place 11 []) (aggregate (copy (place 10 []) ∷ copy (place 4 (field 1 ∷ [])) ∷ []))) (seq (call next (copy (place 1 []) ∷ copy (place 2 []) ∷ copy (place 9 []) ∷ copy (place 11 []) ∷ []) (place 0 [])) (return)))))
 
-abbrev rest₀ : Bool → Bool → ℕ → ℕ → Name → Body
-rest₀ big large n bound next = seq (assign (place 6 []) (rvOpd (copy (place 2 (field 1 ∷ []))))) (seq (assign (place 7 []) (op2 (lt unsigned) (number large bound) (copy (place 6 [])))) (seq (cond (copy (place 7 [])) (hand₀ next) skip) (rest₁ big n)))
+abbrev rest₀ : Bool → Bool → Bool → ℕ → ℕ → ℕ → Name → Body
+rest₀ big huge large n most-bound bound next = seq (assign (place 6 []) (rvOpd (copy (place 2 (field 1 ∷ []))))) (seq (assign (place 7 []) (op2 (lt unsigned) (number huge most-bound) (copy (place 6 [])))) (seq (cond (copy (place 7 [])) (hand₀ next) skip) (rest₁ big huge large n most-bound bound next)))
 
-abbrev pub function : Bool → Bool → ℕ → ℕ → Name → Fn
-function big large n bound next = record {
+abbrev pub function : Bool → Bool → Bool → ℕ → ℕ → ℕ → Name → Fn
+function big huge large n most-bound bound next = record {
   lifetimes = 3;
   outlives = [];
   params = 4;
-  locals = local answerTy valueLocal ∷ local (tyInt w32) valueLocal ∷ local (bytes (named 0) imm) valueLocal ∷ local (bytes (named 1) mut) valueLocal ∷ local (recs (named 2) mut) valueLocal ∷ local (arrayTy n) memorySlot ∷ local word valueLocal ∷ local tyBool valueLocal ∷ local (toByte erased mut) valueLocal ∷ local (bytes erased mut) valueLocal ∷ local (toRecord erased mut) valueLocal ∷ local (recs erased mut) valueLocal ∷ local (toByte erased mut) valueLocal ∷ local (bytes erased mut) valueLocal ∷ local (toRecord erased mut) valueLocal ∷ local (recs erased mut) valueLocal ∷ local (tyRef erased mut (arrayTy n)) valueLocal ∷ local (notesBy erased mut) valueLocal ∷ [];
-  body = rest₀ big large n bound next;
+  locals = local answerTy valueLocal ∷ local (tyInt w32) valueLocal ∷ local (bytes (named 0) imm) valueLocal ∷ local (bytes (named 1) mut) valueLocal ∷ local (recs (named 2) mut) valueLocal ∷ local (arrayTy n) memorySlot ∷ local word valueLocal ∷ local tyBool valueLocal ∷ local (toByte erased mut) valueLocal ∷ local (bytes erased mut) valueLocal ∷ local (toRecord erased mut) valueLocal ∷ local (recs erased mut) valueLocal ∷ local (toByte erased mut) valueLocal ∷ local (bytes erased mut) valueLocal ∷ local (toRecord erased mut) valueLocal ∷ local (recs erased mut) valueLocal ∷ local (toByte erased mut) valueLocal ∷ local (bytes erased mut) valueLocal ∷ local (toRecord erased mut) valueLocal ∷ local (recs erased mut) valueLocal ∷ local (tyRef erased mut (arrayTy n)) valueLocal ∷ local (notesBy erased mut) valueLocal ∷ [];
+  body = rest₀ big huge large n most-bound bound next;
 }
 
-module _ {M : Type 1} (𝓤 : URA M) (H : Heap 𝓤) (A : Atoms 𝓤) (W : Given 𝓤 H A) (mem : Memory → SProp 𝓤) (run : Routine → Fun 𝓤) (big large : Bool) (n bound : ℕ) (next : Name) (n-room : Room usize n) (bound-fits : bound < 2 ^ 64) (enough : (m : ℕ) → m ≤ bound → Noteable m n) (κ₀ κ₁ κ₂ : Lft) (q₀ q₁ q₂ : Share) (form : ℕ) (src : RefT (List ℕ)) (can : RefT (List ℕ)) (rec : RefT (List Record)) (form-fits : form < 2 ^ 32) (src-room : Room u8 (length (src .now))) (can-room : Room u8 (length (can .now))) (rec-room : Room T.the-row (length (rec .now))) where
+module _ {M : Type 1} (𝓤 : URA M) (H : Heap 𝓤) (A : Atoms 𝓤) (W : Given 𝓤 H A) (mem : Memory → SProp 𝓤) (run : Routine → Fun 𝓤) (big huge large : Bool) (n most-bound bound : ℕ) (next : Name) (n-room : Room usize n) (most-bound-fits : most-bound < 2 ^ 64) (bound-fits : bound < 2 ^ 64) (enough : (m : ℕ) → m ≤ bound → Noteable m n) (κ₀ κ₁ κ₂ : Lft) (q₀ q₁ q₂ : Share) (form : ℕ) (src : RefT (List ℕ)) (can : RefT (List ℕ)) (rec : RefT (List Record)) (form-fits : form < 2 ^ 32) (src-room : Room u8 (length (src .now))) (can-room : Room u8 (length (can .now))) (rec-room : Room T.the-row (length (rec .now))) where
   abbrev κs : Lfts 3
   κs = (κ₀, (κ₁, (κ₂, tt)))
 
@@ -184,79 +190,107 @@ module _ {M : Type 1} (𝓤 : URA M) (H : Heap 𝓤) (A : Atoms 𝓤) (W : Given
     abbrev Λ : Loops 𝓤 H
     Λ = 𝓣 .Λ
 
-    module _ (l₀ l₁ l₂ l₃ l₄ l₅ l₆ l₇ l₈ l₉ l₁₀ l₁₁ l₁₂ l₁₃ l₁₄ l₁₅ l₁₆ l₁₇ : ℕ) where
+    module _ (l₀ l₁ l₂ l₃ l₄ l₅ l₆ l₇ l₈ l₉ l₁₀ l₁₁ l₁₂ l₁₃ l₁₄ l₁₅ l₁₆ l₁₇ l₁₈ l₁₉ l₂₀ l₂₁ : ℕ) where
       abbrev En : Env 𝓤 H
-      En = (answerTy, l₀) ∷ ((tyInt w32), l₁) ∷ ((bytes (named 0) imm), l₂) ∷ ((bytes (named 1) mut), l₃) ∷ ((recs (named 2) mut), l₄) ∷ ((arrayTy n), l₅) ∷ (word, l₆) ∷ (tyBool, l₇) ∷ ((toByte erased mut), l₈) ∷ ((bytes erased mut), l₉) ∷ ((toRecord erased mut), l₁₀) ∷ ((recs erased mut), l₁₁) ∷ ((toByte erased mut), l₁₂) ∷ ((bytes erased mut), l₁₃) ∷ ((toRecord erased mut), l₁₄) ∷ ((recs erased mut), l₁₅) ∷ ((tyRef erased mut (arrayTy n)), l₁₆) ∷ ((notesBy erased mut), l₁₇) ∷ []
+      En = (answerTy, l₀) ∷ ((tyInt w32), l₁) ∷ ((bytes (named 0) imm), l₂) ∷ ((bytes (named 1) mut), l₃) ∷ ((recs (named 2) mut), l₄) ∷ ((arrayTy n), l₅) ∷ (word, l₆) ∷ (tyBool, l₇) ∷ ((toByte erased mut), l₈) ∷ ((bytes erased mut), l₉) ∷ ((toRecord erased mut), l₁₀) ∷ ((recs erased mut), l₁₁) ∷ ((toByte erased mut), l₁₂) ∷ ((bytes erased mut), l₁₃) ∷ ((toRecord erased mut), l₁₄) ∷ ((recs erased mut), l₁₅) ∷ ((toByte erased mut), l₁₆) ∷ ((bytes erased mut), l₁₇) ∷ ((toRecord erased mut), l₁₈) ∷ ((recs erased mut), l₁₉) ∷ ((tyRef erased mut (arrayTy n)), l₂₀) ∷ ((notesBy erased mut), l₂₁) ∷ []
 
       -- the locals, the last first, each beside that it dies; before them, what is had of the parameters, and the tokens
       abbrev Mid₀ : List (Item 𝓤)
-      Mid₀ = ‵ (R-src) ∷ ‵ (R-can) ∷ ‵ (R-rec) ∷ ‵ (flft κ₀ q₀) ∷ ‵ (flft κ₁ q₁) ∷ ‵ (flft κ₂ q₂) ∷ ‵ (froom (notesBy erased mut) l₁₇ 0) ∷ ‵ (fdies (notesBy erased mut) l₁₇) ∷ ‵ (froom (tyRef erased mut (arrayTy n)) l₁₆ 0) ∷ ‵ (fdies (tyRef erased mut (arrayTy n)) l₁₆) ∷ ‵ (froom (recs erased mut) l₁₅ 0) ∷ ‵ (fdies (recs erased mut) l₁₅) ∷ ‵ (froom (toRecord erased mut) l₁₄ 0) ∷ ‵ (fdies (toRecord erased mut) l₁₄) ∷ ‵ (froom (bytes erased mut) l₁₃ 0) ∷ ‵ (fdies (bytes erased mut) l₁₃) ∷ ‵ (froom (toByte erased mut) l₁₂ 0) ∷ ‵ (fdies (toByte erased mut) l₁₂) ∷ ‵ (froom (recs erased mut) l₁₁ 0) ∷ ‵ (fdies (recs erased mut) l₁₁) ∷ ‵ (froom (toRecord erased mut) l₁₀ 0) ∷ ‵ (fdies (toRecord erased mut) l₁₀) ∷ ‵ (froom (bytes erased mut) l₉ 0) ∷ ‵ (fdies (bytes erased mut) l₉) ∷ ‵ (froom (toByte erased mut) l₈ 0) ∷ ‵ (fdies (toByte erased mut) l₈) ∷ ‵ (froom tyBool l₇ 0) ∷ ‵ (fdies tyBool l₇) ∷ ‵ (froom word l₆ 0) ∷ ‵ (fdies word l₆) ∷ ‵ (froom (arrayTy n) l₅ 0) ∷ ‵ (fdies (arrayTy n) l₅) ∷ ‵ (fat fullShare (recs (named 2) mut) l₄ 0 s-rec) ∷ ‵ (fdies (recs (named 2) mut) l₄) ∷ ‵ (fat fullShare (bytes (named 1) mut) l₃ 0 s-can) ∷ ‵ (fdies (bytes (named 1) mut) l₃) ∷ ‵ (fat fullShare (bytes (named 0) imm) l₂ 0 s-src) ∷ ‵ (fdies (bytes (named 0) imm) l₂) ∷ ‵ (fat fullShare (tyInt w32) l₁ 0 (vint w32 form)) ∷ ‵ (fdies (tyInt w32) l₁) ∷ ‵ (froom answerTy l₀ 0) ∷ ‵ (fdies answerTy l₀) ∷ []
+      Mid₀ = ‵ (R-src) ∷ ‵ (R-can) ∷ ‵ (R-rec) ∷ ‵ (flft κ₀ q₀) ∷ ‵ (flft κ₁ q₁) ∷ ‵ (flft κ₂ q₂) ∷ ‵ (froom (notesBy erased mut) l₂₁ 0) ∷ ‵ (fdies (notesBy erased mut) l₂₁) ∷ ‵ (froom (tyRef erased mut (arrayTy n)) l₂₀ 0) ∷ ‵ (fdies (tyRef erased mut (arrayTy n)) l₂₀) ∷ ‵ (froom (recs erased mut) l₁₉ 0) ∷ ‵ (fdies (recs erased mut) l₁₉) ∷ ‵ (froom (toRecord erased mut) l₁₈ 0) ∷ ‵ (fdies (toRecord erased mut) l₁₈) ∷ ‵ (froom (bytes erased mut) l₁₇ 0) ∷ ‵ (fdies (bytes erased mut) l₁₇) ∷ ‵ (froom (toByte erased mut) l₁₆ 0) ∷ ‵ (fdies (toByte erased mut) l₁₆) ∷ ‵ (froom (recs erased mut) l₁₅ 0) ∷ ‵ (fdies (recs erased mut) l₁₅) ∷ ‵ (froom (toRecord erased mut) l₁₄ 0) ∷ ‵ (fdies (toRecord erased mut) l₁₄) ∷ ‵ (froom (bytes erased mut) l₁₃ 0) ∷ ‵ (fdies (bytes erased mut) l₁₃) ∷ ‵ (froom (toByte erased mut) l₁₂ 0) ∷ ‵ (fdies (toByte erased mut) l₁₂) ∷ ‵ (froom (recs erased mut) l₁₁ 0) ∷ ‵ (fdies (recs erased mut) l₁₁) ∷ ‵ (froom (toRecord erased mut) l₁₀ 0) ∷ ‵ (fdies (toRecord erased mut) l₁₀) ∷ ‵ (froom (bytes erased mut) l₉ 0) ∷ ‵ (fdies (bytes erased mut) l₉) ∷ ‵ (froom (toByte erased mut) l₈ 0) ∷ ‵ (fdies (toByte erased mut) l₈) ∷ ‵ (froom tyBool l₇ 0) ∷ ‵ (fdies tyBool l₇) ∷ ‵ (froom word l₆ 0) ∷ ‵ (fdies word l₆) ∷ ‵ (froom (arrayTy n) l₅ 0) ∷ ‵ (fdies (arrayTy n) l₅) ∷ ‵ (fat fullShare (recs (named 2) mut) l₄ 0 s-rec) ∷ ‵ (fdies (recs (named 2) mut) l₄) ∷ ‵ (fat fullShare (bytes (named 1) mut) l₃ 0 s-can) ∷ ‵ (fdies (bytes (named 1) mut) l₃) ∷ ‵ (fat fullShare (bytes (named 0) imm) l₂ 0 s-src) ∷ ‵ (fdies (bytes (named 0) imm) l₂) ∷ ‵ (fat fullShare (tyInt w32) l₁ 0 (vint w32 form)) ∷ ‵ (fdies (tyInt w32) l₁) ∷ ‵ (froom answerTy l₀ 0) ∷ ‵ (fdies answerTy l₀) ∷ []
 
       abbrev Held₀ : List (Item 𝓤)
-      Held₀ = ‵ (R-src) ∷ ‵ (R-can) ∷ ‵ (R-rec) ∷ ‵ (flft κ₀ q₀) ∷ ‵ (flft κ₁ q₁) ∷ ‵ (flft κ₂ q₂) ∷ ‵ (froom (notesBy erased mut) l₁₇ 0) ∷ ‵ (fdies (notesBy erased mut) l₁₇) ∷ ‵ (froom (tyRef erased mut (arrayTy n)) l₁₆ 0) ∷ ‵ (fdies (tyRef erased mut (arrayTy n)) l₁₆) ∷ ‵ (froom (recs erased mut) l₁₅ 0) ∷ ‵ (fdies (recs erased mut) l₁₅) ∷ ‵ (froom (toRecord erased mut) l₁₄ 0) ∷ ‵ (fdies (toRecord erased mut) l₁₄) ∷ ‵ (froom (bytes erased mut) l₁₃ 0) ∷ ‵ (fdies (bytes erased mut) l₁₃) ∷ ‵ (froom (toByte erased mut) l₁₂ 0) ∷ ‵ (fdies (toByte erased mut) l₁₂) ∷ ‵ (froom (recs erased mut) l₁₁ 0) ∷ ‵ (fdies (recs erased mut) l₁₁) ∷ ‵ (froom (toRecord erased mut) l₁₀ 0) ∷ ‵ (fdies (toRecord erased mut) l₁₀) ∷ ‵ (froom (bytes erased mut) l₉ 0) ∷ ‵ (fdies (bytes erased mut) l₉) ∷ ‵ (froom (toByte erased mut) l₈ 0) ∷ ‵ (fdies (toByte erased mut) l₈) ∷ ‵ (fat fullShare tyBool l₇ 0 (vbool (ltb bound (length (src .now))))) ∷ ‵ (fdies tyBool l₇) ∷ ‵ (fat fullShare word l₆ 0 (vint w64 (length (src .now)))) ∷ ‵ (fdies word l₆) ∷ ‵ (froom (arrayTy n) l₅ 0) ∷ ‵ (fdies (arrayTy n) l₅) ∷ ‵ (fat fullShare (recs (named 2) mut) l₄ 0 s-rec) ∷ ‵ (fdies (recs (named 2) mut) l₄) ∷ ‵ (fat fullShare (bytes (named 1) mut) l₃ 0 s-can) ∷ ‵ (fdies (bytes (named 1) mut) l₃) ∷ ‵ (fat fullShare (bytes (named 0) imm) l₂ 0 s-src) ∷ ‵ (fdies (bytes (named 0) imm) l₂) ∷ ‵ (fat fullShare (tyInt w32) l₁ 0 (vint w32 form)) ∷ ‵ (fdies (tyInt w32) l₁) ∷ ‵ (froom answerTy l₀ 0) ∷ ‵ (fdies answerTy l₀) ∷ []
+      Held₀ = ‵ (R-src) ∷ ‵ (R-can) ∷ ‵ (R-rec) ∷ ‵ (flft κ₀ q₀) ∷ ‵ (flft κ₁ q₁) ∷ ‵ (flft κ₂ q₂) ∷ ‵ (froom (notesBy erased mut) l₂₁ 0) ∷ ‵ (fdies (notesBy erased mut) l₂₁) ∷ ‵ (froom (tyRef erased mut (arrayTy n)) l₂₀ 0) ∷ ‵ (fdies (tyRef erased mut (arrayTy n)) l₂₀) ∷ ‵ (froom (recs erased mut) l₁₉ 0) ∷ ‵ (fdies (recs erased mut) l₁₉) ∷ ‵ (froom (toRecord erased mut) l₁₈ 0) ∷ ‵ (fdies (toRecord erased mut) l₁₈) ∷ ‵ (froom (bytes erased mut) l₁₇ 0) ∷ ‵ (fdies (bytes erased mut) l₁₇) ∷ ‵ (froom (toByte erased mut) l₁₆ 0) ∷ ‵ (fdies (toByte erased mut) l₁₆) ∷ ‵ (froom (recs erased mut) l₁₅ 0) ∷ ‵ (fdies (recs erased mut) l₁₅) ∷ ‵ (froom (toRecord erased mut) l₁₄ 0) ∷ ‵ (fdies (toRecord erased mut) l₁₄) ∷ ‵ (froom (bytes erased mut) l₁₃ 0) ∷ ‵ (fdies (bytes erased mut) l₁₃) ∷ ‵ (froom (toByte erased mut) l₁₂ 0) ∷ ‵ (fdies (toByte erased mut) l₁₂) ∷ ‵ (froom (recs erased mut) l₁₁ 0) ∷ ‵ (fdies (recs erased mut) l₁₁) ∷ ‵ (froom (toRecord erased mut) l₁₀ 0) ∷ ‵ (fdies (toRecord erased mut) l₁₀) ∷ ‵ (froom (bytes erased mut) l₉ 0) ∷ ‵ (fdies (bytes erased mut) l₉) ∷ ‵ (froom (toByte erased mut) l₈ 0) ∷ ‵ (fdies (toByte erased mut) l₈) ∷ ‵ (fat fullShare tyBool l₇ 0 (vbool (ltb most-bound (length (src .now))))) ∷ ‵ (fdies tyBool l₇) ∷ ‵ (fat fullShare word l₆ 0 (vint w64 (length (src .now)))) ∷ ‵ (fdies word l₆) ∷ ‵ (froom (arrayTy n) l₅ 0) ∷ ‵ (fdies (arrayTy n) l₅) ∷ ‵ (fat fullShare (recs (named 2) mut) l₄ 0 s-rec) ∷ ‵ (fdies (recs (named 2) mut) l₄) ∷ ‵ (fat fullShare (bytes (named 1) mut) l₃ 0 s-can) ∷ ‵ (fdies (bytes (named 1) mut) l₃) ∷ ‵ (fat fullShare (bytes (named 0) imm) l₂ 0 s-src) ∷ ‵ (fdies (bytes (named 0) imm) l₂) ∷ ‵ (fat fullShare (tyInt w32) l₁ 0 (vint w32 form)) ∷ ‵ (fdies (tyInt w32) l₁) ∷ ‵ (froom answerTy l₀ 0) ∷ ‵ (fdies answerTy l₀) ∷ []
 
       abbrev Mid₁ : List (Item 𝓤)
-      Mid₁ = ‵ (R-src) ∷ ‵ (R-can) ∷ ‵ (R-rec) ∷ ‵ (flft κ₀ q₀) ∷ ‵ (flft κ₁ q₁) ∷ ‵ (flft κ₂ q₂) ∷ ‵ (froom (notesBy erased mut) l₁₇ 0) ∷ ‵ (fdies (notesBy erased mut) l₁₇) ∷ ‵ (froom (tyRef erased mut (arrayTy n)) l₁₆ 0) ∷ ‵ (fdies (tyRef erased mut (arrayTy n)) l₁₆) ∷ ‵ (froom (recs erased mut) l₁₅ 0) ∷ ‵ (fdies (recs erased mut) l₁₅) ∷ ‵ (froom (toRecord erased mut) l₁₄ 0) ∷ ‵ (fdies (toRecord erased mut) l₁₄) ∷ ‵ (froom (bytes erased mut) l₁₃ 0) ∷ ‵ (fdies (bytes erased mut) l₁₃) ∷ ‵ (froom (toByte erased mut) l₁₂ 0) ∷ ‵ (fdies (toByte erased mut) l₁₂) ∷ ‵ (froom (recs erased mut) l₁₁ 0) ∷ ‵ (fdies (recs erased mut) l₁₁) ∷ ‵ (froom (toRecord erased mut) l₁₀ 0) ∷ ‵ (fdies (toRecord erased mut) l₁₀) ∷ ‵ (froom (bytes erased mut) l₉ 0) ∷ ‵ (fdies (bytes erased mut) l₉) ∷ ‵ (froom (toByte erased mut) l₈ 0) ∷ ‵ (fdies (toByte erased mut) l₈) ∷ ‵ (fat fullShare tyBool l₇ 0 (vbool (ltb bound (length (src .now))))) ∷ ‵ (fdies tyBool l₇) ∷ ‵ (fat fullShare word l₆ 0 (vint w64 (length (src .now)))) ∷ ‵ (fdies word l₆) ∷ ‵ (froom (arrayTy n) l₅ 0) ∷ ‵ (fdies (arrayTy n) l₅) ∷ ‵ (fat fullShare (recs (named 2) mut) l₄ 0 s-rec) ∷ ‵ (fdies (recs (named 2) mut) l₄) ∷ ‵ (fat fullShare (bytes (named 1) mut) l₃ 0 s-can) ∷ ‵ (fdies (bytes (named 1) mut) l₃) ∷ ‵ (fat fullShare (bytes (named 0) imm) l₂ 0 s-src) ∷ ‵ (fdies (bytes (named 0) imm) l₂) ∷ ‵ (fat fullShare (tyInt w32) l₁ 0 (vint w32 form)) ∷ ‵ (fdies (tyInt w32) l₁) ∷ ‵ (froom answerTy l₀ 0) ∷ ‵ (fdies answerTy l₀) ∷ []
+      Mid₁ = ‵ (R-src) ∷ ‵ (R-can) ∷ ‵ (R-rec) ∷ ‵ (flft κ₀ q₀) ∷ ‵ (flft κ₁ q₁) ∷ ‵ (flft κ₂ q₂) ∷ ‵ (froom (notesBy erased mut) l₂₁ 0) ∷ ‵ (fdies (notesBy erased mut) l₂₁) ∷ ‵ (froom (tyRef erased mut (arrayTy n)) l₂₀ 0) ∷ ‵ (fdies (tyRef erased mut (arrayTy n)) l₂₀) ∷ ‵ (froom (recs erased mut) l₁₉ 0) ∷ ‵ (fdies (recs erased mut) l₁₉) ∷ ‵ (froom (toRecord erased mut) l₁₈ 0) ∷ ‵ (fdies (toRecord erased mut) l₁₈) ∷ ‵ (froom (bytes erased mut) l₁₇ 0) ∷ ‵ (fdies (bytes erased mut) l₁₇) ∷ ‵ (froom (toByte erased mut) l₁₆ 0) ∷ ‵ (fdies (toByte erased mut) l₁₆) ∷ ‵ (froom (recs erased mut) l₁₅ 0) ∷ ‵ (fdies (recs erased mut) l₁₅) ∷ ‵ (froom (toRecord erased mut) l₁₄ 0) ∷ ‵ (fdies (toRecord erased mut) l₁₄) ∷ ‵ (froom (bytes erased mut) l₁₃ 0) ∷ ‵ (fdies (bytes erased mut) l₁₃) ∷ ‵ (froom (toByte erased mut) l₁₂ 0) ∷ ‵ (fdies (toByte erased mut) l₁₂) ∷ ‵ (froom (recs erased mut) l₁₁ 0) ∷ ‵ (fdies (recs erased mut) l₁₁) ∷ ‵ (froom (toRecord erased mut) l₁₀ 0) ∷ ‵ (fdies (toRecord erased mut) l₁₀) ∷ ‵ (froom (bytes erased mut) l₉ 0) ∷ ‵ (fdies (bytes erased mut) l₉) ∷ ‵ (froom (toByte erased mut) l₈ 0) ∷ ‵ (fdies (toByte erased mut) l₈) ∷ ‵ (fat fullShare tyBool l₇ 0 (vbool (ltb most-bound (length (src .now))))) ∷ ‵ (fdies tyBool l₇) ∷ ‵ (fat fullShare word l₆ 0 (vint w64 (length (src .now)))) ∷ ‵ (fdies word l₆) ∷ ‵ (froom (arrayTy n) l₅ 0) ∷ ‵ (fdies (arrayTy n) l₅) ∷ ‵ (fat fullShare (recs (named 2) mut) l₄ 0 s-rec) ∷ ‵ (fdies (recs (named 2) mut) l₄) ∷ ‵ (fat fullShare (bytes (named 1) mut) l₃ 0 s-can) ∷ ‵ (fdies (bytes (named 1) mut) l₃) ∷ ‵ (fat fullShare (bytes (named 0) imm) l₂ 0 s-src) ∷ ‵ (fdies (bytes (named 0) imm) l₂) ∷ ‵ (fat fullShare (tyInt w32) l₁ 0 (vint w32 form)) ∷ ‵ (fdies (tyInt w32) l₁) ∷ ‵ (froom answerTy l₀ 0) ∷ ‵ (fdies answerTy l₀) ∷ []
 
-      hands₀ : Sq W Held₀ (runs C Λ En (hand₀ next) (anyQ (afterSeq 𝓤 H (Wp 𝓤 H C Λ En (rest₁ big n) (atReturn 𝓤 H En Post)) (atReturn 𝓤 H En Post))))
+      abbrev Held₁ : List (Item 𝓤)
+      Held₁ = ‵ (R-src) ∷ ‵ (R-can) ∷ ‵ (R-rec) ∷ ‵ (flft κ₀ q₀) ∷ ‵ (flft κ₁ q₁) ∷ ‵ (flft κ₂ q₂) ∷ ‵ (froom (notesBy erased mut) l₂₁ 0) ∷ ‵ (fdies (notesBy erased mut) l₂₁) ∷ ‵ (froom (tyRef erased mut (arrayTy n)) l₂₀ 0) ∷ ‵ (fdies (tyRef erased mut (arrayTy n)) l₂₀) ∷ ‵ (froom (recs erased mut) l₁₉ 0) ∷ ‵ (fdies (recs erased mut) l₁₉) ∷ ‵ (froom (toRecord erased mut) l₁₈ 0) ∷ ‵ (fdies (toRecord erased mut) l₁₈) ∷ ‵ (froom (bytes erased mut) l₁₇ 0) ∷ ‵ (fdies (bytes erased mut) l₁₇) ∷ ‵ (froom (toByte erased mut) l₁₆ 0) ∷ ‵ (fdies (toByte erased mut) l₁₆) ∷ ‵ (froom (recs erased mut) l₁₅ 0) ∷ ‵ (fdies (recs erased mut) l₁₅) ∷ ‵ (froom (toRecord erased mut) l₁₄ 0) ∷ ‵ (fdies (toRecord erased mut) l₁₄) ∷ ‵ (froom (bytes erased mut) l₁₃ 0) ∷ ‵ (fdies (bytes erased mut) l₁₃) ∷ ‵ (froom (toByte erased mut) l₁₂ 0) ∷ ‵ (fdies (toByte erased mut) l₁₂) ∷ ‵ (froom (recs erased mut) l₁₁ 0) ∷ ‵ (fdies (recs erased mut) l₁₁) ∷ ‵ (froom (toRecord erased mut) l₁₀ 0) ∷ ‵ (fdies (toRecord erased mut) l₁₀) ∷ ‵ (froom (bytes erased mut) l₉ 0) ∷ ‵ (fdies (bytes erased mut) l₉) ∷ ‵ (froom (toByte erased mut) l₈ 0) ∷ ‵ (fdies (toByte erased mut) l₈) ∷ ‵ (fat fullShare tyBool l₇ 0 (vbool (ltb bound (length (src .now))))) ∷ ‵ (fdies tyBool l₇) ∷ ‵ (fat fullShare word l₆ 0 (vint w64 (length (src .now)))) ∷ ‵ (fdies word l₆) ∷ ‵ (froom (arrayTy n) l₅ 0) ∷ ‵ (fdies (arrayTy n) l₅) ∷ ‵ (fat fullShare (recs (named 2) mut) l₄ 0 s-rec) ∷ ‵ (fdies (recs (named 2) mut) l₄) ∷ ‵ (fat fullShare (bytes (named 1) mut) l₃ 0 s-can) ∷ ‵ (fdies (bytes (named 1) mut) l₃) ∷ ‵ (fat fullShare (bytes (named 0) imm) l₂ 0 s-src) ∷ ‵ (fdies (bytes (named 0) imm) l₂) ∷ ‵ (fat fullShare (tyInt w32) l₁ 0 (vint w32 form)) ∷ ‵ (fdies (tyInt w32) l₁) ∷ ‵ (froom answerTy l₀ 0) ∷ ‵ (fdies answerTy l₀) ∷ []
+
+      abbrev Mid₂ : List (Item 𝓤)
+      Mid₂ = ‵ (R-src) ∷ ‵ (R-can) ∷ ‵ (R-rec) ∷ ‵ (flft κ₀ q₀) ∷ ‵ (flft κ₁ q₁) ∷ ‵ (flft κ₂ q₂) ∷ ‵ (froom (notesBy erased mut) l₂₁ 0) ∷ ‵ (fdies (notesBy erased mut) l₂₁) ∷ ‵ (froom (tyRef erased mut (arrayTy n)) l₂₀ 0) ∷ ‵ (fdies (tyRef erased mut (arrayTy n)) l₂₀) ∷ ‵ (froom (recs erased mut) l₁₉ 0) ∷ ‵ (fdies (recs erased mut) l₁₉) ∷ ‵ (froom (toRecord erased mut) l₁₈ 0) ∷ ‵ (fdies (toRecord erased mut) l₁₈) ∷ ‵ (froom (bytes erased mut) l₁₇ 0) ∷ ‵ (fdies (bytes erased mut) l₁₇) ∷ ‵ (froom (toByte erased mut) l₁₆ 0) ∷ ‵ (fdies (toByte erased mut) l₁₆) ∷ ‵ (froom (recs erased mut) l₁₅ 0) ∷ ‵ (fdies (recs erased mut) l₁₅) ∷ ‵ (froom (toRecord erased mut) l₁₄ 0) ∷ ‵ (fdies (toRecord erased mut) l₁₄) ∷ ‵ (froom (bytes erased mut) l₁₃ 0) ∷ ‵ (fdies (bytes erased mut) l₁₃) ∷ ‵ (froom (toByte erased mut) l₁₂ 0) ∷ ‵ (fdies (toByte erased mut) l₁₂) ∷ ‵ (froom (recs erased mut) l₁₁ 0) ∷ ‵ (fdies (recs erased mut) l₁₁) ∷ ‵ (froom (toRecord erased mut) l₁₀ 0) ∷ ‵ (fdies (toRecord erased mut) l₁₀) ∷ ‵ (froom (bytes erased mut) l₉ 0) ∷ ‵ (fdies (bytes erased mut) l₉) ∷ ‵ (froom (toByte erased mut) l₈ 0) ∷ ‵ (fdies (toByte erased mut) l₈) ∷ ‵ (fat fullShare tyBool l₇ 0 (vbool (ltb bound (length (src .now))))) ∷ ‵ (fdies tyBool l₇) ∷ ‵ (fat fullShare word l₆ 0 (vint w64 (length (src .now)))) ∷ ‵ (fdies word l₆) ∷ ‵ (froom (arrayTy n) l₅ 0) ∷ ‵ (fdies (arrayTy n) l₅) ∷ ‵ (fat fullShare (recs (named 2) mut) l₄ 0 s-rec) ∷ ‵ (fdies (recs (named 2) mut) l₄) ∷ ‵ (fat fullShare (bytes (named 1) mut) l₃ 0 s-can) ∷ ‵ (fdies (bytes (named 1) mut) l₃) ∷ ‵ (fat fullShare (bytes (named 0) imm) l₂ 0 s-src) ∷ ‵ (fdies (bytes (named 0) imm) l₂) ∷ ‵ (fat fullShare (tyInt w32) l₁ 0 (vint w32 form)) ∷ ‵ (fdies (tyInt w32) l₁) ∷ ‵ (froom answerTy l₀ 0) ∷ ‵ (fdies answerTy l₀) ∷ []
+
+      hands₀ : Sq W Held₀ (runs C Λ En (hand₀ next) (anyQ (afterSeq 𝓤 H (Wp 𝓤 H C Λ En (rest₁ big huge large n most-bound bound next) (atReturn 𝓤 H En Post)) (atReturn 𝓤 H En Post))))
       hands₀ =
-          assigns ! (addr ! (from ! (fld ! refl (hop ! (look-in ! 34 (sub ! 0 refl (whole !))) (stop !))))) (from ! (stop !)) (init ! 24 refl (tt, tt)) $
-          assigns ! (agg ! (and-then ! (load ! (from ! (stop !)) (look ! 24 refl)) (and-then ! (load ! (from ! (fld ! refl (stop !))) (look-in ! 34 (sub ! 1 refl (whole !)))) (no-more !)))) (from ! (stop !)) (init ! 22 refl (tt, (tt, (record { fits = can-room .0 }, tt)))) $
-          assigns ! (addr ! (from ! (fld ! refl (hop ! (look-in ! 32 (sub ! 0 refl (whole !))) (stop !))))) (from ! (stop !)) (init ! 20 refl (tt, tt)) $
-          assigns ! (agg ! (and-then ! (load ! (from ! (stop !)) (look ! 20 refl)) (and-then ! (load ! (from ! (fld ! refl (stop !))) (look-in ! 32 (sub ! 1 refl (whole !)))) (no-more !)))) (from ! (stop !)) (init ! 18 refl (tt, (tt, (record { fits = rec-room .0 }, tt)))) $
+          assigns ! (addr ! (from ! (fld ! refl (hop ! (look-in ! 42 (sub ! 0 refl (whole !))) (stop !))))) (from ! (stop !)) (init ! 32 refl (tt, tt)) $
+          assigns ! (agg ! (and-then ! (load ! (from ! (stop !)) (look ! 32 refl)) (and-then ! (load ! (from ! (fld ! refl (stop !))) (look-in ! 42 (sub ! 1 refl (whole !)))) (no-more !)))) (from ! (stop !)) (init ! 30 refl (tt, (tt, (record { fits = can-room .0 }, tt)))) $
+          assigns ! (addr ! (from ! (fld ! refl (hop ! (look-in ! 40 (sub ! 0 refl (whole !))) (stop !))))) (from ! (stop !)) (init ! 28 refl (tt, tt)) $
+          assigns ! (agg ! (and-then ! (load ! (from ! (stop !)) (look ! 28 refl)) (and-then ! (load ! (from ! (fld ! refl (stop !))) (look-in ! 40 (sub ! 1 refl (whole !)))) (no-more !)))) (from ! (stop !)) (init ! 26 refl (tt, (tt, (record { fits = rec-room .0 }, tt)))) $
           move ! (4 ∷ 5 ∷ []) $ join ! $ move ! (4 ∷ 0 ∷ []) $ join ! $ move ! (2 ∷ 3 ∷ []) $ join ! $ move ! (2 ∷ 0 ∷ []) $ join ! $ move ! (1 ∷ 0 ∷ []) $ use2 W (raw (Next 𝓤 H A mem run .pre (to-next))) (goes-next) $
-          calls-at ! (fmOf 𝓤 H (W .laws) 𝓣) (Next 𝓤 H A mem run) known-next (to-next) (and-then ! (load ! (from ! (stop !)) (look ! 33 refl)) (and-then ! (load ! (from ! (stop !)) (look ! 31 refl)) (and-then ! (load ! (from ! (stop !)) (look ! 17 refl)) (and-then ! (load ! (from ! (stop !)) (look ! 13 refl)) (no-more !))))) (λ u.
+          calls-at ! (fmOf 𝓤 H (W .laws) 𝓣) (Next 𝓤 H A mem run) known-next (to-next) (and-then ! (load ! (from ! (stop !)) (look ! 41 refl)) (and-then ! (load ! (from ! (stop !)) (look ! 39 refl)) (and-then ! (load ! (from ! (stop !)) (look ! 25 refl)) (and-then ! (load ! (from ! (stop !)) (look ! 21 refl)) (no-more !))))) (λ u.
           use1 W (Next-next u) (id⊢ 𝓤 _) $ await ! tt $ pick ! (λ r. split ! $ move ! (1 ∷ []) $ use1 W (Last-next r) (id⊢ 𝓤 _) $ pick ! (λ ws-next. split ! $ move ! (1 ∷ []) $ heard ! (outcome r (ws-next .1 .1 .0) (numbers (ws-next .1 .1 .1 .0)) ≡ reading form (src .now) (can .now) (numbers (rec .now))) (λ said.
           fsplit ! $ move ! (1 ∷ []) $ fsplit ! $ move ! (1 ∷ []) $ fsplit ! $ fsplit ! $ move ! (1 ∷ []) $ feqL ! (λ can-len. move ! (1 ∷ []) $ fsplit ! $ fsplit ! $ move ! (1 ∷ []) $ feqL ! (λ rec-len. move ! (5 ∷ []) $ split ! $ move ! (1 ∷ []) $ peeks ! R.the-row (Is R.the-row) (shows 𝓤 H A R.the-row) r (u ∷ []) (λ is. drop ! $
-          land ! (from ! (stop !)) (init ! 40 refl (EL.lawful R.the-type R′.the-laws 𝓤 H A W tt .typed r _ is .0)) $
-          split ! $ move ! (1 ∷ []) $ split ! $ move ! (1 ∷ []) $ split ! $ returns-within ! Post refl (look ! 43 refl) $
-          forget ! 43 refl $ forget ! 41 refl $ forget ! 39 refl $ forget ! 37 refl $ forget ! 35 refl $ forget ! 31 refl $ forget ! 29 refl $ forget ! 27 refl $ forget ! 25 refl $ forget ! 23 refl $ forget ! 21 refl $
-          move ! (43 ∷ 44 ∷ []) $ free1 ! $ move ! (41 ∷ 42 ∷ []) $ free1 ! $ move ! (39 ∷ 40 ∷ []) $ free1 ! $ move ! (37 ∷ 38 ∷ []) $ free1 ! $ move ! (35 ∷ 36 ∷ []) $ free1 ! $ move ! (33 ∷ 34 ∷ []) $ free1 ! $ move ! (31 ∷ 32 ∷ []) $ free1 ! $ move ! (29 ∷ 30 ∷ []) $ free1 ! $ move ! (27 ∷ 28 ∷ []) $ free1 ! $ move ! (25 ∷ 26 ∷ []) $ free1 ! $ move ! (23 ∷ 24 ∷ []) $ free1 ! $ move ! (21 ∷ 22 ∷ []) $ free1 ! $ move ! (19 ∷ 20 ∷ []) $ free1 ! $ move ! (17 ∷ 18 ∷ []) $ free1 ! $ move ! (15 ∷ 16 ∷ []) $ free1 ! $ move ! (13 ∷ 14 ∷ []) $ free1 ! $ move ! (11 ∷ 12 ∷ []) $ free1 ! $ move ! (9 ∷ 10 ∷ []) $ free1 ! $ free0 ! $ keep ! (6 ∷ 4 ∷ 3 ∷ 2 ∷ 0 ∷ []) $ by ! (exits r u is (ws-next .1 .1 .0) can-len (ws-next .1 .1 .1 .0) rec-len said))))))))
+          land ! (from ! (stop !)) (init ! 48 refl (EL.lawful R.the-type R′.the-laws 𝓤 H A W tt .typed r _ is .0)) $
+          split ! $ move ! (1 ∷ []) $ split ! $ move ! (1 ∷ []) $ split ! $ returns-within ! Post refl (look ! 51 refl) $
+          forget ! 51 refl $ forget ! 49 refl $ forget ! 47 refl $ forget ! 45 refl $ forget ! 43 refl $ forget ! 39 refl $ forget ! 37 refl $ forget ! 35 refl $ forget ! 33 refl $ forget ! 31 refl $ forget ! 29 refl $
+          move ! (51 ∷ 52 ∷ []) $ free1 ! $ move ! (49 ∷ 50 ∷ []) $ free1 ! $ move ! (47 ∷ 48 ∷ []) $ free1 ! $ move ! (45 ∷ 46 ∷ []) $ free1 ! $ move ! (43 ∷ 44 ∷ []) $ free1 ! $ move ! (41 ∷ 42 ∷ []) $ free1 ! $ move ! (39 ∷ 40 ∷ []) $ free1 ! $ move ! (37 ∷ 38 ∷ []) $ free1 ! $ move ! (35 ∷ 36 ∷ []) $ free1 ! $ move ! (33 ∷ 34 ∷ []) $ free1 ! $ move ! (31 ∷ 32 ∷ []) $ free1 ! $ move ! (29 ∷ 30 ∷ []) $ free1 ! $ move ! (27 ∷ 28 ∷ []) $ free1 ! $ move ! (25 ∷ 26 ∷ []) $ free1 ! $ move ! (23 ∷ 24 ∷ []) $ free1 ! $ move ! (21 ∷ 22 ∷ []) $ free1 ! $ move ! (19 ∷ 20 ∷ []) $ free1 ! $ move ! (17 ∷ 18 ∷ []) $ free1 ! $ move ! (15 ∷ 16 ∷ []) $ free1 ! $ move ! (13 ∷ 14 ∷ []) $ free1 ! $ move ! (11 ∷ 12 ∷ []) $ free1 ! $ move ! (9 ∷ 10 ∷ []) $ free1 ! $ free0 ! $ keep ! (6 ∷ 4 ∷ 3 ∷ 2 ∷ 0 ∷ []) $ by ! (exits r u is (ws-next .1 .1 .0) can-len (ws-next .1 .1 .1 .0) rec-len said))))))))
 
-      fills : (length (src .now)) ≤ bound → Sq W Mid₁ (runs C Λ En (rest₁ big n) (atRet En Post))
-      fills under₀ =
-          assigns ! (rep ! n (lit ! tt)) (from ! (stop !)) (init ! 30 refl (noughts-typed 𝓤 H A W n)) $
-          assigns ! (addr ! (from ! (fld ! refl (hop ! (look-in ! 34 (sub ! 0 refl (whole !))) (stop !))))) (from ! (stop !)) (init ! 16 refl (tt, tt)) $
-          assigns ! (agg ! (and-then ! (load ! (from ! (stop !)) (look ! 16 refl)) (and-then ! (load ! (from ! (fld ! refl (stop !))) (look-in ! 34 (sub ! 1 refl (whole !)))) (no-more !)))) (from ! (stop !)) (init ! 14 refl (tt, (tt, (record { fits = can-room .0 }, tt)))) $
-          assigns ! (addr ! (from ! (fld ! refl (hop ! (look-in ! 32 (sub ! 0 refl (whole !))) (stop !))))) (from ! (stop !)) (init ! 12 refl (tt, tt)) $
-          assigns ! (agg ! (and-then ! (load ! (from ! (stop !)) (look ! 12 refl)) (and-then ! (load ! (from ! (fld ! refl (stop !))) (look-in ! 32 (sub ! 1 refl (whole !)))) (no-more !)))) (from ! (stop !)) (init ! 10 refl (tt, (tt, (record { fits = rec-room .0 }, tt)))) $
+      hands₁ : Sq W Held₁ (runs C Λ En (hand₁ next) (anyQ (afterSeq 𝓤 H (Wp 𝓤 H C Λ En (rest₂ big n) (atReturn 𝓤 H En Post)) (atReturn 𝓤 H En Post))))
+      hands₁ =
+          assigns ! (addr ! (from ! (fld ! refl (hop ! (look-in ! 42 (sub ! 0 refl (whole !))) (stop !))))) (from ! (stop !)) (init ! 24 refl (tt, tt)) $
+          assigns ! (agg ! (and-then ! (load ! (from ! (stop !)) (look ! 24 refl)) (and-then ! (load ! (from ! (fld ! refl (stop !))) (look-in ! 42 (sub ! 1 refl (whole !)))) (no-more !)))) (from ! (stop !)) (init ! 22 refl (tt, (tt, (record { fits = can-room .0 }, tt)))) $
+          assigns ! (addr ! (from ! (fld ! refl (hop ! (look-in ! 40 (sub ! 0 refl (whole !))) (stop !))))) (from ! (stop !)) (init ! 20 refl (tt, tt)) $
+          assigns ! (agg ! (and-then ! (load ! (from ! (stop !)) (look ! 20 refl)) (and-then ! (load ! (from ! (fld ! refl (stop !))) (look-in ! 40 (sub ! 1 refl (whole !)))) (no-more !)))) (from ! (stop !)) (init ! 18 refl (tt, (tt, (record { fits = rec-room .0 }, tt)))) $
+          move ! (4 ∷ 5 ∷ []) $ join ! $ move ! (4 ∷ 0 ∷ []) $ join ! $ move ! (2 ∷ 3 ∷ []) $ join ! $ move ! (2 ∷ 0 ∷ []) $ join ! $ move ! (1 ∷ 0 ∷ []) $ use2 W (raw (Next 𝓤 H A mem run .pre (to-next))) (goes-next) $
+          calls-at ! (fmOf 𝓤 H (W .laws) 𝓣) (Next 𝓤 H A mem run) known-next (to-next) (and-then ! (load ! (from ! (stop !)) (look ! 41 refl)) (and-then ! (load ! (from ! (stop !)) (look ! 39 refl)) (and-then ! (load ! (from ! (stop !)) (look ! 17 refl)) (and-then ! (load ! (from ! (stop !)) (look ! 13 refl)) (no-more !))))) (λ u.
+          use1 W (Next-next u) (id⊢ 𝓤 _) $ await ! tt $ pick ! (λ r. split ! $ move ! (1 ∷ []) $ use1 W (Last-next r) (id⊢ 𝓤 _) $ pick ! (λ ws-next. split ! $ move ! (1 ∷ []) $ heard ! (outcome r (ws-next .1 .1 .0) (numbers (ws-next .1 .1 .1 .0)) ≡ reading form (src .now) (can .now) (numbers (rec .now))) (λ said.
+          fsplit ! $ move ! (1 ∷ []) $ fsplit ! $ move ! (1 ∷ []) $ fsplit ! $ fsplit ! $ move ! (1 ∷ []) $ feqL ! (λ can-len. move ! (1 ∷ []) $ fsplit ! $ fsplit ! $ move ! (1 ∷ []) $ feqL ! (λ rec-len. move ! (5 ∷ []) $ split ! $ move ! (1 ∷ []) $ peeks ! R.the-row (Is R.the-row) (shows 𝓤 H A R.the-row) r (u ∷ []) (λ is. drop ! $
+          land ! (from ! (stop !)) (init ! 48 refl (EL.lawful R.the-type R′.the-laws 𝓤 H A W tt .typed r _ is .0)) $
+          split ! $ move ! (1 ∷ []) $ split ! $ move ! (1 ∷ []) $ split ! $ returns-within ! Post refl (look ! 51 refl) $
+          forget ! 51 refl $ forget ! 49 refl $ forget ! 47 refl $ forget ! 45 refl $ forget ! 43 refl $ forget ! 39 refl $ forget ! 37 refl $ forget ! 27 refl $ forget ! 25 refl $ forget ! 23 refl $ forget ! 21 refl $
+          move ! (51 ∷ 52 ∷ []) $ free1 ! $ move ! (49 ∷ 50 ∷ []) $ free1 ! $ move ! (47 ∷ 48 ∷ []) $ free1 ! $ move ! (45 ∷ 46 ∷ []) $ free1 ! $ move ! (43 ∷ 44 ∷ []) $ free1 ! $ move ! (41 ∷ 42 ∷ []) $ free1 ! $ move ! (39 ∷ 40 ∷ []) $ free1 ! $ move ! (37 ∷ 38 ∷ []) $ free1 ! $ move ! (35 ∷ 36 ∷ []) $ free1 ! $ move ! (33 ∷ 34 ∷ []) $ free1 ! $ move ! (31 ∷ 32 ∷ []) $ free1 ! $ move ! (29 ∷ 30 ∷ []) $ free1 ! $ move ! (27 ∷ 28 ∷ []) $ free1 ! $ move ! (25 ∷ 26 ∷ []) $ free1 ! $ move ! (23 ∷ 24 ∷ []) $ free1 ! $ move ! (21 ∷ 22 ∷ []) $ free1 ! $ move ! (19 ∷ 20 ∷ []) $ free1 ! $ move ! (17 ∷ 18 ∷ []) $ free1 ! $ move ! (15 ∷ 16 ∷ []) $ free1 ! $ move ! (13 ∷ 14 ∷ []) $ free1 ! $ move ! (11 ∷ 12 ∷ []) $ free1 ! $ move ! (9 ∷ 10 ∷ []) $ free1 ! $ free0 ! $ keep ! (6 ∷ 4 ∷ 3 ∷ 2 ∷ 0 ∷ []) $ by ! (exits r u is (ws-next .1 .1 .0) can-len (ws-next .1 .1 .1 .0) rec-len said))))))))
+
+      fills : (length (src .now)) ≤ most-bound → (length (src .now)) ≤ bound → Sq W Mid₂ (runs C Λ En (rest₂ big n) (atRet En Post))
+      fills under₀ under₁ =
+          assigns ! (rep ! n (lit ! tt)) (from ! (stop !)) (init ! 38 refl (noughts-typed 𝓤 H A W n)) $
+          assigns ! (addr ! (from ! (fld ! refl (hop ! (look-in ! 42 (sub ! 0 refl (whole !))) (stop !))))) (from ! (stop !)) (init ! 16 refl (tt, tt)) $
+          assigns ! (agg ! (and-then ! (load ! (from ! (stop !)) (look ! 16 refl)) (and-then ! (load ! (from ! (fld ! refl (stop !))) (look-in ! 42 (sub ! 1 refl (whole !)))) (no-more !)))) (from ! (stop !)) (init ! 14 refl (tt, (tt, (record { fits = can-room .0 }, tt)))) $
+          assigns ! (addr ! (from ! (fld ! refl (hop ! (look-in ! 40 (sub ! 0 refl (whole !))) (stop !))))) (from ! (stop !)) (init ! 12 refl (tt, tt)) $
+          assigns ! (agg ! (and-then ! (load ! (from ! (stop !)) (look ! 12 refl)) (and-then ! (load ! (from ! (fld ! refl (stop !))) (look-in ! 40 (sub ! 1 refl (whole !)))) (no-more !)))) (from ! (stop !)) (init ! 10 refl (tt, (tt, (record { fits = rec-room .0 }, tt)))) $
           assigns ! (addr ! (from ! (stop !))) (from ! (stop !)) (init ! 8 refl (tt, tt)) $
           assigns ! (agg ! (and-then ! (load ! (from ! (stop !)) (look ! 8 refl)) (and-then ! (number-lit ! big n (n-room .0)) (no-more !)))) (from ! (stop !)) (init ! 6 refl (tt, (tt, (record { fits = n-room .0 }, tt)))) $
-          rewrite ! 6 (λ (m : ℕ). ‵ (fat fullShare (notesBy erased mut) l₁₇ 0 (sliceVal (l₅, 0) m))) (sym (length-noughts n)) refl $ lft-new ! tt (λ ν. move ! (31 ∷ []) $
+          rewrite ! 6 (λ (m : ℕ). ‵ (fat fullShare (notesBy erased mut) l₂₁ 0 (sliceVal (l₅, 0) m))) (sym (length-noughts n)) refl $ lft-new ! tt (λ ν. move ! (39 ∷ []) $
           use1 W (later (some (λ (ε : GName). ‵ (MutSlice (named 3) (ν ∷ []) usize .own (at-local l₅ ε (noughts n)) (sliceVal (l₅, 0) (length (noughts n)) ∷ [])) ⊛ ‵ (Stays-with 𝓤 H A W n l₅ (ν ∷ []) ε)))) (lends-row 𝓤 H A W n l₅ (ν ∷ []) n-room (named 3)) $ await ! tt $ pick ! (λ ε. split ! $
           move ! (8 ∷ 2 ∷ []) $ join ! $ move ! (7 ∷ 0 ∷ []) $ join ! $ move ! (6 ∷ 0 ∷ []) $ join ! $ move ! (5 ∷ 1 ∷ []) $ join ! $ move ! (4 ∷ 0 ∷ []) $ join ! $ move ! (3 ∷ 0 ∷ []) $ join ! $ move ! (1 ∷ 0 ∷ []) $ use2 W (raw (Core 𝓤 H A mem run .pre (to-core l₅ ν ε))) (goes-core l₅ ν ε wanted) $
-          calls-at ! (fmOf 𝓤 H (W .laws) 𝓣) (Core 𝓤 H A mem run) known-core (to-core l₅ ν ε) (and-then ! (load ! (from ! (stop !)) (look ! 33 refl)) (and-then ! (load ! (from ! (stop !)) (look ! 31 refl)) (and-then ! (load ! (from ! (stop !)) (look ! 10 refl)) (and-then ! (load ! (from ! (stop !)) (look ! 6 refl)) (and-then ! (load ! (from ! (stop !)) (look ! 2 refl)) (no-more !)))))) (λ u.
+          calls-at ! (fmOf 𝓤 H (W .laws) 𝓣) (Core 𝓤 H A mem run) known-core (to-core l₅ ν ε) (and-then ! (load ! (from ! (stop !)) (look ! 41 refl)) (and-then ! (load ! (from ! (stop !)) (look ! 39 refl)) (and-then ! (load ! (from ! (stop !)) (look ! 10 refl)) (and-then ! (load ! (from ! (stop !)) (look ! 6 refl)) (and-then ! (load ! (from ! (stop !)) (look ! 2 refl)) (no-more !)))))) (λ u.
           use1 W (Next-core l₅ ν ε u) (id⊢ 𝓤 _) $ await ! tt $ pick ! (λ r. split ! $ move ! (1 ∷ []) $ use1 W (Last-core l₅ ν ε r) (id⊢ 𝓤 _) $ pick ! (λ ws-core. split ! $ move ! (1 ∷ []) $ heard ! (outcome r (ws-core .1 .1 .0) (numbers (ws-core .1 .1 .1 .0)) ≡ reading form (src .now) (can .now) (numbers (rec .now))) (λ said.
           fsplit ! $ move ! (1 ∷ []) $ fsplit ! $ move ! (1 ∷ []) $ fsplit ! $ fsplit ! $ move ! (1 ∷ []) $ feqL ! (λ can-len. move ! (1 ∷ []) $ fsplit ! $ fsplit ! $ move ! (1 ∷ []) $ feqL ! (λ rec-len. move ! (1 ∷ []) $ fsplit ! $ fsplit ! $ move ! (1 ∷ []) $ feqL ! (λ row-len. move ! (6 ∷ []) $ split ! $ move ! (1 ∷ []) $ peeks ! R.the-row (Is R.the-row) (shows 𝓤 H A R.the-row) r (u ∷ []) (λ is. drop ! $
-          land ! (from ! (stop !)) (init ! 41 refl (EL.lawful R.the-type R′.the-laws 𝓤 H A W tt .typed r _ is .0)) $
+          land ! (from ! (stop !)) (init ! 49 refl (EL.lawful R.the-type R′.the-laws 𝓤 H A W tt .typed r _ is .0)) $
           split ! $ move ! (1 ∷ []) $ split ! $ move ! (1 ∷ []) $ split ! $ move ! (1 ∷ []) $ split ! $ lft-end ! tt $ move ! (0 ∷ 11 ∷ 5 ∷ []) $ use3 W (later (some (λ (v : Val). ‵ (fat fullShare (arrayTy n) l₅ 0 v)))) (row-dies 𝓤 H A W n l₅ (ν ∷ []) ε (ws-core .1 .1 .1 .1 .0)) $ await ! tt $ pick ! (λ v.
-          returns ! (look ! 43 refl) $
-          forget ! 43 refl $ forget ! 41 refl $ forget ! 39 refl $ forget ! 37 refl $ forget ! 35 refl $ forget ! 0 refl $ forget ! 32 refl $ forget ! 30 refl $ forget ! 20 refl $ forget ! 18 refl $ forget ! 16 refl $ forget ! 14 refl $ forget ! 12 refl $ forget ! 10 refl $
-          move ! (43 ∷ 44 ∷ []) $ free1 ! $ move ! (41 ∷ 42 ∷ []) $ free1 ! $ move ! (39 ∷ 40 ∷ []) $ free1 ! $ move ! (37 ∷ 38 ∷ []) $ free1 ! $ move ! (35 ∷ 36 ∷ []) $ free1 ! $ move ! (0 ∷ 34 ∷ []) $ free1 ! $ move ! (31 ∷ 32 ∷ []) $ free1 ! $ move ! (29 ∷ 30 ∷ []) $ free1 ! $ move ! (27 ∷ 28 ∷ []) $ free1 ! $ move ! (25 ∷ 26 ∷ []) $ free1 ! $ move ! (23 ∷ 24 ∷ []) $ free1 ! $ move ! (21 ∷ 22 ∷ []) $ free1 ! $ move ! (19 ∷ 20 ∷ []) $ free1 ! $ move ! (17 ∷ 18 ∷ []) $ free1 ! $ move ! (15 ∷ 16 ∷ []) $ free1 ! $ move ! (13 ∷ 14 ∷ []) $ free1 ! $ move ! (11 ∷ 12 ∷ []) $ free1 ! $ move ! (9 ∷ 10 ∷ []) $ free1 ! $ free0 ! $ keep ! (6 ∷ 5 ∷ 3 ∷ 2 ∷ 1 ∷ []) $ by ! (exits r u is (ws-core .1 .1 .0) can-len (ws-core .1 .1 .1 .0) rec-len said))))))))))))
+          returns ! (look ! 51 refl) $
+          forget ! 51 refl $ forget ! 49 refl $ forget ! 47 refl $ forget ! 45 refl $ forget ! 43 refl $ forget ! 0 refl $ forget ! 40 refl $ forget ! 38 refl $ forget ! 20 refl $ forget ! 18 refl $ forget ! 16 refl $ forget ! 14 refl $ forget ! 12 refl $ forget ! 10 refl $
+          move ! (51 ∷ 52 ∷ []) $ free1 ! $ move ! (49 ∷ 50 ∷ []) $ free1 ! $ move ! (47 ∷ 48 ∷ []) $ free1 ! $ move ! (45 ∷ 46 ∷ []) $ free1 ! $ move ! (43 ∷ 44 ∷ []) $ free1 ! $ move ! (0 ∷ 42 ∷ []) $ free1 ! $ move ! (39 ∷ 40 ∷ []) $ free1 ! $ move ! (37 ∷ 38 ∷ []) $ free1 ! $ move ! (35 ∷ 36 ∷ []) $ free1 ! $ move ! (33 ∷ 34 ∷ []) $ free1 ! $ move ! (31 ∷ 32 ∷ []) $ free1 ! $ move ! (29 ∷ 30 ∷ []) $ free1 ! $ move ! (27 ∷ 28 ∷ []) $ free1 ! $ move ! (25 ∷ 26 ∷ []) $ free1 ! $ move ! (23 ∷ 24 ∷ []) $ free1 ! $ move ! (21 ∷ 22 ∷ []) $ free1 ! $ move ! (19 ∷ 20 ∷ []) $ free1 ! $ move ! (17 ∷ 18 ∷ []) $ free1 ! $ move ! (15 ∷ 16 ∷ []) $ free1 ! $ move ! (13 ∷ 14 ∷ []) $ free1 ! $ move ! (11 ∷ 12 ∷ []) $ free1 ! $ move ! (9 ∷ 10 ∷ []) $ free1 ! $ free0 ! $ keep ! (6 ∷ 5 ∷ 3 ∷ 2 ∷ 1 ∷ []) $ by ! (exits r u is (ws-core .1 .1 .0) can-len (ws-core .1 .1 .1 .0) rec-len said))))))))))))
         where
           wanted : Noteable (length (src .now)) (length (noughts n))
-          wanted = subst (λ (m : ℕ). Noteable (length (src .now)) m) (sym (length-noughts n)) (enough (length (src .now)) under₀)
+          wanted = subst (λ (m : ℕ). Noteable (length (src .now)) m) (sym (length-noughts n)) (enough (length (src .now)) under₁)
 
-      picks₀ : Sq W Mid₀ (runs C Λ En (rest₀ big large n bound next) (atRet En Post))
+      picks₁ : (length (src .now)) ≤ most-bound → Sq W Mid₁ (runs C Λ En (rest₁ big huge large n most-bound bound next) (atRet En Post))
+      picks₁ under₀ =
+          forget ! 34 refl $ forget ! 36 refl $
+          assigns ! (of-opd ! (load ! (from ! (fld ! refl (stop !))) (look-in ! 44 (sub ! 1 refl (whole !))))) (from ! (stop !)) (init ! 36 refl (tt, record { fits = src-room .0 })) $
+          assigns ! (bin ! (number-lit ! large bound bound-fits) (load ! (from ! (stop !)) (look ! 36 refl)) tt) (from ! (stop !)) (init ! 34 refl (tt, tt)) $
+          first ! $ branches ! (load ! (from ! (stop !)) (look ! 34 refl)) (λ _. hands₁) (λ no. skips ! $ exec ! C Λ En (rest₂ big n) (atRet En Post) $ fills under₀ (nltb→le bound (length (src .now)) no))
+
+      picks₀ : Sq W Mid₀ (runs C Λ En (rest₀ big huge large n most-bound bound next) (atRet En Post))
       picks₀ =
-          assigns ! (of-opd ! (load ! (from ! (fld ! refl (stop !))) (look-in ! 36 (sub ! 1 refl (whole !))))) (from ! (stop !)) (init ! 28 refl (tt, record { fits = src-room .0 })) $
-          assigns ! (bin ! (number-lit ! large bound bound-fits) (load ! (from ! (stop !)) (look ! 28 refl)) tt) (from ! (stop !)) (init ! 26 refl (tt, tt)) $
-          first ! $ branches ! (load ! (from ! (stop !)) (look ! 26 refl)) (λ _. hands₀) (λ no. skips ! $ exec ! C Λ En (rest₁ big n) (atRet En Post) $ fills (nltb→le bound (length (src .now)) no))
+          assigns ! (of-opd ! (load ! (from ! (fld ! refl (stop !))) (look-in ! 44 (sub ! 1 refl (whole !))))) (from ! (stop !)) (init ! 36 refl (tt, record { fits = src-room .0 })) $
+          assigns ! (bin ! (number-lit ! huge most-bound most-bound-fits) (load ! (from ! (stop !)) (look ! 36 refl)) tt) (from ! (stop !)) (init ! 34 refl (tt, tt)) $
+          first ! $ branches ! (load ! (from ! (stop !)) (look ! 34 refl)) (λ _. hands₀) (λ no. skips ! $ exec ! C Λ En (rest₁ big huge large n most-bound bound next) (atRet En Post) $ picks₁ (nltb→le most-bound (length (src .now)) no))
 
-    walk : ent 𝓤 (onEntry 𝓤 H A entry.signature κs (q₀, (q₁, (q₂, tt))) a vals) (WpFn 𝓤 H C Λ (function big large n bound next) ((vint w32 form) ∷ s-src ∷ s-can ∷ s-rec ∷ []) Post)
+    walk : ent 𝓤 (onEntry 𝓤 H A entry.signature κs (q₀, (q₁, (q₂, tt))) a vals) (WpFn 𝓤 H C Λ (function big huge large n most-bound bound next) ((vint w32 form) ∷ s-src ∷ s-can ∷ s-rec ∷ []) Post)
     walk =
-        qed W ((‵ (flft κ₀ q₀) ⊛ ‵ (flft κ₁ q₁) ⊛ ‵ (flft κ₂ q₂) ⊛ ‵ ftrue) ∷ ‵ (owns (u32 ∷ ShrSlice (named 0) κ₀ u8 ∷ MutSlice (named 1) κ₁ u8 ∷ MutSlice (named 2) κ₂ T.the-row ∷ []) a vals) ∷ []) ∵ enter ! C Λ (function big large n bound next) ((vint w32 form) ∷ s-src ∷ s-can ∷ s-rec ∷ []) _ $
-        alloc1 ! (λ l₀. alloc1 ! (λ l₁. alloc1 ! (λ l₂. alloc1 ! (λ l₃. alloc1 ! (λ l₄. alloc1 ! (λ l₅. alloc1 ! (λ l₆. alloc1 ! (λ l₇. alloc1 ! (λ l₈. alloc1 ! (λ l₉. alloc1 ! (λ l₁₀. alloc1 ! (λ l₁₁. alloc1 ! (λ l₁₂. alloc1 ! (λ l₁₃. alloc1 ! (λ l₁₄. alloc1 ! (λ l₁₅. alloc1 ! (λ l₁₆. alloc1 ! (λ l₁₇. alloc0 ! $ params1 ! $ pass1 ! (init ! 32 refl (tt, record { fits = form-fits })) $ pass1 ! (init ! 30 refl (tt, (tt, (record { fits = src-room .0 }, tt)))) $ pass1 ! (init ! 28 refl (tt, (tt, (record { fits = can-room .0 }, tt)))) $ pass1 ! (init ! 26 refl (tt, (tt, (record { fits = rec-room .0 }, tt)))) $ pass0 ! $
-        move ! (37 ∷ []) $ fsplit ! $ move ! (1 ∷ []) $ fsplit ! $ move ! (1 ∷ []) $ fsplit ! $ move ! (1 ∷ []) $ fsplit ! $ move ! (41 ∷ []) $ split ! $ move ! (1 ∷ []) $ split ! $ move ! (1 ∷ []) $ split ! $ keep ! (7 ∷ 6 ∷ 4 ∷ 3 ∷ 2 ∷ 0 ∷ 9 ∷ 10 ∷ 11 ∷ 12 ∷ 13 ∷ 14 ∷ 15 ∷ 16 ∷ 17 ∷ 18 ∷ 19 ∷ 20 ∷ 21 ∷ 22 ∷ 23 ∷ 24 ∷ 25 ∷ 26 ∷ 27 ∷ 28 ∷ 29 ∷ 30 ∷ 31 ∷ 32 ∷ 33 ∷ 34 ∷ 35 ∷ 36 ∷ 37 ∷ 38 ∷ 39 ∷ 40 ∷ 41 ∷ 42 ∷ 43 ∷ 44 ∷ []) $ picks₀ l₀ l₁ l₂ l₃ l₄ l₅ l₆ l₇ l₈ l₉ l₁₀ l₁₁ l₁₂ l₁₃ l₁₄ l₁₅ l₁₆ l₁₇))))))))))))))))))
+        qed W ((‵ (flft κ₀ q₀) ⊛ ‵ (flft κ₁ q₁) ⊛ ‵ (flft κ₂ q₂) ⊛ ‵ ftrue) ∷ ‵ (owns (u32 ∷ ShrSlice (named 0) κ₀ u8 ∷ MutSlice (named 1) κ₁ u8 ∷ MutSlice (named 2) κ₂ T.the-row ∷ []) a vals) ∷ []) ∵ enter ! C Λ (function big huge large n most-bound bound next) ((vint w32 form) ∷ s-src ∷ s-can ∷ s-rec ∷ []) _ $
+        alloc1 ! (λ l₀. alloc1 ! (λ l₁. alloc1 ! (λ l₂. alloc1 ! (λ l₃. alloc1 ! (λ l₄. alloc1 ! (λ l₅. alloc1 ! (λ l₆. alloc1 ! (λ l₇. alloc1 ! (λ l₈. alloc1 ! (λ l₉. alloc1 ! (λ l₁₀. alloc1 ! (λ l₁₁. alloc1 ! (λ l₁₂. alloc1 ! (λ l₁₃. alloc1 ! (λ l₁₄. alloc1 ! (λ l₁₅. alloc1 ! (λ l₁₆. alloc1 ! (λ l₁₇. alloc1 ! (λ l₁₈. alloc1 ! (λ l₁₉. alloc1 ! (λ l₂₀. alloc1 ! (λ l₂₁. alloc0 ! $ params1 ! $ pass1 ! (init ! 40 refl (tt, record { fits = form-fits })) $ pass1 ! (init ! 38 refl (tt, (tt, (record { fits = src-room .0 }, tt)))) $ pass1 ! (init ! 36 refl (tt, (tt, (record { fits = can-room .0 }, tt)))) $ pass1 ! (init ! 34 refl (tt, (tt, (record { fits = rec-room .0 }, tt)))) $ pass0 ! $
+        move ! (45 ∷ []) $ fsplit ! $ move ! (1 ∷ []) $ fsplit ! $ move ! (1 ∷ []) $ fsplit ! $ move ! (1 ∷ []) $ fsplit ! $ move ! (49 ∷ []) $ split ! $ move ! (1 ∷ []) $ split ! $ move ! (1 ∷ []) $ split ! $ keep ! (7 ∷ 6 ∷ 4 ∷ 3 ∷ 2 ∷ 0 ∷ 9 ∷ 10 ∷ 11 ∷ 12 ∷ 13 ∷ 14 ∷ 15 ∷ 16 ∷ 17 ∷ 18 ∷ 19 ∷ 20 ∷ 21 ∷ 22 ∷ 23 ∷ 24 ∷ 25 ∷ 26 ∷ 27 ∷ 28 ∷ 29 ∷ 30 ∷ 31 ∷ 32 ∷ 33 ∷ 34 ∷ 35 ∷ 36 ∷ 37 ∷ 38 ∷ 39 ∷ 40 ∷ 41 ∷ 42 ∷ 43 ∷ 44 ∷ 45 ∷ 46 ∷ 47 ∷ 48 ∷ 49 ∷ 50 ∷ 51 ∷ 52 ∷ []) $ picks₀ l₀ l₁ l₂ l₃ l₄ l₅ l₆ l₇ l₈ l₉ l₁₀ l₁₁ l₁₂ l₁₃ l₁₄ l₁₅ l₁₆ l₁₇ l₁₈ l₁₉ l₂₀ l₂₁))))))))))))))))))))))
 
-module _ {M : Type 1} (𝓤 : URA M) (H : Heap 𝓤) (A : Atoms 𝓤) (W : Given 𝓤 H A) (mem : Memory → SProp 𝓤) (run : Routine → Fun 𝓤) (big large : Bool) (n bound : ℕ) (next : Name) (n-room : Room usize n) (bound-fits : bound < 2 ^ 64) (enough : (m : ℕ) → m ≤ bound → Noteable m n) (𝓣 : Tables 𝓤 H)
+module _ {M : Type 1} (𝓤 : URA M) (H : Heap 𝓤) (A : Atoms 𝓤) (W : Given 𝓤 H A) (mem : Memory → SProp 𝓤) (run : Routine → Fun 𝓤) (big huge large : Bool) (n most-bound bound : ℕ) (next : Name) (n-room : Room usize n) (most-bound-fits : most-bound < 2 ^ 64) (bound-fits : bound < 2 ^ 64) (enough : (m : ℕ) → m ≤ bound → Noteable m n) (𝓣 : Tables 𝓤 H)
     (known-core : Triple 𝓤 (𝓣 .C #core) (Core 𝓤 H A mem run)) (known-next : Triple 𝓤 (𝓣 .C next) (Next 𝓤 H A mem run)) where
-  walks : Walks 𝓤 H A entry.ended stayed (WpFn 𝓤 H (𝓣 .C) (𝓣 .Λ) (function big large n bound next)) (entry.clauses 𝓤 H A mem run)
-  walks = walked 𝓤 H A entry.ended stayed (entry.clauses 𝓤 H A mem run) (WpFn 𝓤 H (𝓣 .C) (𝓣 .Λ) (function big large n bound next))
+  walks : Walks 𝓤 H A entry.ended stayed (WpFn 𝓤 H (𝓣 .C) (𝓣 .Λ) (function big huge large n most-bound bound next)) (entry.clauses 𝓤 H A mem run)
+  walks = walked 𝓤 H A entry.ended stayed (entry.clauses 𝓤 H A mem run) (WpFn 𝓤 H (𝓣 .C) (𝓣 .Λ) (function big huge large n most-bound bound next))
       (λ κs. (uint-vals w32, (slice-vals, (slice-vals, (slice-vals, tt))))) (λ κs. (uint-tells w32, (shr-slice-tells (named 0) (κs .0) u8, (mut-slice-tells (named 1) (κs .1 .0) u8, (mut-slice-tells (named 2) (κs .1 .1 .0) T.the-row, tt)))))
-      (λ κs qs bounds a g are. via 𝓤 _ (fst∗ 𝓤 _ (emp 𝓤)) (walk 𝓤 H A W mem run big large n bound next n-room bound-fits enough (κs .0) (κs .1 .0) (κs .1 .1 .0) (qs .0) (qs .1 .0) (qs .1 .1 .0) (a .0) (a .1 .0) (a .1 .1 .0) (a .1 .1 .1 .0) (are .0 .1) (are .1 .0 .0 .1) (are .1 .1 .0 .0 .1) (are .1 .1 .1 .0 .0 .1) 𝓣 known-core known-next))
+      (λ κs qs bounds a g are. via 𝓤 _ (fst∗ 𝓤 _ (emp 𝓤)) (walk 𝓤 H A W mem run big huge large n most-bound bound next n-room most-bound-fits bound-fits enough (κs .0) (κs .1 .0) (κs .1 .1 .0) (qs .0) (qs .1 .0) (qs .1 .1 .0) (a .0) (a .1 .0) (a .1 .1 .0) (a .1 .1 .1 .0) (are .0 .1) (are .1 .0 .0 .1) (are .1 .1 .0 .0 .1) (are .1 .1 .1 .0 .0 .1) 𝓣 known-core known-next))
 
-  pub meets : Meets 𝓤 H A entry.signature (WpFn 𝓤 H (𝓣 .C) (𝓣 .Λ) (function big large n bound next)) (entry.spec 𝓤 H A mem run)
+  pub meets : Meets 𝓤 H A entry.signature (WpFn 𝓤 H (𝓣 .C) (𝓣 .Λ) (function big huge large n most-bound bound next)) (entry.spec 𝓤 H A mem run)
   meets =
       walk-meets 𝓤 H A entry.ended stayed W (goes-dropped 𝓤 H A W 3 (plain (λ _. u32)) yes (λ κs x f. refl), (goes-dropped 𝓤 H A W 3 (shrSliceOf (0 ∷ []) tt (plain (λ _. u8))) yes (λ κs x f. refl), (goes-gave-slice 𝓤 H A W 3 1 tt (plain (λ _. u8)), (goes-gave-slice 𝓤 H A W 3 2 tt (plain (λ _. T.the-row)), tt))))
-      (entry.clauses 𝓤 H A mem run) (WpFn 𝓤 H (𝓣 .C) (𝓣 .Λ) (function big large n bound next)) (WpFn-mono 𝓤 H (W .laws) 𝓣 (function big large n bound next)) walks
+      (entry.clauses 𝓤 H A mem run) (WpFn 𝓤 H (𝓣 .C) (𝓣 .Λ) (function big huge large n most-bound bound next)) (WpFn-mono 𝓤 H (W .laws) 𝓣 (function big huge large n most-bound bound next)) walks

@@ -29,7 +29,7 @@ use denote.Triple.Walked.{says}
 use Rattle.answers.specs.declared.Reading.{Reading}
 use Rattle.answers.proofs.Reading as R
 use Rattle.answers.proofs.Reading.Laws as R′
-use Rattle.records.specs.Told.{touched, countOf, told, Tells}
+use Rattle.records.specs.Told.{touched, countOf, toldRecords, Tells}
 use Rattle.records.proofs.tell as tell
 use Rattle.records.specs.declared.Record.{Record}
 use Rattle.records.proofs.Spelled.{Notes}
@@ -60,4 +60,4 @@ module _ {M : Type 1} (𝓤 : URA M) (H : Heap 𝓤) (A : Atoms 𝓤) (W : Given
   Told w = later (some (λ (z : Unit {0}). ((‵ (flft κ q) ⊛ ‵ (flft (ν ∷ []) fullShare) ⊛ ‵ ftrue) ⊛ ‵ (unit .own z (w ∷ []))) ⊛ raw (ensured 𝓤 H A tell.ended (tell.clauses 𝓤 H A mem run) (κ, (ν ∷ [], tt)) (rec, (at-local l ε f′, (r, (old, tt)))) tt z)))
 
   abbrev pub TellLast : Item 𝓤
-  TellLast = some (λ (ws : List Record × (Unit {0} × (Unit {0} × (Unit {0} × Unit {0})))). ‵ (lasts tell.ended (κ, (ν ∷ [], tt)) (rec, (at-local l ε f′, (r, (old, tt)))) ws) ⊛ raw (fact 𝓤 (ws .0 ≡ told f′ (countOf r) (touched r old) (rec .now))))
+  TellLast = some (λ (ws : List Record × (Unit {0} × (Unit {0} × (Unit {0} × Unit {0})))). ‵ (lasts tell.ended (κ, (ν ∷ [], tt)) (rec, (at-local l ε f′, (r, (old, tt)))) ws) ⊛ raw (fact 𝓤 (ws .0 ≡ toldRecords f′ (countOf r) (touched r old) (rec .now))))

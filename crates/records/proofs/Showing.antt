@@ -12,14 +12,14 @@ use Rattle.answers.specs.declared.Place.{Place}
 use Rattle.answers.specs.declared.Place.the-variants as place
 use Rattle.lookup.proofs.Shown.{hint-ordered, hint-ended, data-ordered, data-ended}
 use Rattle.records.specs.declared.Record.{Record}
-use Rattle.records.specs.Numbers.{numbers, placeOf}
+use Rattle.records.specs.Numbers.{numbers, partOf}
 use Rattle.records.specs.Places.{Inside}
-use Rattle.lookup.specs.Noted.{Owning, Shows}
+use Rattle.lookup.specs.Noted.{Owning, ShowsPlace}
 
 -- by the notes of a sheet that has these records
 pub place-noted : (c : List ℕ) (len : ℕ) (ys : List Record) (count node : ℕ) (h : Bool) (notes : List ℕ) (own : Bool) (p : Place)
-    → Owning c len (numbers ys) count notes own → Shows notes count node own h p → placed p ≡ placeOf h c len (numbers ys) count node
-unfolding placeOf
+    → Owning c len (numbers ys) count notes own → ShowsPlace notes count node own h p → placed p ≡ partOf h c len (numbers ys) count node
+unfolding partOf
 place-noted c len ys count node h notes own p o s = s .is c len (numbers ys) o
 
 -- ---- in a sheet

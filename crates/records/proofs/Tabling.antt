@@ -25,7 +25,7 @@ use Rattle.answers.specs.declared.Reading.the-variants.{Accepted, Refused}
 use Rattle.answers.specs.declared.Refusal.{Refusal}
 use Rattle.records.specs.declared.Record.{Record}
 use Rattle.records.specs.Numbers.{nine, numbers}
-use Rattle.records.specs.Told.{nil, touched, recordOf, parentAt, countOf, toldAt, told, Tellable, Tells}
+use Rattle.records.specs.Told.{nil, touched, recordOf, parentAt, countOf, toldAt, toldRecords, Tellable, Tells}
 use Rattle.records.proofs.Tables.{length-numbers, numbers-set, nine-more, next-nine}
 
 -- ---- one record
@@ -84,19 +84,19 @@ module _ (notes : List ℕ) (r : Reading) (i : ℕ) where
 -- ---- n of them
 
 module _ (notes : List ℕ) (count : ℕ) where
-  pub length-told : (n : ℕ) (xs : List Record) → length (told notes count n xs) ≡ length xs
-  unfolding told
+  pub length-told : (n : ℕ) (xs : List Record) → length (toldRecords notes count n xs) ≡ length xs
+  unfolding toldRecords
   length-told zero xs = refl
-  length-told (suc n) xs = length-set (told notes count n xs) n (toldAt notes count n) ∙ length-told n xs
+  length-told (suc n) xs = length-set (toldRecords notes count n xs) n (toldAt notes count n) ∙ length-told n xs
 
   module _ (F : List ℕ) where
     numbers-told : (n : ℕ) (xs : List Record) → n ≤ length xs → 9 * n ≤ length F → ((i : ℕ) → i < n → take 9 (drop (9 * i) F) ≡ nine (toldAt notes count i))
-        → numbers (told notes count n xs) ≡ take (9 * n) F ++ drop (9 * n) (numbers xs)
-    unfolding told
+        → numbers (toldRecords notes count n xs) ≡ take (9 * n) F ++ drop (9 * n) (numbers xs)
+    unfolding toldRecords
     numbers-told zero xs h l g = refl
     numbers-told (suc n) xs h l g =
-        numbers-set (told notes count n xs) n (toldAt notes count n) (omega (arith, length-told n xs))
-        ∙ ap (λ (v : List ℕ). sets (numbers (told notes count n xs)) (9 * n) v) (sym (g n (omega arith)))
+        numbers-set (toldRecords notes count n xs) n (toldAt notes count n) (omega (arith, length-told n xs))
+        ∙ ap (λ (v : List ℕ). sets (numbers (toldRecords notes count n xs)) (9 * n) v) (sym (g n (omega arith)))
         ∙ ap (λ (k : List ℕ). sets k (9 * n) (take 9 (drop (9 * n) F))) (numbers-told n xs (omega arith) (omega arith) (λ i m. g i (omega arith)))
         ∙ next-nine F (numbers xs) n (omega arith) (omega (arith, length-numbers xs))
 
@@ -138,7 +138,7 @@ module _ (notes : List ℕ) (count : ℕ) (t : Tree) (g : Holds notes count t) (
       ∙ ap₂ table.recorded (sym (holds-row notes count t g i inside)) (sym (holds-parent notes count t g i inside))
       ∙ ap nine (sym (told-inside notes count i inside)))
 
-  pub told-is : (n : ℕ) (xs : List Record) → n ≡ count + m → n ≤ length xs → numbers (told notes count n xs) ≡ tableOf t ++ (replicate (9 * m) 0 ++ drop (9 * n) (numbers xs))
+  pub told-is : (n : ℕ) (xs : List Record) → n ≡ count + m → n ≤ length xs → numbers (toldRecords notes count n xs) ≡ tableOf t ++ (replicate (9 * m) 0 ++ drop (9 * n) (numbers xs))
   told-is n xs e h =
       numbers-told notes count whole n xs h (omega (arith, whole-length)) (λ i k. told-whole i (omega arith))
       ∙ ap (λ (l : List ℕ). l ++ drop (9 * n) (numbers xs)) (take-all (9 * n) whole (omega (arith, whole-length)))
@@ -146,7 +146,7 @@ module _ (notes : List ℕ) (count : ℕ) (t : Tree) (g : Holds notes count t) (
 
 -- what lies between the new records and larger old ones is zeroed
 pub told-settled : (notes : List ℕ) (count : ℕ) (t : Tree) → Holds notes count t → (old : ℕ) (xs : List Record) → max old count ≤ length xs
-    → numbers (told notes count (max old count) xs) ≡ settled (numbers xs) (9 * old) (tableOf t)
+    → numbers (toldRecords notes count (max old count) xs) ≡ settled (numbers xs) (9 * old) (tableOf t)
 unfolding settled
 told-settled notes count t g old xs h =
     let a : 9 * (max old count - count) ≡ 9 * old - length (tableOf t) = omega (arith, table-length t, g .counted) in
@@ -166,8 +166,8 @@ module _ (answer : List ℕ → Outcome) (c : List ℕ) (ys : List Record) (note
   put-tells (Accepted len count) p = record { lent = omega (arith, p .recorded); read = λ i h. holds-readable notes count (p .tree) (p .held) i h }
   put-tells (Refused f) p = record { lent = omega arith; read = λ i h. absurd (omega arith) }
 
-  pub put-told : (r : Reading) → Puts answer c (length ys) notes r → outcome r c (numbers (told notes (countOf r) (touched r 0) ys)) ≡ answer (numbers ys)
-  unfolding Puts countOf touched told
+  pub put-told : (r : Reading) → Puts answer c (length ys) notes r → outcome r c (numbers (toldRecords notes (countOf r) (touched r 0) ys)) ≡ answer (numbers ys)
+  unfolding Puts countOf touched toldRecords
   put-told (Accepted len count) p =
       ap (outcome (Accepted len count) c) (
       told-settled notes count (p .tree) (p .held) 0 ys (omega (arith, p .recorded))
@@ -183,8 +183,8 @@ module _ (Lent : List ℕ → Type 0) (answer : List ℕ → Outcome) (c : List 
   give-tells (Accepted len count) p = record { lent = omega (arith, p .recorded .0, p .recorded .1); read = λ i h. holds-readable notes count (p .tree) (p .held) i h }
   give-tells (Refused f) p = record { lent = omega arith; read = λ i h. absurd (omega arith) }
 
-  pub give-told : Lent (numbers ys) → (r : Reading) → Gives Lent answer c (length ys) notes old r → outcome r c (numbers (told notes (countOf r) (touched r old) ys)) ≡ answer (numbers ys)
-  unfolding Gives countOf touched told
+  pub give-told : Lent (numbers ys) → (r : Reading) → Gives Lent answer c (length ys) notes old r → outcome r c (numbers (toldRecords notes (countOf r) (touched r old) ys)) ≡ answer (numbers ys)
+  unfolding Gives countOf touched toldRecords
   give-told l (Accepted len count) p =
       ap (outcome (Accepted len count) c) (told-settled notes count (p .tree) (p .held) old ys (omega (arith, p .recorded .0, p .recorded .1))) ∙ p .is (numbers ys) l
   give-told l (Refused f) p = p (numbers ys) l

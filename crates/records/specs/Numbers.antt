@@ -17,5 +17,5 @@ numbers [] = []
 numbers (r ∷ rs) = nine r ++ numbers rs
 
 -- where a node's hint stands, or its data: 01, "Asked for a node's hint, we show the part of the sheet that holds it …", "Asked for data …"
-unfoldable pub placeOf : Bool → List ℕ → ℕ → List ℕ → ℕ → ℕ → Option Part
-placeOf hinted canonical len table count node = pick hinted (hintPart canonical len table count node) (dataPart canonical len table count node)
+unfoldable pub partOf : Bool → List ℕ → ℕ → List ℕ → ℕ → ℕ → Option Part
+partOf hinted canonical len table count node = pick hinted (hintPart canonical len table count node) (dataPart canonical len table count node)

@@ -52,9 +52,9 @@ unfoldable pub toldAt : List ℕ → ℕ → ℕ → Record
 toldAt notes count i = pick (ltb i count) (recordOf (rowAt notes i) (parentAt notes i)) nil
 
 -- the first n records become these
-unfoldable pub told : List ℕ → ℕ → ℕ → List Record → List Record
-told notes count zero xs = xs
-told notes count (suc n) xs = set (told notes count n xs) n (toldAt notes count n)
+unfoldable pub toldRecords : List ℕ → ℕ → ℕ → List Record → List Record
+toldRecords notes count zero xs = xs
+toldRecords notes count (suc n) xs = set (toldRecords notes count n xs) n (toldAt notes count n)
 
 -- the note of a node can be read
 pub record Tellable (notes : List ℕ) (r : Reading) (i : ℕ) : Type 0 where

@@ -7,16 +7,16 @@ mod piecing; // piecing.rt: texts in pieces
 mod told; // told.rt: the record that a note tells
 
 ghost use mathlib.Core.Path.{_≡_};
-ghost use lib.ListN.{length};
+ghost use lib.ListN.{length as size};
 ghost use mathlib.Core.List.{[]};
 ghost use Rattle.model.specs.Answers.{reading, replacing, hintPart, dataPart, hintShown, dataShown, shownOr};
 ghost use Rattle.answers.specs.Cases.{outcome, placed};
 ghost use Rattle.answers.specs.Shown.{Shows, shownAt};
 ghost use Rattle.lookup.specs.Noted.{Notes};
 ghost use Rattle.reader.specs.Stored.{Noteable};
-ghost use Rattle.records.specs.Numbers.{numbers, placeOf};
+ghost use Rattle.records.specs.Numbers.{numbers, partOf};
 ghost use Rattle.records.specs.Places.{Inside};
-ghost use Rattle.records.specs.Told.{countOf, touched, told, agreed, looked, Tells, Comparable};
+ghost use Rattle.records.specs.Told.{countOf, touched, toldRecords, agreed, looked, Tells, Comparable};
 use answers::Place;
 use answers::Reading;
 use asked::change;
@@ -42,8 +42,8 @@ pub struct Record {
 
 // The records that an answer touches become those that notes tell.
 fn tell(records: &mut [Record], notes: &[usize; limits::NODES], r: Reading, old: usize)
-    requires { ⌜ Tells (now notes) r old (length (now records)) ⌝ }
-    ensures { λ _. ⌜ now (records .exit) ≡ told (now (notes .entry)) (countOf r) (touched r old) (now (records .entry)) ⌝ }
+    requires { ⌜ Tells (now notes) r old (size (now records)) ⌝ }
+    ensures { λ _. ⌜ now (records .exit) ≡ toldRecords (now (notes .entry)) (countOf r) (touched r old) (now (records .entry)) ⌝ }
 {
     let n = told::touched_by(r, old);
     let mut i: usize = 0;
@@ -56,7 +56,7 @@ fn tell(records: &mut [Record], notes: &[usize; limits::NODES], r: Reading, old:
 
 // Whether the records in use are those that notes tell.
 pub fn holds(records: &[Record], notes: &[usize; limits::NODES], noted: bool, nodes: usize) -> bool
-    requires { ⌜ Comparable (now notes) noted nodes (length (now records)) ⌝ }
+    requires { ⌜ Comparable (now notes) noted nodes (size (now records)) ⌝ }
     ensures { λ b. ⌜ b ≡ agreed (now (records .entry)) (now (notes .entry)) noted (looked noted nodes) ⌝ }
 {
     let n = told::looked_at(noted, nodes);
@@ -72,8 +72,8 @@ pub fn holds(records: &[Record], notes: &[usize; limits::NODES], noted: bool, no
 
 // The records that an answer touches become those that notes of any number tell.
 fn tell_by(records: &mut [Record], notes: &[usize], r: Reading, old: usize)
-    requires { ⌜ Tells (now notes) r old (length (now records)) ⌝ }
-    ensures { λ _. ⌜ now (records .exit) ≡ told (now (notes .entry)) (countOf r) (touched r old) (now (records .entry)) ⌝ }
+    requires { ⌜ Tells (now notes) r old (size (now records)) ⌝ }
+    ensures { λ _. ⌜ now (records .exit) ≡ toldRecords (now (notes .entry)) (countOf r) (touched r old) (now (records .entry)) ⌝ }
 {
     let n = told::touched_by(r, old);
     let mut i: usize = 0;
@@ -86,7 +86,7 @@ fn tell_by(records: &mut [Record], notes: &[usize], r: Reading, old: usize)
 
 // Whether the records in use are those that notes of any number tell.
 fn holds_by(records: &[Record], notes: &[usize], noted: bool, nodes: usize) -> bool
-    requires { ⌜ Comparable (now notes) noted nodes (length (now records)) ⌝ }
+    requires { ⌜ Comparable (now notes) noted nodes (size (now records)) ⌝ }
     ensures { λ b. ⌜ b ≡ agreed (now (records .entry)) (now (notes .entry)) noted (looked noted nodes) ⌝ }
 {
     let n = told::looked_at(noted, nodes);
@@ -108,7 +108,7 @@ fn read_in(
     records: &mut [Record],
     notes: &mut [usize],
 ) -> Reading
-    requires { ⌜ Noteable (length (now source)) (length (now notes)) ⌝ }
+    requires { ⌜ Noteable (size (now source)) (size (now notes)) ⌝ }
     ensures { λ r. ⌜ outcome r (now (canonical .exit)) (numbers (now (records .exit))) ≡ reading form (now (source .entry)) (now (canonical .entry)) (numbers (now (records .entry))) ⌝ }
 {
     let r = reader::read_notes(form, source, canonical, notes, records.len());
@@ -128,6 +128,9 @@ fn read_long(form: u32, source: &[u8], canonical: &mut [u8], records: &mut [Reco
 fn read_middle(form: u32, source: &[u8], canonical: &mut [u8], records: &mut [Record]) -> Reading
     ensures { λ r. ⌜ outcome r (now (canonical .exit)) (numbers (now (records .exit))) ≡ reading form (now (source .entry)) (now (canonical .entry)) (numbers (now (records .entry))) ⌝ }
 {
+    if source.len() > limits::SOURCE {
+        return read_long(form, source, canonical, records);
+    }
     if source.len() > limits::MIDDLE {
         return read_long(form, source, canonical, records);
     }
@@ -140,6 +143,10 @@ fn read_middle(form: u32, source: &[u8], canonical: &mut [u8], records: &mut [Re
 pub fn read(form: u32, source: &[u8], canonical: &mut [u8], records: &mut [Record]) -> Reading
     ensures { λ r. ⌜ outcome r (now (canonical .exit)) (numbers (now (records .exit))) ≡ reading form (now (source .entry)) (now (canonical .entry)) (numbers (now (records .entry))) ⌝ }
 {
+    // A function that is called at two places keeps a frame of its own; else each short call would pay for the largest.
+    if source.len() > limits::MIDDLE {
+        return read_middle(form, source, canonical, records);
+    }
     if source.len() > limits::SHORT {
         return read_middle(form, source, canonical, records);
     }
@@ -175,8 +182,8 @@ fn place_in(
     hinted: bool,
     notes: &mut [usize],
 ) -> Place
-    requires { ⌜ Notes nodes (length (now notes)) ⌝ }
-    ensures { λ r. ⌜ placed r ≡ placeOf hinted (now (canonical .entry)) len (numbers (now (records .entry))) nodes node ⌝ }
+    requires { ⌜ Notes nodes (size (now notes)) ⌝ }
+    ensures { λ r. ⌜ placed r ≡ partOf hinted (now (canonical .entry)) len (numbers (now (records .entry))) nodes node ⌝ }
 {
     let noted = lookup::note_in(canonical, len, notes, records.len(), nodes);
     let own = holds_by(records, notes, noted, nodes);
@@ -192,7 +199,7 @@ fn place_long(
     node: usize,
     hinted: bool,
 ) -> Place
-    ensures { λ r. ⌜ placed r ≡ placeOf hinted (now (canonical .entry)) length (numbers (now (records .entry))) nodes node ⌝ }
+    ensures { λ r. ⌜ placed r ≡ partOf hinted (now (canonical .entry)) length (numbers (now (records .entry))) nodes node ⌝ }
 {
     let mut notes: [usize; limits::NODES] = [0; limits::NODES];
     place_in(canonical, length, records, nodes, node, hinted, &mut notes)
@@ -207,8 +214,11 @@ fn place_middle(
     node: usize,
     hinted: bool,
 ) -> Place
-    ensures { λ r. ⌜ placed r ≡ placeOf hinted (now (canonical .entry)) length (numbers (now (records .entry))) nodes node ⌝ }
+    ensures { λ r. ⌜ placed r ≡ partOf hinted (now (canonical .entry)) length (numbers (now (records .entry))) nodes node ⌝ }
 {
+    if nodes > limits::NODES {
+        return place_long(canonical, length, records, nodes, node, hinted);
+    }
     if nodes > limits::MIDDLE_NOTES {
         return place_long(canonical, length, records, nodes, node, hinted);
     }
@@ -225,8 +235,12 @@ pub fn place(
     node: usize,
     hinted: bool,
 ) -> Place
-    ensures { λ r. ⌜ placed r ≡ placeOf hinted (now (canonical .entry)) length (numbers (now (records .entry))) nodes node ⌝ }
+    ensures { λ r. ⌜ placed r ≡ partOf hinted (now (canonical .entry)) length (numbers (now (records .entry))) nodes node ⌝ }
 {
+    // At two places, as in `read`.
+    if nodes > limits::MIDDLE_NOTES {
+        return place_middle(canonical, length, records, nodes, node, hinted);
+    }
     if nodes > limits::SHORT_NOTES {
         return place_middle(canonical, length, records, nodes, node, hinted);
     }
@@ -236,7 +250,7 @@ pub fn place(
 
 // The part of the sheet at a place, else what is given.
 fn shown_or<'a>(canonical: &'a [u8], p: Place, other: &'a [u8]) -> &'a [u8]
-    requires { ⌜ Inside p (length (now canonical)) ⌝ }
+    requires { ⌜ Inside p (size (now canonical)) ⌝ }
     ensures { λ r. ⌜ Shows r (shownOr (placed p) (now (canonical .entry)) (now (other .entry))) (shownAt (placed p) (canonical .entry .ptr) (other .entry .ptr)) ⌝ }
 {
     match p {
@@ -247,7 +261,7 @@ fn shown_or<'a>(canonical: &'a [u8], p: Place, other: &'a [u8]) -> &'a [u8]
 
 // The part of the sheet at a place, else an empty part at its front.
 fn shown<'a>(canonical: &'a [u8], p: Place) -> &'a [u8]
-    requires { ⌜ Inside p (length (now canonical)) ⌝ }
+    requires { ⌜ Inside p (size (now canonical)) ⌝ }
     ensures { λ r. ⌜ Shows r (shownOr (placed p) (now (canonical .entry)) []) (shownAt (placed p) (canonical .entry .ptr) (canonical .entry .ptr)) ⌝ }
 {
     match p {

@@ -17,7 +17,7 @@ use Rattle.decimal.proofs.Writing.{wide-1, wide-2, wide-3, wide-4, wide-5}
 use Rattle.walk.specs.Events.{event, Frame, above, events, stringRow, hintRow}
 use Rattle.sheets.specs.Places.{shift, spanBy}
 use Rattle.sheets.specs.Notes.{noteBy, noteOf, Small}
-use Rattle.sheets.specs.Strung.{Verbatim, Bodied, BodyAt, Strung, plainly, hintedly, stringRowOf, Keepable, KeptString}
+use Rattle.sheets.specs.Strung.{Verbatim, Bodied, BodyFrom, Strung, plainly, hintedly, stringRowOf, Keepable, KeptString}
 
 -- ---- where the octets begin
 
@@ -36,7 +36,7 @@ module _ (pos end : ℕ) (g : Bodied pos end) where
   bodied-from = omega (arith, g .is .long)
 
   -- a string that is so long has w digits
-  body-by : (w : ℕ) → ((n : ℕ) → n ≤ maxSource → end - pos ≡ length (digits n) + 1 + n → length (digits n) ≡ w) → BodyAt pos end (pos + (w + 1))
+  body-by : (w : ℕ) → ((n : ℕ) → n ≤ maxSource → end - pos ≡ length (digits n) + 1 + n → length (digits n) ≡ w) → BodyFrom pos end (pos + (w + 1))
   body-by w f = record { is = at; below = omega (arith, at (g .octets) (g .is), verbatim-length (g .octets), g .is .long) }
     where
       at : (d : List ℕ) → Verbatim d pos end → pos + (w + 1) ≡ bodyStart pos d
@@ -44,19 +44,19 @@ module _ (pos end : ℕ) (g : Bodied pos end) where
           let z : length (digits (length d)) ≡ w = f (length d) (v .few) (omega (arith, v .long, verbatim-length d)) in
           omega arith
 
-  pub body-1 : end - pos < 12 → BodyAt pos end (pos + 2)
+  pub body-1 : end - pos < 12 → BodyFrom pos end (pos + 2)
   body-1 h = body-by 1 (λ n m e. width-by n 1 (end - pos) m e (λ a b. omega arith) (λ a b c. omega arith) (λ a b c. omega arith) (λ a b c. omega arith) (λ a b. omega arith))
 
-  pub body-2 : 12 ≤ end - pos → end - pos < 103 → BodyAt pos end (pos + 3)
+  pub body-2 : 12 ≤ end - pos → end - pos < 103 → BodyFrom pos end (pos + 3)
   body-2 l h = body-by 2 (λ n m e. width-by n 2 (end - pos) m e (λ a b. omega arith) (λ a b c. omega arith) (λ a b c. omega arith) (λ a b c. omega arith) (λ a b. omega arith))
 
-  pub body-3 : 103 ≤ end - pos → end - pos < 1004 → BodyAt pos end (pos + 4)
+  pub body-3 : 103 ≤ end - pos → end - pos < 1004 → BodyFrom pos end (pos + 4)
   body-3 l h = body-by 3 (λ n m e. width-by n 3 (end - pos) m e (λ a b. omega arith) (λ a b c. omega arith) (λ a b c. omega arith) (λ a b c. omega arith) (λ a b. omega arith))
 
-  pub body-4 : 1004 ≤ end - pos → end - pos < 10005 → BodyAt pos end (pos + 5)
+  pub body-4 : 1004 ≤ end - pos → end - pos < 10005 → BodyFrom pos end (pos + 5)
   body-4 l h = body-by 4 (λ n m e. width-by n 4 (end - pos) m e (λ a b. omega arith) (λ a b c. omega arith) (λ a b c. omega arith) (λ a b c. omega arith) (λ a b. omega arith))
 
-  pub body-5 : 10005 ≤ end - pos → BodyAt pos end (pos + 6)
+  pub body-5 : 10005 ≤ end - pos → BodyFrom pos end (pos + 6)
   body-5 l = body-by 5 (λ n m e. width-by n 5 (end - pos) m e (λ a b. omega arith) (λ a b c. omega arith) (λ a b c. omega arith) (λ a b c. omega arith) (λ a b. omega arith))
 
 -- ---- what is kept
@@ -70,7 +70,7 @@ module _ (pos mid end up : ℕ) (g : Keepable pos mid end up) where
         by (plainly d e m v) = record { octets = d; is = v; small = g .small }
         by (hintedly h d to e m v w) = absurd (omega arith)
 
-    module _ (s : ℕ) (b : BodyAt pos end s) where
+    module _ (s : ℕ) (b : BodyFrom pos end s) where
       pub plain-packs : s < shift
       plain-packs = omega (arith, b .below, g .small)
 
@@ -105,7 +105,7 @@ module _ (pos mid end up : ℕ) (g : Keepable pos mid end up) where
     pub data-bodied : Bodied mid end
     data-bodied = hinted (Bodied mid end) (λ h d to m v w. record { octets = d; is = w; small = g .small })
 
-    module _ (from s : ℕ) (a : BodyAt (pos + 1) (mid - 1) from) (b : BodyAt mid end s) where
+    module _ (from s : ℕ) (a : BodyFrom (pos + 1) (mid - 1) from) (b : BodyFrom mid end s) where
       pub data-packs : s < shift
       data-packs = omega (arith, b .below, g .small)
 

@@ -22,7 +22,7 @@ pub record Bodied (pos end : ℕ) : Type 0 where
   pub small : end < shift
 
 -- its octets begin at r
-pub record BodyAt (pos end r : ℕ) : Type 0 where
+pub record BodyFrom (pos end r : ℕ) : Type 0 where
   pub is : (d : List ℕ) → Verbatim d pos end → r ≡ bodyStart pos d
   pub below : r ≤ end
 

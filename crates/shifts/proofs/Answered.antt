@@ -2,13 +2,13 @@
 use Prim.Native.Nat.{ℕ, _/_, _*_, _≤_, _<_}
 use native.Mathlib.Omega.{arith}
 use mathlib.Core.Path.{_≡_, refl, sym, ap, _∙_, subst}
-use mathlib.Core.Bool.{Bool, true, false}
+use mathlib.Core.Bool.{Bool, true, false, not}
 use mathlib.Core.Option.{Option, none, some}
 use mathlib.Core.List.{List, [], _∷_}
 use lib.ListN.{length}
 use lib.Dec.{leb, eqb}
 use borrow.Author.Tests.{le-leb, lt-leb, eq-eqb}
-use Rattle.base.specs.Choice.{pick, not, chain, isNone, equal, both}
+use Rattle.base.specs.Choice.{pick, chain, isNone, equal, both}
 use Rattle.base.proofs.Cases.{differ, picked, unpicked, some-same, none-some}
 use Rattle.model.specs.Limits.{Accepted, mostNodes}
 use Rattle.model.specs.Answers.{Check, when, verdict, judged, the, sheetTree, owns, ownTree}

@@ -6,7 +6,7 @@ use mathlib.Core.List.{List, [], _∷_, _++_}
 use lib.ListN.{List·getD-append, length, getD}
 use lib.Seq.{getD-append-add}
 use Rattle.base.proofs.Cases.{by-le}
-use Rattle.model.specs.Table.{Row, numbers, plainRow, rows, rowss, rowOf}
+use Rattle.model.specs.Table.{Row, rowNumbers, plainRow, rows, rowss, rowOf}
 use Rattle.model.specs.Tree.{Tree, plain, hinted, list, Forest, nil, cons, canon, nodes, nodess}
 use Rattle.walk.proofs.Tabled.{rows-length}
 use Rattle.sheets.specs.Rows.{rowList, RowIs}
@@ -55,7 +55,7 @@ mutual
 
 pub row-same : (r : coded.Row) (row : Row) → RowIs r row → rowFor r ≡ row
 row-same r row e =
-    let at : (k : ℕ) → getD (rowList r) k 0 ≡ getD (numbers row) k 0 = λ k. ap (λ (l : List ℕ). getD l k 0) e in
+    let at : (k : ℕ) → getD (rowList r) k 0 ≡ getD (rowNumbers row) k 0 = λ k. ap (λ (l : List ℕ). getD l k 0) e in
     λ i. record { kind = at 0 i; start = at 1 i; end = at 2 i; count = at 3 i; hintStart = at 4 i; hintEnd = at 5 i; dataStart = at 6 i; dataEnd = at 7 i }
 
 module _ (c notes : List ℕ) (count node : ℕ) (k : KnownAt c notes count node) where

@@ -2,11 +2,11 @@
 use Prim.Native.Nat.{ℕ, _+_, _-_, _≤_, _<_}
 use native.Mathlib.Omega.{arith}
 use mathlib.Core.Path.{_≡_, refl, sym, ap, ap₂, _∙_, subst}
-use mathlib.Core.Bool.{Bool, true, false}
+use mathlib.Core.Bool.{Bool, true, false, not}
 use mathlib.Core.Option.{none, some}
 use mathlib.Core.List.{List, []}
 use lib.ListN.{length, length-drop, take, drop}
-use Rattle.base.specs.Choice.{not, isNone}
+use Rattle.base.specs.Choice.{isNone}
 use Rattle.base.proofs.Cases.{not-true, not-false}
 use Rattle.model.specs.Answers.{sheetTree, Part, part, octetsAt}
 use Rattle.model.specs.Limits.{maxCanonical}

@@ -2,13 +2,13 @@
 use Prim.Native.Nat.{ℕ, zero, suc, _+_, _-_, _≤_, _<_}
 use native.Mathlib.Omega.{arith}
 use mathlib.Core.Path.{_≡_, refl, sym, ap, _∙_, subst}
-use mathlib.Core.Bool.{Bool, true, false}
+use mathlib.Core.Bool.{Bool, true, false, not}
 use mathlib.Core.List.{List, _∷_}
 use lib.ListN.{length, length-append, getD, take, set, List·getD-eq-default}
 use lib.Seq.{length-take-le}
 use lib.Dec.{leb, ltb}
 use borrow.Author.Tests.{lt-ltb, le-ltb, le-leb, lt-leb, eq-eqb, ne-eqb, ltb-true, ltb-false, leb-true}
-use Rattle.base.specs.Choice.{pick, both, not}
+use Rattle.base.specs.Choice.{pick, both}
 use Rattle.base.proofs.Cases.{by-bool, by-le, by-eq, picked, unpicked, both-true, true-both, not-true, differ}
 use Rattle.model.specs.Limits.{maxCanonical}
 use Rattle.spools.specs.Adding.{Store, store, lastly, stores, storesOf, going}

@@ -2,11 +2,11 @@
 use Prim.Native.Nat.{ℕ, zero, suc, _≤_, _<_}
 use native.Mathlib.Omega.{arith}
 use mathlib.Core.Path.{_≡_, refl, sym, ap, _∙_}
-use mathlib.Core.Bool.{Bool, true, false}
+use mathlib.Core.Bool.{Bool, true, false, not}
 use mathlib.Core.List.{List}
 use lib.ListN.{length}
 use lib.Dec.{ltb}
-use Rattle.base.specs.Choice.{pick, not, isNone}
+use Rattle.base.specs.Choice.{pick, isNone}
 use Rattle.base.proofs.Cases.{picked, unpicked, among-in, among-low, among-high}
 use Rattle.model.specs.Answers.{verdict, judged, noOutForm, sheetTree, settled, unwritten, written, writingChecks, writing}
 use Rattle.model.proofs.Judging.{judged-refused, verdict-here, verdict-past}

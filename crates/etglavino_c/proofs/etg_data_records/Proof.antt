@@ -3,7 +3,7 @@ use mathlib.Core.Bool.{false}
 use contract.Running.{givenOf, tables, tablesOf}
 use denote.Triple.Spec.{tripleOf}
 use denote.Triple.Table.{entered, cited}
-use Rattle.records.specs.Numbers.{placeOf}
+use Rattle.records.specs.Numbers.{partOf}
 use Rattle.records.proofs.Placing.{Placing}
 use Rattle.records.proofs.place.Symbol as place-def
 use Rattle.records.proofs.place.Symbol.{name as #place}
@@ -19,7 +19,7 @@ use Rattle.etglavino_c.proofs.etg_data_records.Statement as stated
 use Rattle.etglavino_c.proofs.etg_data_records.Code as code
 
 pub etg-data-records-spec : {M : Type 1} → stated.statement M
-unfolding code.routine tablesOf placeOf
+unfolding code.routine tablesOf partOf
 etg-data-records-spec 𝓤 H 𝓜 𝓖 𝓡 =
     entered 𝓤 H (tripleOf 𝓤 H (𝓖 .A) entry.signature (entry.spec 𝓤 H (𝓖 .A) (𝓜 .mem) (𝓡 .run)))
     (tables 𝓤 H 𝓜 𝓡 code.env .C) (tables 𝓤 H 𝓜 𝓡 code.env .Λ) #entry code.function (code.unfolded 𝓤 H 𝓜 𝓡)

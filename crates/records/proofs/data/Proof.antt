@@ -44,7 +44,7 @@ use Rattle.answers.specs.declared.Place.{Place}
 use Rattle.answers.proofs.Place as P
 use Rattle.answers.proofs.Place.Laws as P′
 use Rattle.records.specs.declared.Record.{Record}
-use Rattle.records.specs.Numbers.{numbers, placeOf}
+use Rattle.records.specs.Numbers.{numbers, partOf}
 use Rattle.records.specs.Places.{Inside}
 use Rattle.records.proofs.Spelled.{word, placeTy, bytes, recs}
 use Rattle.records.proofs.Placing.{Placing, to-place, goes-place, Placed, Left, said-place}
@@ -110,7 +110,7 @@ module _ {M : Type 1} (𝓤 : URA M) (H : Heap 𝓤) (A : Atoms 𝓤) (W : Given
   to-shown p u = (((κ₀, tt), (q₀, tt), tt, (can, (p, tt)), (sc ∷ [], (u ∷ [], tt))), tt)
 
   in-sheet : (p : Place) → At p → Inside p (length (can .now))
-  unfolding placeOf
+  unfolding partOf
   in-sheet p e = data-in p (can .now) len (numbers (rec .now)) nodes node e
 
   goes-shown : (p : Place) (u : Val) → Is P.the-row p (u ∷ []) → At p → ent 𝓤 (⋆ 𝓤 H A (‵ (flft κ₀ q₀) ∷ ‵ Can ∷ [])) (Showing 𝓤 H A mem run .pre (to-shown p u))
@@ -124,7 +124,7 @@ module _ {M : Type 1} (𝓤 : URA M) (H : Heap 𝓤) (A : Atoms 𝓤) (W : Given
   said-shown p z = exE 𝓤 _ (λ ws. snd∗ 𝓤 (sem 𝓤 H A (lasts shown.ended (κ₀, tt) (can, (p, tt)) ws)) (fact 𝓤 (Shown p z)))
 
   exits : (p : Place) (z : RefT (List ℕ)) (w : Val) → At p → Shown p z → ent 𝓤 (⋆ 𝓤 H A (‵ (ShrSlice (named 0) κ₀ u8 .own z (w ∷ [])) ∷ ‵ (flft κ₀ q₀) ∷ ‵ (flft κ₁ q₁) ∷ [])) (Post w)
-  unfolding placeOf dataShown
+  unfolding partOf dataShown
   exits p z w e s =
       qed W (‵ (ShrSlice (named 0) κ₀ u8 .own z (w ∷ [])) ∷ ‵ (flft κ₀ q₀) ∷ ‵ (flft κ₁ q₁) ∷ []) ∵
       suffices ! _ (ends-at 𝓤 H A entry.ended stayed (entry.clauses 𝓤 H A mem run) W ((κs, (q₀, (q₁, tt)), tt, a, vals), tt) w z (tt, (tt, (tt, (tt, (tt, tt))))) (tt, (tt, (tt, (tt, (tt, tt)))))) $ says ! (record { holds = s .holds ∙ ap (λ (o : Option Part). shownOr o (can .now) []) e; stands = s .stands ∙ ap (λ (o : Option Part). shownAt o (can .ptr) (can .ptr)) e }) $

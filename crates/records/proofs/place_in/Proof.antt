@@ -47,9 +47,9 @@ use Rattle.answers.specs.Cases.{placed}
 use Rattle.answers.specs.declared.Place.{Place}
 use Rattle.answers.proofs.Place as P
 use Rattle.answers.proofs.Place.Laws as P′
-use Rattle.lookup.specs.Noted.{Notes, Sheeted, Owning, Readables, Shows}
+use Rattle.lookup.specs.Noted.{Notes, Sheeted, Owning, Readables, ShowsPlace}
 use Rattle.records.specs.declared.Record.{Record}
-use Rattle.records.specs.Numbers.{numbers, placeOf}
+use Rattle.records.specs.Numbers.{numbers, partOf}
 use Rattle.records.specs.Told.{agreed, looked, Comparable}
 use Rattle.records.proofs.Facts.{is-bool}
 use Rattle.records.proofs.Spelled.{word, placeTy, toNote, bytes, recs, notesBy}
@@ -181,10 +181,10 @@ module _ {M : Type 1} (𝓤 : URA M) (H : Heap 𝓤) (A : Atoms 𝓤) (W : Given
     abbrev Next-core : Val → Item 𝓤
     Next-core u = later (some (λ (r : Place). ((‵ (flft (ν ∷ []) fullShare) ⊛ ‵ ftrue) ⊛ ‵ (P.the-row .own r (u ∷ []))) ⊛ raw (ensured 𝓤 H A core.ended (core.clauses 𝓤 H A mem run) ((ν ∷ []), tt) ((record { ptr = nts .ptr; name = ε; now = f′ }), (nodes, (node, (own, (hinted, tt))))) tt r)))
 
-    told-core : (r : Place) → ent 𝓤 (ensured 𝓤 H A core.ended (core.clauses 𝓤 H A mem run) ((ν ∷ []), tt) ((record { ptr = nts .ptr; name = ε; now = f′ }), (nodes, (node, (own, (hinted, tt))))) tt r) (fact 𝓤 (Shows f′ nodes node own hinted r))
-    told-core r = exE 𝓤 _ (λ ws. snd∗ 𝓤 (sem 𝓤 H A (lasts core.ended ((ν ∷ []), tt) ((record { ptr = nts .ptr; name = ε; now = f′ }), (nodes, (node, (own, (hinted, tt))))) ws)) (fact 𝓤 (Shows f′ nodes node own hinted r)))
+    told-core : (r : Place) → ent 𝓤 (ensured 𝓤 H A core.ended (core.clauses 𝓤 H A mem run) ((ν ∷ []), tt) ((record { ptr = nts .ptr; name = ε; now = f′ }), (nodes, (node, (own, (hinted, tt))))) tt r) (fact 𝓤 (ShowsPlace f′ nodes node own hinted r))
+    told-core r = exE 𝓤 _ (λ ws. snd∗ 𝓤 (sem 𝓤 H A (lasts core.ended ((ν ∷ []), tt) ((record { ptr = nts .ptr; name = ε; now = f′ }), (nodes, (node, (own, (hinted, tt))))) ws)) (fact 𝓤 (ShowsPlace f′ nodes node own hinted r)))
 
-  exits : (r : Place) (u : Val) → Is P.the-row r (u ∷ []) → (f′ : List ℕ) → length f′ ≡ length (nts .now) → placed r ≡ placeOf hinted (can .now) len (numbers (rec .now)) nodes node → ent 𝓤 (⋆ 𝓤 H A (‵ (MutSlice (named 2) κ₂ usize .own (record { ptr = nts .ptr; name = (nts .name); now = f′ }) (sliceVal (nts .ptr) (length (nts .now)) ∷ [])) ∷ ‵ (flft κ₀ q₀) ∷ ‵ (flft κ₁ q₁) ∷ ‵ (flft κ₂ q₂) ∷ [])) (Post u)
+  exits : (r : Place) (u : Val) → Is P.the-row r (u ∷ []) → (f′ : List ℕ) → length f′ ≡ length (nts .now) → placed r ≡ partOf hinted (can .now) len (numbers (rec .now)) nodes node → ent 𝓤 (⋆ 𝓤 H A (‵ (MutSlice (named 2) κ₂ usize .own (record { ptr = nts .ptr; name = (nts .name); now = f′ }) (sliceVal (nts .ptr) (length (nts .now)) ∷ [])) ∷ ‵ (flft κ₀ q₀) ∷ ‵ (flft κ₁ q₁) ∷ ‵ (flft κ₂ q₂) ∷ [])) (Post u)
   exits r u is f′ lf e =
       qed W (‵ (MutSlice (named 2) κ₂ usize .own (record { ptr = nts .ptr; name = (nts .name); now = f′ }) (sliceVal (nts .ptr) (length (nts .now)) ∷ [])) ∷ ‵ (flft κ₀ q₀) ∷ ‵ (flft κ₁ q₁) ∷ ‵ (flft κ₂ q₂) ∷ []) ∵
       suffices ! _ (ends-at 𝓤 H A entry.ended stayed (entry.clauses 𝓤 H A mem run) W ((κs, (q₀, (q₁, (q₂, tt))), tt, a, vals), tt) u r (tt, (tt, (tt, (tt, (tt, (tt, (f′, tt))))))) (tt, (tt, (tt, (tt, (tt, (tt, (lf, tt)))))))) $ says ! e $
@@ -217,7 +217,7 @@ module _ {M : Type 1} (𝓤 : URA M) (H : Heap 𝓤) (A : Atoms 𝓤) (W : Given
       many : (f′ : List ℕ) → length f′ ≡ length (nts .now) → Room usize (length f′)
       many f′ lf = subst (Room usize) (sym lf) nts-room
 
-      leaves : (noted : Bool) (f′ : List ℕ) (own : Bool) (r : Place) (u : Val) → Is P.the-row r (u ∷ []) → length f′ ≡ length (nts .now) → placed r ≡ placeOf hinted (can .now) len (numbers (rec .now)) nodes node → Sq W (Mid₄ noted f′ own u) (runs C Λ En mir.t-11 (atRet En Post))
+      leaves : (noted : Bool) (f′ : List ℕ) (own : Bool) (r : Place) (u : Val) → Is P.the-row r (u ∷ []) → length f′ ≡ length (nts .now) → placed r ≡ partOf hinted (can .now) len (numbers (rec .now)) nodes node → Sq W (Mid₄ noted f′ own u) (runs C Λ En mir.t-11 (atRet En Post))
       leaves noted f′ own r u is lf e =
           returns ! (look ! 36 refl) $ forget ! 36 refl $ forget ! 34 refl $ forget ! 32 refl $ forget ! 30 refl $ forget ! 28 refl $ forget ! 26 refl $ forget ! 24 refl $ forget ! 22 refl $ forget ! 20 refl $ forget ! 18 refl $
           move ! (36 ∷ 37 ∷ []) $ free1 ! $ move ! (34 ∷ 35 ∷ []) $ free1 ! $ move ! (32 ∷ 33 ∷ []) $ free1 ! $ move ! (30 ∷ 31 ∷ []) $ free1 ! $ move ! (28 ∷ 29 ∷ []) $ free1 ! $ move ! (26 ∷ 27 ∷ []) $ free1 ! $ move ! (24 ∷ 25 ∷ []) $ free1 ! $ move ! (22 ∷ 23 ∷ []) $ free1 ! $ move ! (20 ∷ 21 ∷ []) $ free1 ! $ move ! (18 ∷ 19 ∷ []) $ free1 ! $ move ! (16 ∷ 17 ∷ []) $ free1 ! $ move ! (14 ∷ 15 ∷ []) $ free1 ! $ move ! (12 ∷ 13 ∷ []) $ free1 ! $ move ! (10 ∷ 11 ∷ []) $ free1 ! $ move ! (8 ∷ 9 ∷ []) $ free1 ! $ move ! (6 ∷ 7 ∷ []) $ free1 ! $ move ! (4 ∷ 5 ∷ []) $ free1 ! $ free0 ! $ by ! (exits r u is f′ lf e)
@@ -230,7 +230,7 @@ module _ {M : Type 1} (𝓤 : URA M) (H : Heap 𝓤) (A : Atoms 𝓤) (W : Given
           use2 W (later (some (λ (ε : GName). ‵ (ShrSlice (named 0) (ν ∷ []) usize .own (record { ptr = nts .ptr; name = ε; now = f′ }) (sliceVal (nts .ptr) (length f′) ∷ [])) ⊛ ‵ (LentShared usize κ₂ (ν ∷ []) q₂ (nts .name) (nts .ptr .0) (nts .ptr .1) f′)))) (lends-shared usize κ₂ (ν ∷ []) q₂ (nts .name) (nts .ptr .0) (nts .ptr .1) f′ 𝓤 H A W (named 2) (named 0)) $ await ! tt $ pick ! (λ ε. split ! $
           move ! (2 ∷ 0 ∷ []) $ use2 W (raw (Core 𝓤 H A mem run .pre (to-core ν ε f′ own))) (goes-core ν ε f′ own readables) $
           calls-at ! (fmOf 𝓤 H (W .laws) 𝓣) (Core 𝓤 H A mem run) known-core (to-core ν ε f′ own) (and-then ! (load ! (from ! (stop !)) (look ! 4 refl)) (and-then ! (load ! (from ! (stop !)) (look ! 28 refl)) (and-then ! (load ! (from ! (stop !)) (look ! 26 refl)) (and-then ! (load ! (from ! (stop !)) (look ! 18 refl)) (and-then ! (load ! (from ! (stop !)) (look ! 24 refl)) (no-more !)))))) (λ u.
-          use1 W (Next-core ν ε f′ own u) (id⊢ 𝓤 _) $ await ! tt $ pick ! (λ r. split ! $ move ! (1 ∷ []) $ use1 W (raw (fact 𝓤 (Shows f′ nodes node own hinted r))) (told-core ν ε f′ own r) $ heard ! (Shows f′ nodes node own hinted r) (λ told. split ! $ move ! (1 ∷ []) $ peeks ! P.the-row (Is P.the-row) (shows 𝓤 H A P.the-row) r (u ∷ []) (λ is. drop ! $
+          use1 W (Next-core ν ε f′ own u) (id⊢ 𝓤 _) $ await ! tt $ pick ! (λ r. split ! $ move ! (1 ∷ []) $ use1 W (raw (fact 𝓤 (ShowsPlace f′ nodes node own hinted r))) (told-core ν ε f′ own r) $ heard ! (ShowsPlace f′ nodes node own hinted r) (λ told. split ! $ move ! (1 ∷ []) $ peeks ! P.the-row (Is P.the-row) (shows 𝓤 H A P.the-row) r (u ∷ []) (λ is. drop ! $
           land ! (from ! (stop !)) (init ! 36 refl (EL.lawful P.the-type P′.the-laws 𝓤 H A W tt .typed r _ is .0)) $
           split ! $ lft-end ! tt $ move ! (0 ∷ 2 ∷ []) $ use2 W (later (‵ (MutSlice (named 2) κ₂ usize .own (record { ptr = nts .ptr; name = (nts .name); now = f′ }) (sliceVal (nts .ptr) (length f′) ∷ [])) ⊛ ‵ (flft κ₂ q₂))) (shared-back usize κ₂ (ν ∷ []) q₂ (nts .name) (nts .ptr .0) (nts .ptr .1) f′ 𝓤 H A W (named 2) (named 0) (many f′ lf)) $ await ! tt $ split ! $
           rewrite ! 0 (λ (m : ℕ). ‵ (MutSlice (named 2) κ₂ usize .own (record { ptr = nts .ptr; name = (nts .name); now = f′ }) (sliceVal (nts .ptr) m ∷ []))) lf refl $ forget ! 7 refl $ forget ! 5 refl $ keep ! (0 ∷ 3 ∷ 4 ∷ 1 ∷ 5 ∷ 6 ∷ 7 ∷ 8 ∷ 9 ∷ 10 ∷ 11 ∷ 12 ∷ 13 ∷ 14 ∷ 15 ∷ 16 ∷ 17 ∷ 18 ∷ 19 ∷ 20 ∷ 21 ∷ 22 ∷ 23 ∷ 24 ∷ 25 ∷ 26 ∷ 27 ∷ 28 ∷ 29 ∷ 30 ∷ 31 ∷ 32 ∷ 33 ∷ 34 ∷ 35 ∷ 36 ∷ 37 ∷ 38 ∷ []) $ leaves noted f′ own r u is lf (place-noted (can .now) len (rec .now) nodes node hinted f′ own r owning told)))))))

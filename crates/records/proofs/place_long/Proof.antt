@@ -49,7 +49,7 @@ use Rattle.answers.proofs.Place as P
 use Rattle.answers.proofs.Place.Laws as P′
 use Rattle.lookup.specs.Noted.{Notes}
 use Rattle.records.specs.declared.Record.{Record}
-use Rattle.records.specs.Numbers.{numbers, placeOf}
+use Rattle.records.specs.Numbers.{numbers, partOf}
 use Rattle.records.proofs.Spelled.{word, placeTy, toNote, bytes, recs, notesBy}
 use Rattle.records.proofs.Noted.{at-local}
 use Rattle.records.proofs.Local.{arrayTy, noughts, noughtVal, length-noughts, noughts-typed, Stays-with, lends-row, row-dies, number, number-lit}
@@ -128,9 +128,9 @@ module _ {M : Type 1} (𝓤 : URA M) (H : Heap 𝓤) (A : Atoms 𝓤) (W : Given
     Next-core u = later (some (λ (r : Place). ((‵ (flft κ₀ q₀) ⊛ ‵ (flft κ₁ q₁) ⊛ ‵ (flft (ν ∷ []) fullShare) ⊛ ‵ ftrue) ⊛ ‵ (P.the-row .own r (u ∷ []))) ⊛ raw (ensured 𝓤 H A core.ended (core.clauses 𝓤 H A mem run) (κ₀, (κ₁, ((ν ∷ []), tt))) (can, (len, (rec, (nodes, (node, (hinted, ((at-local l ε (noughts n)), tt))))))) tt r)))
 
     abbrev Last-core : Place → Item 𝓤
-    Last-core r = some (λ (ws : Unit {0} × (Unit {0} × (Unit {0} × (Unit {0} × (Unit {0} × (Unit {0} × (List ℕ × Unit {0}))))))). ‵ (lasts core.ended (κ₀, (κ₁, ((ν ∷ []), tt))) (can, (len, (rec, (nodes, (node, (hinted, ((at-local l ε (noughts n)), tt))))))) ws) ⊛ raw (fact 𝓤 (placed r ≡ placeOf hinted (can .now) len (numbers (rec .now)) nodes node)))
+    Last-core r = some (λ (ws : Unit {0} × (Unit {0} × (Unit {0} × (Unit {0} × (Unit {0} × (Unit {0} × (List ℕ × Unit {0}))))))). ‵ (lasts core.ended (κ₀, (κ₁, ((ν ∷ []), tt))) (can, (len, (rec, (nodes, (node, (hinted, ((at-local l ε (noughts n)), tt))))))) ws) ⊛ raw (fact 𝓤 (placed r ≡ partOf hinted (can .now) len (numbers (rec .now)) nodes node)))
 
-  exits : (r : Place) (u : Val) → Is P.the-row r (u ∷ []) → placed r ≡ placeOf hinted (can .now) len (numbers (rec .now)) nodes node
+  exits : (r : Place) (u : Val) → Is P.the-row r (u ∷ []) → placed r ≡ partOf hinted (can .now) len (numbers (rec .now)) nodes node
       → ent 𝓤 (⋆ 𝓤 H A (‵ (flft κ₀ q₀) ∷ ‵ (flft κ₁ q₁) ∷ [])) (Post u)
   exits r u is e =
       qed W (‵ (flft κ₀ q₀) ∷ ‵ (flft κ₁ q₁) ∷ []) ∵
@@ -161,7 +161,7 @@ module _ {M : Type 1} (𝓤 : URA M) (H : Heap 𝓤) (A : Atoms 𝓤) (W : Given
           use1 W (later (some (λ (ε : GName). ‵ (MutSlice (named 2) (ν ∷ []) usize .own (at-local l₇ ε (noughts n)) (sliceVal (l₇, 0) (length (noughts n)) ∷ [])) ⊛ ‵ (Stays-with 𝓤 H A W n l₇ (ν ∷ []) ε)))) (lends-row 𝓤 H A W n l₇ (ν ∷ []) n-room (named 2)) $ await ! tt $ pick ! (λ ε. split ! $
           move ! (6 ∷ 2 ∷ []) $ join ! $ move ! (5 ∷ 0 ∷ []) $ join ! $ move ! (4 ∷ 1 ∷ []) $ join ! $ move ! (3 ∷ 0 ∷ []) $ join ! $ move ! (1 ∷ 0 ∷ []) $ use2 W (raw (Core 𝓤 H A mem run .pre (to-core l₇ ν ε))) (goes-core l₇ ν ε wanted) $
           calls-at ! (fmOf 𝓤 H (W .laws) 𝓣) (Core 𝓤 H A mem run) known-core (to-core l₇ ν ε) (and-then ! (load ! (from ! (stop !)) (look ! 17 refl)) (and-then ! (load ! (from ! (stop !)) (look ! 15 refl)) (and-then ! (load ! (from ! (stop !)) (look ! 13 refl)) (and-then ! (load ! (from ! (stop !)) (look ! 11 refl)) (and-then ! (load ! (from ! (stop !)) (look ! 9 refl)) (and-then ! (load ! (from ! (stop !)) (look ! 7 refl)) (and-then ! (load ! (from ! (stop !)) (look ! 2 refl)) (no-more !)))))))) (λ u.
-          use1 W (Next-core l₇ ν ε u) (id⊢ 𝓤 _) $ await ! tt $ pick ! (λ r. split ! $ move ! (1 ∷ []) $ use1 W (Last-core l₇ ν ε r) (id⊢ 𝓤 _) $ pick ! (λ ws-core. split ! $ move ! (1 ∷ []) $ heard ! (placed r ≡ placeOf hinted (can .now) len (numbers (rec .now)) nodes node) (λ said.
+          use1 W (Next-core l₇ ν ε u) (id⊢ 𝓤 _) $ await ! tt $ pick ! (λ r. split ! $ move ! (1 ∷ []) $ use1 W (Last-core l₇ ν ε r) (id⊢ 𝓤 _) $ pick ! (λ ws-core. split ! $ move ! (1 ∷ []) $ heard ! (placed r ≡ partOf hinted (can .now) len (numbers (rec .now)) nodes node) (λ said.
           fsplit ! $ move ! (1 ∷ []) $ fsplit ! $ move ! (1 ∷ []) $ fsplit ! $ move ! (1 ∷ []) $ fsplit ! $ move ! (1 ∷ []) $ fsplit ! $ move ! (1 ∷ []) $ fsplit ! $ move ! (1 ∷ []) $ fsplit ! $ fsplit ! $ move ! (1 ∷ []) $ feqL ! (λ row-len. move ! (8 ∷ []) $ split ! $ move ! (1 ∷ []) $ peeks ! P.the-row (Is P.the-row) (shows 𝓤 H A P.the-row) r (u ∷ []) (λ is. drop ! $
           land ! (from ! (stop !)) (init ! 27 refl (EL.lawful P.the-type P′.the-laws 𝓤 H A W tt .typed r _ is .0)) $
           split ! $ move ! (1 ∷ []) $ split ! $ move ! (1 ∷ []) $ split ! $ lft-end ! tt $ move ! (0 ∷ 12 ∷ 4 ∷ []) $ use3 W (later (some (λ (v : Val). ‵ (fat fullShare (arrayTy n) l₇ 0 v)))) (row-dies 𝓤 H A W n l₇ (ν ∷ []) ε (ws-core .1 .1 .1 .1 .1 .1 .0)) $ await ! tt $ pick ! (λ v.

@@ -51,7 +51,7 @@ use Rattle.answers.proofs.Reading.Laws as R′
 use Rattle.reader.specs.Stored.{Noteable, Puts}
 use Rattle.records.specs.declared.Record.{Record}
 use Rattle.records.specs.Numbers.{numbers}
-use Rattle.records.specs.Told.{touched, countOf, told, Tells}
+use Rattle.records.specs.Told.{touched, countOf, toldRecords, Tells}
 use Rattle.records.proofs.Facts.{is-unit}
 use Rattle.records.proofs.Spelled.{word, answerTy, toByte, toRecord, toNote, bytes, recs, notesBy}
 use Rattle.records.proofs.Again.{LentAgain, lends-again, comes-back}
@@ -167,7 +167,7 @@ module _ {M : Type 1} (𝓤 : URA M) (H : Heap 𝓤) (A : Atoms 𝓤) (W : Given
     Next-tell w = later (some (λ (z : Unit {0}). ((‵ (flft κ₂ q₂) ⊛ ‵ (flft (ν ∷ []) fullShare) ⊛ ‵ ftrue) ⊛ ‵ (unit .own z (w ∷ []))) ⊛ raw (ensured 𝓤 H A tell.ended (tell.clauses 𝓤 H A mem run) (κ₂, ((ν ∷ []), tt)) (rec, ((note ε f′), (r, (0, tt)))) tt z)))
 
     abbrev Last-tell : Unit {0} → Item 𝓤
-    Last-tell z = some (λ (ws : List Record × (Unit {0} × (Unit {0} × (Unit {0} × Unit {0})))). ‵ (lasts tell.ended (κ₂, ((ν ∷ []), tt)) (rec, ((note ε f′), (r, (0, tt)))) ws) ⊛ raw (fact 𝓤 (ws .0 ≡ told f′ (countOf r) (touched r 0) (rec .now))))
+    Last-tell z = some (λ (ws : List Record × (Unit {0} × (Unit {0} × (Unit {0} × Unit {0})))). ‵ (lasts tell.ended (κ₂, ((ν ∷ []), tt)) (rec, ((note ε f′), (r, (0, tt)))) ws) ⊛ raw (fact 𝓤 (ws .0 ≡ toldRecords f′ (countOf r) (touched r 0) (rec .now))))
 
   exits : (r : Reading) (u : Val) → Is R.the-row r (u ∷ []) → (c′ f′ : List ℕ) (zs : List Record) → length c′ ≡ length (can .now) → length f′ ≡ length (nts .now) → length zs ≡ room → outcome r c′ (numbers zs) ≡ reading form (src .now) (can .now) (numbers (rec .now))
       → ent 𝓤 (⋆ 𝓤 H A (‵ (finally T.the-row (rec .name) zs) ∷ ‵ (finally u8 (can .name) c′) ∷ ‵ (MutSlice (named 3) κ₃ usize .own (note (nts .name) f′) (s-nts ∷ [])) ∷ ‵ (flft κ₀ q₀) ∷ ‵ (flft κ₁ q₁) ∷ ‵ (flft κ₂ q₂) ∷ ‵ (flft κ₃ q₃) ∷ [])) (Post u)
@@ -212,7 +212,7 @@ module _ {M : Type 1} (𝓤 : URA M) (H : Heap 𝓤) (A : Atoms 𝓤) (W : Given
           lft-new ! tt (λ ν. move ! (3 ∷ 7 ∷ []) $ use2 W (later (some (λ (ε : GName). ‵ (ShrSlice (named 1) (ν ∷ []) usize .own (note ε f′) (sliceVal (nts .ptr) (length f′) ∷ [])) ⊛ ‵ (LentShared usize κ₃ (ν ∷ []) q₃ (nts .name) (nts .ptr .0) (nts .ptr .1) f′)))) (lends-shared usize κ₃ (ν ∷ []) q₃ (nts .name) (nts .ptr .0) (nts .ptr .1) f′ 𝓤 H A W (named 3) (named 1)) $ await ! tt $ pick ! (λ ε. split ! $
           move ! (7 ∷ 2 ∷ []) $ join ! $ move ! (3 ∷ 1 ∷ []) $ join ! $ move ! (1 ∷ 0 ∷ []) $ use2 W (raw (Tell 𝓤 H A mem run .pre (to-tell ν ε f′ r u is))) (goes-tell ν ε f′ r u is fits) $
           calls-at ! (fmOf 𝓤 H (W .laws) 𝓣) (Tell 𝓤 H A mem run) known-tell (to-tell ν ε f′ r u is) (and-then ! (load ! (from ! (stop !)) (look ! 9 refl)) (and-then ! (load ! (from ! (stop !)) (look ! 5 refl)) (and-then ! (load ! (from ! (stop !)) (look ! 25 refl)) (and-then ! (lit ! tt) (no-more !))))) (λ w.
-          use1 W (Next-tell ν ε f′ r u is w) (id⊢ 𝓤 _) $ await ! tt $ pick ! (λ z. split ! $ move ! (1 ∷ []) $ use1 W (Last-tell ν ε f′ r u is z) (id⊢ 𝓤 _) $ pick ! (λ ws-tell. split ! $ move ! (1 ∷ []) $ heard ! (ws-tell .0 ≡ told f′ (countOf r) (touched r 0) (rec .now)) (λ e.
+          use1 W (Next-tell ν ε f′ r u is w) (id⊢ 𝓤 _) $ await ! tt $ pick ! (λ z. split ! $ move ! (1 ∷ []) $ use1 W (Last-tell ν ε f′ r u is z) (id⊢ 𝓤 _) $ pick ! (λ ws-tell. split ! $ move ! (1 ∷ []) $ heard ! (ws-tell .0 ≡ toldRecords f′ (countOf r) (touched r 0) (rec .now)) (λ e.
           fsplit ! $ fsplit ! $ move ! (1 ∷ []) $ feqL ! (λ lz. move ! (2 ∷ []) $ split ! $ move ! (1 ∷ []) $ feqL ! (λ one.
           land ! (from ! (stop !)) (init ! 15 refl (is-unit w one)) $
           split ! $ move ! (1 ∷ []) $ split ! $ lft-end ! tt $ move ! (0 ∷ 5 ∷ []) $ use2 W (later (‵ (MutSlice (named 3) κ₃ usize .own (note (nts .name) f′) (sliceVal (nts .ptr) (length f′) ∷ [])) ⊛ ‵ (flft κ₃ q₃))) (shared-back usize κ₃ (ν ∷ []) q₃ (nts .name) (nts .ptr .0) (nts .ptr .1) f′ 𝓤 H A W (named 3) (named 1) many) $ await ! tt $ split ! $
@@ -226,7 +226,7 @@ module _ {M : Type 1} (𝓤 : URA M) (H : Heap 𝓤) (A : Atoms 𝓤) (W : Given
           fits : Tells f′ r 0 room
           fits = put-tells (reading form (src .now) (can .now)) c′ (rec .now) f′ r said
 
-          whole-is : (zs : List Record) → zs ≡ told f′ (countOf r) (touched r 0) (rec .now) → outcome r c′ (numbers zs) ≡ reading form (src .now) (can .now) (numbers (rec .now))
+          whole-is : (zs : List Record) → zs ≡ toldRecords f′ (countOf r) (touched r 0) (rec .now) → outcome r c′ (numbers zs) ≡ reading form (src .now) (can .now) (numbers (rec .now))
           whole-is zs e = ap (λ (z : List Record). outcome r c′ (numbers z)) e ∙ put-told (reading form (src .now) (can .now)) c′ (rec .now) f′ r said
 
       reads : Sq W Mid₁ (runs C Λ En mir.t-1 (atRet En Post))

@@ -54,7 +54,7 @@ use Rattle.answers.specs.declared.Reading.{Reading}
 use Rattle.answers.proofs.Reading as R
 use Rattle.answers.proofs.Reading.Laws as R′
 use Rattle.records.specs.declared.Record.{Record}
-use Rattle.records.specs.Told.{nil, touched, countOf, toldAt, told, Tells}
+use Rattle.records.specs.Told.{nil, touched, countOf, toldAt, toldRecords, Tells}
 use Rattle.records.proofs.Facts.{holds, fails, one-more, scaled, is-word}
 use Rattle.records.proofs.Tabling.{length-told}
 use Rattle.records.proofs.Counting.{counts}
@@ -143,7 +143,7 @@ module _ {M : Type 1} (𝓤 : URA M) (H : Heap 𝓤) (A : Atoms 𝓤) (W : Given
 
   module _ (n : ℕ) (n-is : n ≡ touched r old) (n-fits : n < 2 ^ 64) where
     abbrev zs : List Record
-    zs = told fs (countOf r) n ys
+    zs = toldRecords fs (countOf r) n ys
 
     n-recs : n ≤ length ys
     n-recs = omega (arith, telling .lent)
@@ -151,7 +151,7 @@ module _ {M : Type 1} (𝓤 : URA M) (H : Heap 𝓤) (A : Atoms 𝓤) (W : Given
     exits : Room T.the-row (length ys) → ent 𝓤 (⋆ 𝓤 H A (‵ (fobs γ (codedHoleys T.the-row .code (heres T.the-row zs))) ∷ ‵ (fbor κ (Held T.the-row (length zs) b o γ)) ∷ ‵ (flft κ q) ∷ ‵ (flft κ′ q′) ∷ ‵ Nums ∷ [])) (Post vunit)
     exits room =
         qed W (‵ (fobs γ (codedHoleys T.the-row .code (heres T.the-row zs))) ∷ ‵ (fbor κ (Held T.the-row (length zs) b o γ)) ∷ ‵ (flft κ q) ∷ ‵ (flft κ′ q′) ∷ ‵ Nums ∷ []) ∵
-        suffices ! _ (ends-at 𝓤 H A tell.ended stayed (tell.clauses 𝓤 H A mem run) W ((κs, (q, (q′, tt)), tt, a, vals), tt) vunit tt (zs, (tt, (tt, (tt, tt)))) (length-told fs (countOf r) n ys, (tt, (tt, (tt, tt))))) $ says ! (ap (λ (m : ℕ). told fs (countOf r) m ys) n-is) $
+        suffices ! _ (ends-at 𝓤 H A tell.ended stayed (tell.clauses 𝓤 H A mem run) W ((κs, (q, (q′, tt)), tt, a, vals), tt) vunit tt (zs, (tt, (tt, (tt, tt)))) (length-told fs (countOf r) n ys, (tt, (tt, (tt, tt))))) $ says ! (ap (λ (m : ℕ). toldRecords fs (countOf r) m ys) n-is) $
         nothing ! $ move ! (4 ∷ 0 ∷ []) $ join ! $ move ! (3 ∷ 0 ∷ []) $ join ! $ frame ! $
         fjoin ! $ pureI ! (at-slice T.the-row (x zs) (s ∷ [])) (tt, (tt, tt)) (ap (λ (m : ℕ). sliceVal (b, o) m ∷ []) (sym (length-told fs (countOf r) n ys)), subst (Room T.the-row) (sym (length-told fs (countOf r) n ys)) room) $ fjoin ! $
         nothing ! $ owned ! usize (Is usize) (uint-makes 𝓤 H A W w64) old _ (refl, old-fits) $ fjoin ! $ owned ! R.the-row (Is R.the-row) (EL.makes R.the-type R′.the-plain 𝓤 H A) r _ r-is $ fjoin ! $ move ! (2 ∷ 0 ∷ []) $ fjoin ! $ move ! (1 ∷ 0 ∷ []) $ fjoin ! $
@@ -175,7 +175,7 @@ module _ {M : Type 1} (𝓤 : URA M) (H : Heap 𝓤) (A : Atoms 𝓤) (W : Given
 
       -- i records are told
       abbrev At : ℕ → List (Item 𝓤)
-      At i = ‵ (row T.the-row fullShare (told fs (countOf r) i ys) b o) ∷ ‵ (fat fullShare word l₆ 0 (vint w64 i)) ∷ ‵ (froom T′.mir l₇ 0) ∷ ‵ (froom tyBool l₈ 0) ∷ ‵ (froom word l₉ 0) ∷ ‵ (froom tyPtr l₁₀ 0) ∷ Frame
+      At i = ‵ (row T.the-row fullShare (toldRecords fs (countOf r) i ys) b o) ∷ ‵ (fat fullShare word l₆ 0 (vint w64 i)) ∷ ‵ (froom T′.mir l₇ 0) ∷ ‵ (froom tyBool l₈ 0) ∷ ‵ (froom word l₉ 0) ∷ ‵ (froom tyPtr l₁₀ 0) ∷ Frame
 
       -- when the loop is left, the rest of the body runs
       abbrev Left : Out → SProp 𝓤
@@ -183,7 +183,7 @@ module _ {M : Type 1} (𝓤 : URA M) (H : Heap 𝓤) (A : Atoms 𝓤) (W : Given
 
       -- a turn that tells one record
       more : (i : ℕ) (X : SProp 𝓤) → i < n → ent 𝓤 (⋆ 𝓤 H A (At (suc i))) X → ent 𝓤 (⋆ 𝓤 H A (At i)) (Wp 𝓤 H C Λ En mir.turn-1 (afterTurn 𝓤 H X Left))
-      unfolding afterTurn told
+      unfolding afterTurn toldRecords
       more i X small k =
           qed W (At i) ∵ exec ! C Λ En mir.turn-1 (anyQ (afterTurn 𝓤 H X Left)) $
           assigns ! (bin ! (load ! (from ! (stop !)) (look ! 1 refl)) (load ! (from ! (stop !)) (look ! 10 refl)) tt) (from ! (stop !)) (init ! 3 refl (tt, tt)) $
@@ -203,11 +203,11 @@ module _ {M : Type 1} (𝓤 : URA M) (H : Heap 𝓤) (A : Atoms 𝓤) (W : Given
           assigns ! (bin ! (load ! (from ! (stop !)) (look ! 3 refl)) (lit ! tt) (record { fits = place-fits })) (from ! (stop !)) (init ! 6 refl (tt, record { fits = place-fits })) $
           assigns ! (bin ! (load ! (from ! (fld ! refl (stop !))) (look-in ! 8 (sub ! 0 refl (whole !)))) (load ! (from ! (stop !)) (look ! 6 refl)) tt) (from ! (stop !)) (init ! 7 refl (tt, tt)) $
           rewrite ! 7 (λ (j : ℕ). ‵ (fat fullShare tyPtr l₁₀ 0 (vptr b j))) (sym (place-is 36 o i)) refl $
-          move ! (2 ∷ []) $ elem-out ! T.the-row (Is T.the-row) (shows 𝓤 H A T.the-row) (LL.vals T.the-type T′.the-laws) (LL.tells T.the-type T′.the-laws) fullShare (told fs (countOf r) i ys) i nil b o within (λ _.
+          move ! (2 ∷ []) $ elem-out ! T.the-row (Is T.the-row) (shows 𝓤 H A T.the-row) (LL.vals T.the-type T′.the-laws) (LL.tells T.the-type T′.the-laws) fullShare (toldRecords fs (countOf r) i ys) i nil b o within (λ _.
           -- [records[i]; what it owns; the others; the token; nums; _6; _7; _8; _9; _10; _1; …]
           assigns ! (of-opd ! (load ! (from ! (stop !)) (look ! 6 refl))) (from ! (hop ! (look ! 9 refl) (stop !))) (store-raw ! 0 refl (LL.lawful T.the-type T′.the-laws 𝓤 H A W .typed z _ (lowered z u is) .0)) $
-          move ! (1 ∷ []) $ drop ! $ owned ! T.the-row (Is T.the-row) (LL.makes T.the-type T′.the-plain 𝓤 H A) z _ (lowered z u is) $ move ! (1 ∷ 0 ∷ []) $ elem-put ! T.the-row fullShare (told fs (countOf r) i ys) i z (T′.lowered z ∷ []) b o within $
-          rewrite ! 0 (λ (z′ : Record). ‵ (row T.the-row fullShare (set (told fs (countOf r) i ys) i z′) b o)) e refl $
+          move ! (1 ∷ []) $ drop ! $ owned ! T.the-row (Is T.the-row) (LL.makes T.the-type T′.the-plain 𝓤 H A) z _ (lowered z u is) $ move ! (1 ∷ 0 ∷ []) $ elem-put ! T.the-row fullShare (toldRecords fs (countOf r) i ys) i z (T′.lowered z ∷ []) b o within $
+          rewrite ! 0 (λ (z′ : Record). ‵ (row T.the-row fullShare (set (toldRecords fs (countOf r) i ys) i z′) b o)) e refl $
           -- [the row; the token; nums; _6; _7; _8; _9; _10; _1; …]
           assigns-last ! (bin ! (load ! (from ! (stop !)) (look ! 3 refl)) (lit ! tt) (record { fits = next-fits })) (from ! (stop !)) (store ! 3 refl (tt, record { fits = next-fits })) $
           rewrite ! 3 (λ (j : ℕ). ‵ (fat fullShare word l₆ 0 (vint w64 j))) (one-more i) refl $
@@ -217,7 +217,7 @@ module _ {M : Type 1} (𝓤 : URA M) (H : Heap 𝓤) (A : Atoms 𝓤) (W : Given
           in-recs : i < length ys
           in-recs = omega (arith, n-recs)
 
-          within : i < length (told fs (countOf r) i ys)
+          within : i < length (toldRecords fs (countOf r) i ys)
           within = omega (arith, length-told fs (countOf r) i ys, n-recs)
 
           place-fits : i * 36 < 2 ^ 64
@@ -254,7 +254,7 @@ module _ {M : Type 1} (𝓤 : URA M) (H : Heap 𝓤) (A : Atoms 𝓤) (W : Given
 
       -- up to the loop: the borrow is opened once, before it
       starts : Sq W Mid (runs C Λ En mir.t-2 (atRet En Post))
-      unfolding told
+      unfolding toldRecords
       starts =
           assigns ! (of-opd ! (lit ! tt)) (from ! (stop !)) (init ! 8 refl (tt, record { fits = lit< tt })) $
           move ! (23 ∷ []) $ fsplit ! $ fsplit ! $ move ! (1 ∷ []) $ fsplit ! $ move ! (26 ∷ []) $ split ! $ move ! (2 ∷ 3 ∷ 0 ∷ []) $

@@ -6,7 +6,7 @@ use crate::limits::BAD_FORM;
 
 /// Braces wherever a value may stand, and nowhere else.
 pub const TEXTS: &[Known] = &[
-    // The request's own, and 001's.
+    // The request's own, 001's, and one of RFC 9804.
     (4, b"{MzphYmM=}", Ok(b"3:abc")),
     (4, b"{KDE6YTE6YjE\n6Yyk= }", Ok(b"(1:a1:b1:c)")),
     // It decodes with an octet 0 after the tree.

@@ -59,7 +59,7 @@ use Rattle.model.specs.Answers.{Outcome}
 use Rattle.lookup.specs.Noted.{Notes, Sheeted}
 use Rattle.plan.specs.Planned.{Known, Lends}
 use Rattle.editor.specs.Given.{Noteable, GivesText}
-use Rattle.records.specs.Told.{touched, countOf, told, Tells, agreed, looked, Comparable}
+use Rattle.records.specs.Told.{touched, countOf, toldRecords, Tells, agreed, looked, Comparable}
 use Rattle.records.proofs.Facts.{is-bool, is-unit}
 use Rattle.records.proofs.Comparing.{sheet-comparable, sheet-known, sheet-lends}
 use Rattle.records.proofs.Tabling.{give-tells, give-told}
@@ -224,7 +224,7 @@ module _ {M : Type 1} (𝓤 : URA M) (H : Heap 𝓤) (A : Atoms 𝓤) (W : Given
     Next-tell w = later (some (λ (z : Unit {0}). ((‵ (flft κ₂ q₂) ⊛ ‵ (flft (ν ∷ []) fullShare) ⊛ ‵ ftrue) ⊛ ‵ (unit .own z (w ∷ []))) ⊛ raw (ensured 𝓤 H A tell.ended (tell.clauses 𝓤 H A mem run) (κ₂, ((ν ∷ []), tt)) (rec, ((record { ptr = nts .ptr; name = ε; now = f′ }), (r, (held, tt)))) tt z)))
 
     abbrev Last-tell : Unit {0} → Item 𝓤
-    Last-tell z = some (λ (ws : List Record × (Unit {0} × (Unit {0} × (Unit {0} × Unit {0})))). ‵ (lasts tell.ended (κ₂, ((ν ∷ []), tt)) (rec, ((record { ptr = nts .ptr; name = ε; now = f′ }), (r, (held, tt)))) ws) ⊛ raw (fact 𝓤 (ws .0 ≡ told f′ (countOf r) (touched r held) (rec .now))))
+    Last-tell z = some (λ (ws : List Record × (Unit {0} × (Unit {0} × (Unit {0} × Unit {0})))). ‵ (lasts tell.ended (κ₂, ((ν ∷ []), tt)) (rec, ((record { ptr = nts .ptr; name = ε; now = f′ }), (r, (held, tt)))) ws) ⊛ raw (fact 𝓤 (ws .0 ≡ toldRecords f′ (countOf r) (touched r held) (rec .now))))
 
   exits : (r : Reading) (u : Val) → Is R.the-row r (u ∷ []) → (c′ f′ : List ℕ) (zs : List Record) → length c′ ≡ length (can .now) → length f′ ≡ length (nts .now) → length zs ≡ room → outcome r c′ (numbers zs) ≡ answer (numbers (rec .now))
       → ent 𝓤 (⋆ 𝓤 H A (‵ (finally T.the-row (rec .name) zs) ∷ ‵ (finally u8 (can .name) c′) ∷ ‵ (MutSlice (named 3) κ₃ usize .own (record { ptr = nts .ptr; name = (nts .name); now = f′ }) (sliceVal (nts .ptr) (length (nts .now)) ∷ [])) ∷ ‵ (flft κ₀ q₀) ∷ ‵ (flft κ₁ q₁) ∷ ‵ (flft κ₂ q₂) ∷ ‵ (flft κ₃ q₃) ∷ [])) (Post u)
@@ -280,7 +280,7 @@ module _ {M : Type 1} (𝓤 : URA M) (H : Heap 𝓤) (A : Atoms 𝓤) (W : Given
           use2 W (later (some (λ (ε : GName). ‵ (ShrSlice (named 1) (ν ∷ []) usize .own (record { ptr = nts .ptr; name = ε; now = f′ }) (sliceVal (nts .ptr) (length f′) ∷ [])) ⊛ ‵ (LentShared usize κ₃ (ν ∷ []) q₃ (nts .name) (nts .ptr .0) (nts .ptr .1) f′)))) (lends-shared usize κ₃ (ν ∷ []) q₃ (nts .name) (nts .ptr .0) (nts .ptr .1) f′ 𝓤 H A W (named 3) (named 1)) $ await ! tt $ pick ! (λ ε. split ! $
           move ! (7 ∷ 2 ∷ []) $ join ! $ move ! (3 ∷ 1 ∷ []) $ join ! $ move ! (1 ∷ 0 ∷ []) $ use2 W (raw (Tell 𝓤 H A mem run .pre (to-tell ν ε f′ r u is))) (goes-tell ν ε f′ r u is fits) $
           calls-at ! (fmOf 𝓤 H (W .laws) 𝓣) (Tell 𝓤 H A mem run) known-tell (to-tell ν ε f′ r u is) (and-then ! (load ! (from ! (stop !)) (look ! 9 refl)) (and-then ! (load ! (from ! (stop !)) (look ! 5 refl)) (and-then ! (load ! (from ! (stop !)) (look ! 41 refl)) (and-then ! (load ! (from ! (stop !)) (look ! 51 refl)) (no-more !))))) (λ w.
-          use1 W (Next-tell ν ε f′ r u is w) (id⊢ 𝓤 _) $ await ! tt $ pick ! (λ z. split ! $ move ! (1 ∷ []) $ use1 W (Last-tell ν ε f′ r u is z) (id⊢ 𝓤 _) $ pick ! (λ ws-tell. split ! $ move ! (1 ∷ []) $ heard ! (ws-tell .0 ≡ told f′ (countOf r) (touched r held) (rec .now)) (λ e.
+          use1 W (Next-tell ν ε f′ r u is w) (id⊢ 𝓤 _) $ await ! tt $ pick ! (λ z. split ! $ move ! (1 ∷ []) $ use1 W (Last-tell ν ε f′ r u is z) (id⊢ 𝓤 _) $ pick ! (λ ws-tell. split ! $ move ! (1 ∷ []) $ heard ! (ws-tell .0 ≡ toldRecords f′ (countOf r) (touched r held) (rec .now)) (λ e.
           fsplit ! $ fsplit ! $ move ! (1 ∷ []) $ feqL ! (λ lz. move ! (2 ∷ []) $ split ! $ move ! (1 ∷ []) $ feqL ! (λ one.
           land ! (from ! (stop !)) (init ! 15 refl (is-unit w one)) $
           split ! $ move ! (1 ∷ []) $ split ! $ lft-end ! tt $ move ! (0 ∷ 5 ∷ []) $ use2 W (later (‵ (MutSlice (named 3) κ₃ usize .own (record { ptr = nts .ptr; name = (nts .name); now = f′ }) (sliceVal (nts .ptr) (length f′) ∷ [])) ⊛ ‵ (flft κ₃ q₃))) (shared-back usize κ₃ (ν ∷ []) q₃ (nts .name) (nts .ptr .0) (nts .ptr .1) f′ 𝓤 H A W (named 3) (named 1) (many f′ lf)) $ await ! tt $ split ! $
@@ -291,7 +291,7 @@ module _ {M : Type 1} (𝓤 : URA M) (H : Heap 𝓤) (A : Atoms 𝓤) (W : Given
           fits : Tells f′ r held room
           fits = give-tells (Lends (can .now) old held room own) answer c′ (rec .now) f′ held r given
 
-          whole-is : (zs : List Record) → zs ≡ told f′ (countOf r) (touched r held) (rec .now) → outcome r c′ (numbers zs) ≡ answer (numbers (rec .now))
+          whole-is : (zs : List Record) → zs ≡ toldRecords f′ (countOf r) (touched r held) (rec .now) → outcome r c′ (numbers zs) ≡ answer (numbers (rec .now))
           whole-is zs e = ap (λ (z : List Record). outcome r c′ (numbers z)) e ∙ give-told (Lends (can .now) old held room own) answer c′ (rec .now) f′ held lends r given
 
       edits-it : (noted : Bool) (f′ : List ℕ) (own : Bool) → length f′ ≡ length (nts .now) → Known (can .now) old held room f′ own → Lends (can .now) old held room own (numbers (rec .now)) → Sq W (Mid₃ noted f′ own) (runs C Λ En mir.t-12 (atRet En Post))

@@ -52,7 +52,7 @@ use Rattle.records.specs.Numbers.{numbers}
 use Rattle.model.specs.Limits.{mostNodes}
 use Rattle.reader.specs.Stored.{Puts}
 use Rattle.records.specs.Told.{touched}
-use Rattle.records.specs.Told.{countOf, told, Tells}
+use Rattle.records.specs.Told.{countOf, toldRecords, Tells}
 use Rattle.records.proofs.Facts.{is-unit}
 use Rattle.records.proofs.Spelled.{word, answerTy, toByte, toRecord, bytes, recs, Notes, notesTy, toNotes}
 use Rattle.records.proofs.Noted.{zeros, zeros-typed, zeroed, at-local, lends-mut, mut-back, lends-const, const-back, dies}
@@ -175,7 +175,7 @@ module _ {M : Type 1} (𝓤 : URA M) (H : Heap 𝓤) (A : Atoms 𝓤) (W : Given
           lft-new ! tt (λ ν. move ! (24 ∷ []) $ lends-const ! tt (named 1) ν l₅ f′ (λ ε. move ! (3 ∷ 0 ∷ []) $ join ! $ move ! (6 ∷ 2 ∷ []) $ join ! $ use2 W (raw (Telling 𝓤 H A mem run .pre (to-tell 𝓤 H A W mem run κ₂ q₂ rec 0 (lit< tt) l₅ ν ε f′ r u))) (goes-tell 𝓤 H A W mem run κ₂ q₂ rec 0 (lit< tt) l₅ ν ε f′ r u is fits) $
           calls-at ! (fmOf 𝓤 H (W .laws) 𝓣) (Telling 𝓤 H A mem run) known-tell (to-tell 𝓤 H A W mem run κ₂ q₂ rec 0 (lit< tt) l₅ ν ε f′ r u) (and-then ! (load ! (from ! (stop !)) (look ! 7 refl)) (and-then ! (load ! (from ! (stop !)) (look ! 5 refl)) (and-then ! (load ! (from ! (stop !)) (look ! 21 refl)) (and-then ! (lit ! tt) (no-more !))))) (λ w.
           use1 W (Told 𝓤 H A W mem run κ₂ q₂ rec 0 (lit< tt) l₅ ν ε f′ r u w) (id⊢ 𝓤 _) $ await ! tt $ pick ! (λ z. split ! $ move ! (1 ∷ []) $ use1 W (TellLast 𝓤 H A W mem run κ₂ q₂ rec 0 (lit< tt) l₅ ν ε f′ r u) (id⊢ 𝓤 _) $ pick ! (λ ws. split ! $ move ! (1 ∷ []) $
-          heard ! (ws .0 ≡ told f′ (countOf r) (touched r 0) (rec .now)) (λ e. fsplit ! $ fsplit ! $ move ! (1 ∷ []) $ feqL ! (λ l. move ! (2 ∷ []) $ split ! $ move ! (1 ∷ []) $ feqL ! (λ one.
+          heard ! (ws .0 ≡ toldRecords f′ (countOf r) (touched r 0) (rec .now)) (λ e. fsplit ! $ fsplit ! $ move ! (1 ∷ []) $ feqL ! (λ l. move ! (2 ∷ []) $ split ! $ move ! (1 ∷ []) $ feqL ! (λ one.
           land ! (from ! (stop !)) (init ! 13 refl (is-unit w one)) $
           split ! $ move ! (1 ∷ []) $ split ! $ move ! (0 ∷ 5 ∷ []) $ const-back ! tt ν l₅ f′ $
           dies ! l₅ f′ (λ v. assigns ! (of-opd ! (load ! (from ! (stop !)) (look ! 24 refl))) (from ! (stop !)) (init ! 35 refl (EL.lawful R.the-type R′.the-laws 𝓤 H A W tt .typed r _ is .0)) $
@@ -185,7 +185,7 @@ module _ {M : Type 1} (𝓤 : URA M) (H : Heap 𝓤) (A : Atoms 𝓤) (W : Given
           fits : Tells f′ r 0 room
           fits = put-tells (extracting (src .now) len (can .now)) c′ (rec .now) f′ r said
 
-          whole-is : (zs : List Record) → zs ≡ told f′ (countOf r) (touched r 0) (rec .now) → outcome r c′ (numbers zs) ≡ extracting (src .now) len (can .now) (numbers (rec .now))
+          whole-is : (zs : List Record) → zs ≡ toldRecords f′ (countOf r) (touched r 0) (rec .now) → outcome r c′ (numbers zs) ≡ extracting (src .now) len (can .now) (numbers (rec .now))
           whole-is zs e = ap (λ (z : List Record). outcome r c′ (numbers z)) e ∙ put-told (extracting (src .now) len (can .now)) c′ (rec .now) f′ r said
 
       reads : Sq W Mid₁ (runs C Λ En mir.t-2 (atRet En Post))

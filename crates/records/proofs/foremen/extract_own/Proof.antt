@@ -55,7 +55,7 @@ use Rattle.extract.specs.Given.{Judged, Gives}
 use Rattle.records.specs.declared.Record.{Record}
 use Rattle.records.specs.Numbers.{numbers}
 use Rattle.records.specs.Told.{touched}
-use Rattle.records.specs.Told.{countOf, told, Tells, Comparable}
+use Rattle.records.specs.Told.{countOf, toldRecords, Tells, Comparable}
 use Rattle.records.proofs.Facts.{is-bool, is-unit}
 use Rattle.records.proofs.Spelled.{word, answerTy, toByte, toRecord, bytes, recs, Notes, notesTy, toNotes}
 use Rattle.records.proofs.Noted.{zeros, zeros-typed, zeroed, at-local, lends-mut, mut-back, lends-const, const-back, dies}
@@ -234,7 +234,7 @@ module _ {M : Type 1} (𝓤 : URA M) (H : Heap 𝓤) (A : Atoms 𝓤) (W : Given
           lft-new ! tt (λ ν. move ! (33 ∷ []) $ lends-const ! tt (named 1) ν l₇ f″ (λ ε. move ! (3 ∷ 0 ∷ []) $ join ! $ move ! (7 ∷ 2 ∷ []) $ join ! $ use2 W (raw (Telling 𝓤 H A mem run .pre (to-tell 𝓤 H A W mem run κ₃ q₃ rec 0 (lit< tt) l₇ ν ε f″ r u))) (goes-tell 𝓤 H A W mem run κ₃ q₃ rec 0 (lit< tt) l₇ ν ε f″ r u is fits) $
           calls-at ! (fmOf 𝓤 H (W .laws) 𝓣) (Telling 𝓤 H A mem run) known-tell (to-tell 𝓤 H A W mem run κ₃ q₃ rec 0 (lit< tt) l₇ ν ε f″ r u) (and-then ! (load ! (from ! (stop !)) (look ! 8 refl)) (and-then ! (load ! (from ! (stop !)) (look ! 6 refl)) (and-then ! (load ! (from ! (stop !)) (look ! 26 refl)) (and-then ! (lit ! tt) (no-more !))))) (λ w.
           use1 W (Told 𝓤 H A W mem run κ₃ q₃ rec 0 (lit< tt) l₇ ν ε f″ r u w) (id⊢ 𝓤 _) $ await ! tt $ pick ! (λ z. split ! $ move ! (1 ∷ []) $ use1 W (TellLast 𝓤 H A W mem run κ₃ q₃ rec 0 (lit< tt) l₇ ν ε f″ r u) (id⊢ 𝓤 _) $ pick ! (λ ws. split ! $ move ! (1 ∷ []) $
-          heard ! (ws .0 ≡ told f″ (countOf r) (touched r 0) (rec .now)) (λ e. fsplit ! $ fsplit ! $ move ! (1 ∷ []) $ feqL ! (λ l. move ! (2 ∷ []) $ split ! $ move ! (1 ∷ []) $ feqL ! (λ one.
+          heard ! (ws .0 ≡ toldRecords f″ (countOf r) (touched r 0) (rec .now)) (λ e. fsplit ! $ fsplit ! $ move ! (1 ∷ []) $ feqL ! (λ l. move ! (2 ∷ []) $ split ! $ move ! (1 ∷ []) $ feqL ! (λ one.
           land ! (from ! (stop !)) (init ! 14 refl (is-unit w one)) $
           split ! $ move ! (1 ∷ []) $ split ! $ move ! (0 ∷ 5 ∷ []) $ const-back ! tt ν l₇ f″ $ dies ! l₇ f″ (λ v. assigns ! (of-opd ! (load ! (from ! (stop !)) (look ! 29 refl))) (from ! (stop !)) (init ! 48 refl (EL.lawful R.the-type R′.the-laws 𝓤 H A W tt .typed r _ is .0)) $
           forget ! 15 refl $ forget ! 13 refl $ forget ! 11 refl $ forget ! 9 refl $ keep ! (3 ∷ 5 ∷ 6 ∷ 7 ∷ 8 ∷ 2 ∷ 9 ∷ 10 ∷ 11 ∷ 12 ∷ 13 ∷ 14 ∷ 15 ∷ 16 ∷ 17 ∷ 18 ∷ 19 ∷ 20 ∷ 21 ∷ 22 ∷ 23 ∷ 24 ∷ 25 ∷ 26 ∷ 27 ∷ 28 ∷ 29 ∷ 30 ∷ 31 ∷ 32 ∷ 33 ∷ 34 ∷ 0 ∷ 35 ∷ 36 ∷ 37 ∷ 38 ∷ 39 ∷ 40 ∷ 41 ∷ 42 ∷ 43 ∷ 44 ∷ 45 ∷ 46 ∷ 47 ∷ 48 ∷ 49 ∷ []) $
@@ -243,7 +243,7 @@ module _ {M : Type 1} (𝓤 : URA M) (H : Heap 𝓤) (A : Atoms 𝓤) (W : Given
           fits : Tells f″ r 0 room
           fits = put-tells (extractingOwn (src .now) len (numbers (row .now)) nodes (can .now)) c′ (rec .now) f″ r said
 
-          whole-is : (zs : List Record) → zs ≡ told f″ (countOf r) (touched r 0) (rec .now) → outcome r c′ (numbers zs) ≡ extractingOwn (src .now) len (numbers (row .now)) nodes (can .now) (numbers (rec .now))
+          whole-is : (zs : List Record) → zs ≡ toldRecords f″ (countOf r) (touched r 0) (rec .now) → outcome r c′ (numbers zs) ≡ extractingOwn (src .now) len (numbers (row .now)) nodes (can .now) (numbers (rec .now))
           whole-is zs e = ap (λ (z : List Record). outcome r c′ (numbers z)) e ∙ put-told (extractingOwn (src .now) len (numbers (row .now)) nodes (can .now)) c′ (rec .now) f″ r said
 
       gives : (noted : Bool) (f′ : List ℕ) (own : Bool) → Owning (src .now) len (numbers (row .now)) nodes f′ own → Sq W (Mid₃ noted f′ own) (runs C Λ En mir.t-7 (atRet En Post))

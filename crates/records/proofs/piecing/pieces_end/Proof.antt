@@ -54,7 +54,7 @@ use Rattle.reader.specs.Stored.{Puts}
 use Rattle.pieces.specs.Coded.{stateIn}
 use Rattle.pieces.specs.Ending.{End, endedBy}
 use Rattle.pieces.proofs.Wholes.{ended}
-use Rattle.records.specs.Told.{touched, countOf, told, Tells}
+use Rattle.records.specs.Told.{touched, countOf, toldRecords, Tells}
 use Rattle.records.proofs.Facts.{is-unit}
 use Rattle.records.proofs.Spelled.{word, answerTy, toRecord, bytes, recs, Notes, notesTy, toNotes, Ten, toTen}
 use Rattle.records.proofs.Noted.{zeros, zeros-typed, zeroed, at-local, lends-mut, mut-back, lends-const, const-back, dies}
@@ -179,7 +179,7 @@ module _ {M : Type 1} (𝓤 : URA M) (H : Heap 𝓤) (A : Atoms 𝓤) (W : Given
           lft-new ! tt (λ ν. move ! (19 ∷ []) $ lends-const ! tt (named 1) ν l₄ f′ (λ ε. move ! (3 ∷ 0 ∷ []) $ join ! $ move ! (5 ∷ 2 ∷ []) $ join ! $ use2 W (raw (Telling 𝓤 H A mem run .pre (to-tell 𝓤 H A W mem run κ₂ q₂ rec 0 (lit< tt) l₄ ν ε f′ r u))) (goes-tell 𝓤 H A W mem run κ₂ q₂ rec 0 (lit< tt) l₄ ν ε f′ r u is fits) $
           calls-at ! (fmOf 𝓤 H (W .laws) 𝓣) (Telling 𝓤 H A mem run) known-tell (to-tell 𝓤 H A W mem run κ₂ q₂ rec 0 (lit< tt) l₄ ν ε f′ r u) (and-then ! (load ! (from ! (stop !)) (look ! 6 refl)) (and-then ! (load ! (from ! (stop !)) (look ! 4 refl)) (and-then ! (load ! (from ! (stop !)) (look ! 16 refl)) (and-then ! (lit ! tt) (no-more !))))) (λ w.
           use1 W (Told 𝓤 H A W mem run κ₂ q₂ rec 0 (lit< tt) l₄ ν ε f′ r u w) (id⊢ 𝓤 _) $ await ! tt $ pick ! (λ z. split ! $ move ! (1 ∷ []) $ use1 W (TellLast 𝓤 H A W mem run κ₂ q₂ rec 0 (lit< tt) l₄ ν ε f′ r u) (id⊢ 𝓤 _) $ pick ! (λ ws. split ! $ move ! (1 ∷ []) $
-          heard ! (ws .0 ≡ told f′ (countOf r) (touched r 0) (rec .now)) (λ e. fsplit ! $ fsplit ! $ move ! (1 ∷ []) $ feqL ! (λ l. move ! (2 ∷ []) $ split ! $ move ! (1 ∷ []) $ feqL ! (λ one.
+          heard ! (ws .0 ≡ toldRecords f′ (countOf r) (touched r 0) (rec .now)) (λ e. fsplit ! $ fsplit ! $ move ! (1 ∷ []) $ feqL ! (λ l. move ! (2 ∷ []) $ split ! $ move ! (1 ∷ []) $ feqL ! (λ one.
           land ! (from ! (stop !)) (init ! 12 refl (is-unit w one)) $
           split ! $ move ! (1 ∷ []) $ split ! $ move ! (0 ∷ 5 ∷ []) $ const-back ! tt ν l₄ f′ $
           dies ! l₄ f′ (λ v. assigns ! (of-opd ! (load ! (from ! (stop !)) (look ! 19 refl))) (from ! (stop !)) (init ! 28 refl (EL.lawful R.the-type R′.the-laws 𝓤 H A W tt .typed r _ is .0)) $
@@ -189,7 +189,7 @@ module _ {M : Type 1} (𝓤 : URA M) (H : Heap 𝓤) (A : Atoms 𝓤) (W : Given
           fits : Tells f′ r 0 room
           fits = put-tells (endedBy (stateIn (st .now)) (can .now) room) (can .now) (rec .now) f′ r said
 
-          whole-is : (zs : List Record) → zs ≡ told f′ (countOf r) (touched r 0) (rec .now) → Ended r zs
+          whole-is : (zs : List Record) → zs ≡ toldRecords f′ (countOf r) (touched r 0) (rec .now) → Ended r zs
           whole-is zs e =
               ended (stateIn (st .now)) (can .now) room (numbers (rec .now)) (numbers zs) r
               (ap (λ (z : List Record). outcome r (can .now) (numbers z)) e ∙ put-told (endedBy (stateIn (st .now)) (can .now) room) (can .now) (rec .now) f′ r said)
