@@ -1,4 +1,4 @@
--- The forms decoded: lexemes below, their nesting above. No limit of depth, nodes or octets plays a part.
+-- The forms decoded (S 3.1 to 3.3): lexemes below, their nesting above. No limit of depth, nodes or octets plays a part (S 3.12).
 use Prim.Native.Nat.{ℕ, suc}
 use mathlib.Core.Bool.{Bool, true, false}
 use mathlib.Core.Option.{Option, none, some}

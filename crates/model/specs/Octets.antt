@@ -1,4 +1,4 @@
--- What an octet is to the grammar: RFC 9804's ranges, with the values of digits, letters and escapes.
+-- What an octet is to the grammar: RFC 9804's ranges, with the values of digits, letters and escapes (S 3.4 to 3.10).
 use Prim.Native.Nat.{ℕ, _+_, _-_}
 use mathlib.Core.Bool.{Bool, true}
 use mathlib.Core.List.{List, [], _∷_}
