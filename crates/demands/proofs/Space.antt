@@ -90,7 +90,7 @@ module _ {canonical table : List ℕ} {len count : ℕ} {old now : Tree} {k n s 
   pub octets-kept : (i : ℕ) → answer .octets ≤ i → len ≤ i → (d : ℕ) → getD (answer .canonical) i d ≡ getD canonical i d
   octets-kept i h k d = ap (λ (l : List ℕ). getD l i d) canonical-is ∙ settled-rest canonical (canon now) len (answer .octets) octets-are i h k d
 
-  -- S 8.3: and so are records, by their numbers
+  -- S 8.3: records likewise, by their numbers
   pub numbers-zeroed : (i : ℕ) → width * answer .count ≤ i → i < width * count → (d : ℕ) → getD (answer .table) i d ≡ 0
   numbers-zeroed i h k d = ap (λ (l : List ℕ). getD l i d) table-is ∙ settled-zero table (tableOf now) (width * count) (width * answer .count) numbers-are i h k d
 

@@ -50,12 +50,12 @@ pub record QuarterOf (s : Total) : Type 0 where
   pub bits : Exactly (s .quarters) (s .hours)
   pub number : HasValue (s .hours) false (s .quarters) 4
 
--- (ours) every element is a line: n of them, of q quarters together
+-- S 10.4: every element is a line: n of them, of q quarters together
 pub data AllLines : Forest → ℕ → ℕ → Type 0 where
   no-line : AllLines nil 0 0
   a-line : {x : Tree} {f : Forest} {h : Line} {m n q : ℕ} → ShiftLine x h m → AllLines f n q → AllLines (cons x f) (suc n) (m + q)
 
--- (ours) x is the first element that is no line: k nodes stand before it
+-- S 10.4: x is the first element that is no line: k nodes stand before it
 pub record FirstBad (f : Forest) (k : ℕ) (x : Tree) : Type 0 where
   pub good : Forest
   pub rest : Forest

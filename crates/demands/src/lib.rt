@@ -1,2 +1,2 @@
-// What the specification demands (S 12 to 16), as theorems about the definitions that the entries promise (proofs/); no code.
+// What the specification says of entries and of corrections, as theorems about the definitions that the entries promise (proofs/); no code.
 pub fn nothing() {}

@@ -55,7 +55,7 @@ roomChecks t canonical table =
     ∷ when Size (either (ltb maxCanonical (length (canon t))) (ltb (length canonical) (length (canon t))))
     ∷ []
 
--- rows 1 to 3 of a text
+-- rows 1 to 3 of a text (S 3, 6.1)
 unfoldable pub textChecks : ℕ → List ℕ → List Check → List Check
 textChecks form text more =
     when Form (noForm form)
@@ -155,7 +155,7 @@ reading form source canonical table =
     (filled (the (decode form source)) 0 0 canonical table)
     (λ n. unchanged n canonical table))
 
--- the corrected tree
+-- S 8.3: the corrected tree
 unfoldable pub replaced : ℕ → List ℕ → List ℕ → List ℕ → ℕ → ℕ → ℕ → Tree
 replaced form text canonical table len count node = replace (the (ownTree canonical len table count)) node (the (decode form text))
 

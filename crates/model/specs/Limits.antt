@@ -16,7 +16,7 @@ maxCanonical = 16384
 abbrev pub mostNodes : ℕ
 mostNodes = 8192
 
--- S 7.1
+-- S 7.1: no row applies
 abbrev pub Accepted : ℕ
 Accepted = 0
 

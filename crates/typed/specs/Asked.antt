@@ -69,7 +69,7 @@ lining canonical len table count node =
     })
     (λ n. unlined n)
 
--- ---- a list of lines (ours): 12 with the first element that is no line
+-- ---- a list of lines; S 10.4: 7, 8, 12, and with 12 the first element that is no line
 
 unfoldable pub nodeSum : List ℕ → ℕ → List ℕ → ℕ → ℕ → Sum
 nodeSum canonical len table count node = sumAt canonical (treeOf canonical len table count) node

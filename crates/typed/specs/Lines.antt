@@ -71,7 +71,7 @@ keptIf o NoCount = none
 unfoldable pub lineAt : List ℕ → Tree → ℕ → Option Line
 lineAt c t k = keptIf (hoursAt c t k) (lineCount c t k)
 
--- ---- a list of lines
+-- ---- a list of lines (S 10.4)
 
 -- the node numbers of a list's elements from `at` on, up to `stop`; each counts its own nodes; f bounds them
 unfoldable pub elementsUpTo : Tree → ℕ → ℕ → ℕ → List ℕ
