@@ -69,7 +69,7 @@ module _ {canonical table : List ℕ} {len count : ℕ} {old now : Tree} {k n s 
   unfolding filled
   corrected-count = ap (λ (o : Outcome). o .count) (c .is)
 
-  -- S 15.3: in form 1, into a sheet and a table of the same room, whatever they hold
+  -- S 15.3: as reading in form 1 into as much room, whatever that holds
   pub afresh : (canonical′ table′ : List ℕ) → length canonical′ ≡ length canonical → length table′ ≡ length table
       → SameResult answer (reading 1 (take (answer .octets) (answer .canonical)) canonical′ table′)
   afresh canonical′ table′ h k =

@@ -124,7 +124,7 @@ module _ (form : ℕ) (text canonical table : List ℕ) (len count node k : ℕ)
   unfolding inserting telling
   insert-refused-for n h e = fills-for checks _ len count canonical table n h e
 
-  -- ---- S 15.1: the entry is the element inserted, which in the old sheet starts and ends at its place
+  -- ---- S 15.1: the entry is the new element, in the old sheet an empty part at its place
   module _ (c : Insertable form text canonical table len count node k) where
     abbrev old : Tree
     old = c .old

@@ -29,7 +29,7 @@ use Rattle.pieces.proofs.Wholes.{read-long, accepted-sheet}
 use Rattle.demands.proofs.Numbers.{refusing}
 use Rattle.demands.proofs.Placed.{canonical-text, read-tells}
 
--- ---- S 13.2: another size gets 7 and counts of 0, before all else, and nothing changes, the state included; whatever the state is,
+-- ---- S 13.2: another size gives 7 first of all, with counts 0, and leaves everything as it was, the state too; whatever the state is,
 -- handed back or not
 
 pub another-size : {x : State} {piece sheet after : List ℕ} {lent : ℕ} {r : Fed} → sameSizes x (length sheet) lent ≡ false → Piece x piece sheet lent after r
@@ -54,7 +54,7 @@ empty-piece {first} {lent} {s} h p =
     let e = p .goes-on first s (in-turn h) in
     (ap (λ (y : Fed). y .state) (e .0) ∙ ap (stateAfter (length first) lent) (append-nil s) ∙ sym (in-turn h .x-is), e .1 ∙ ap (sheetAfter first) (append-nil s) ∙ sym (in-turn h .sheet-is))
 
--- ---- S 13.3: the sheet begins with what was taken, as far as its room and 16,384 go; past them it is as it first was
+-- ---- S 13.3: what was taken stands at the front of the sheet, up to its room and 16,384; past that it is as it first was
 
 module _ {first : List ℕ} {lent : ℕ} {s : List ℕ} {x : State} {sheet : List ℕ} (h : Handed first lent s x sheet) where
   -- so many are there

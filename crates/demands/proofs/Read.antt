@@ -1,5 +1,4 @@
--- S 14.4 and 8.1: a text is read exactly when it is in the form's language and text and tree fit the limits and the room lent; the octets
--- left are its tree's canonical form, and the table is that tree's.
+-- S 14.4: exactly which texts are read; and S 8.1: the sheet and the table that are left, and what stays.
 use Prim.Native.Nat.{ℕ, _*_, _-_, _≤_, _<_, max}
 use native.Mathlib.Omega.{arith}
 use mathlib.Core.Path.{_≡_, refl, sym, ap, _∙_}

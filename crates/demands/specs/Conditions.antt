@@ -20,7 +20,7 @@ pub record Room (t : Tree) (canonical table : List ℕ) : Type 0 where
   pub small : length (canon t) ≤ maxCanonical
   pub roomy : length (canon t) ≤ length canonical
 
--- S 14.4: the text is in the form's language, and text and tree fit the limits and the room lent
+-- S 14.4: a text that is read, with its tree in the form's language
 pub record Allowed (form : ℕ) (source canonical table : List ℕ) : Type 0 where
   pub tree : Tree
   pub language : Language rules form source tree

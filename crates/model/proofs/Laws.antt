@@ -75,15 +75,15 @@ octets-in-octets-out form s t x b = (language-tree b x, language-bytes b x)
 
 -- ---- S 6.2: sizes
 
--- a source of n octets has a canonical form of at most 3n
+-- what a source of n octets says has 3n at most in canonical form
 pub canonical-within-3n : (form : ℕ) (s : List ℕ) (t : Tree) → Language rules form s t → length (canon t) ≤ 3 * length s
 canonical-within-3n form s t x = language-tripled x
 
--- a canonical form of n octets has at most n/2 nodes
+-- n octets of canonical form have n/2 nodes at most
 pub nodes-within-half : (t : Tree) → 2 * nodes t ≤ length (canon t)
 nodes-within-half t = nodes-half t
 
--- S 6.2: 16,384 octets hold at most 8,192 nodes
+-- S 6.2: 8,192 nodes at most, in 16,384 octets
 pub small-nodes : (t : Tree) → length (canon t) ≤ maxCanonical → nodes t ≤ mostNodes
 small-nodes t h = omega (arith, nodes-half t)
 
@@ -98,7 +98,7 @@ fits-within t f =
 pub fitting-nodes : (t : Tree) → fits t ≡ true → nodes t ≤ mostNodes
 fitting-nodes t f = small-nodes t (fits-within t f .1)
 
--- advanced output from n octets is at most 2n
+-- n octets go out in form 3 in 2n at most
 pub advanced-within-2n : (t : Tree) → length (advanced t) ≤ 2 * length (canon t)
 advanced-within-2n t = doubled t
 

@@ -112,8 +112,8 @@ unfoldable pub braced : List ℕ → Bool
 braced [] = false
 braced (b ∷ s) = eqb b 123
 
--- S 7.3, the place that is told of a text that is not in its form's language: in form 1, and in form 2 without `{`, the largest p such that
--- the first p octets begin some canonical form, which `place` is (crate automaton, `place-largest`); else 0
+-- S 7.3, the place that is told of a text that is not in its form's language: in form 1, and in form 2 without `{`, the largest p for which
+-- some canonical form begins with its first p octets: `place` is that (crate automaton, `place-largest`); else 0
 unfoldable pub placeOf : ℕ → List ℕ → ℕ
 placeOf form text = pick (either (eqb form 1) (both (eqb form 2) (not (braced text)))) (place text) 0
 
@@ -147,7 +147,7 @@ filled t oldOctets oldCount canonical table =
 unfoldable pub readingChecks : ℕ → List ℕ → List ℕ → List ℕ → List Check
 readingChecks form source canonical table = textChecks form source (roomChecks (the (decode form source)) canonical table)
 
--- S 8.1: octets and table of the text's tree, length and node count; octets and records past them stay
+-- S 8.1: octets and table of the text's tree, with their length and node count; what lies past them stays
 unfoldable pub reading : ℕ → List ℕ → List ℕ → List ℕ → Outcome
 reading form source canonical table =
     telling (placeOf form source)
@@ -250,11 +250,11 @@ octetsAt canonical p = take (p .end - p .start) (drop (p .start) canonical)
 unfoldable pub shownRow : List ℕ → ℕ → List ℕ → ℕ → ℕ → Option Row
 shownRow canonical len table count node = chain (ownTree canonical len table count) (λ t. pick (ltb node (nodes t)) (some (rowOf t node)) none)
 
--- S 8.5: where the node is a string with a hint, the part that holds it
+-- S 8.5: of a string with a hint, the part where the hint stands
 unfoldable pub hintPart : List ℕ → ℕ → List ℕ → ℕ → ℕ → Option Part
 hintPart canonical len table count node = chain (shownRow canonical len table count node) (λ r. pick (eqb (r .kind) 1) (some (part (r .hintStart) (r .hintEnd))) none)
 
--- S 8.5: where sheet and table are good and the node exists, its data
+-- S 8.5: of any node of a good sheet with its own table, the part where its data stands
 unfoldable pub dataPart : List ℕ → ℕ → List ℕ → ℕ → ℕ → Option Part
 dataPart canonical len table count node = chain (shownRow canonical len table count node) (λ r. some (part (r .dataStart) (r .dataEnd)))
 
@@ -262,10 +262,10 @@ unfoldable pub shownOr : Option Part → List ℕ → List ℕ → List ℕ
 shownOr none canonical other = other
 shownOr (some p) canonical other = octetsAt canonical p
 
--- S 8.5: in every other case the default as lent
+-- S 8.5: for all else the default that was lent
 unfoldable pub hintShown : List ℕ → ℕ → List ℕ → ℕ → ℕ → List ℕ → List ℕ
 hintShown canonical len table count node defaultHint = shownOr (hintPart canonical len table count node) canonical defaultHint
 
--- S 8.5: else an empty part
+-- S 8.5: for all else an empty part
 unfoldable pub dataShown : List ℕ → ℕ → List ℕ → ℕ → ℕ → List ℕ
 dataShown canonical len table count node = shownOr (dataPart canonical len table count node) canonical []

@@ -105,6 +105,6 @@ rests (filling h n) = false
 rests bracket = false
 rests dead = false
 
--- S 7.3, the largest p such that the first p octets begin some canonical form: the octets taken before it dies
+-- S 7.3, the largest p for which some canonical form begins with the first p octets: those taken before it dies
 unfoldable pub place : List ℕ → ℕ
 place s = run free start s .taken

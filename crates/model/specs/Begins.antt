@@ -11,7 +11,7 @@ pub record Begins (s : List ℕ) : Type 0 where
   pub rest : List ℕ
   pub is : s ++ rest ≡ canon tree
 
--- S 7.3: the largest p such that the first p octets do
+-- S 7.3: p is the largest number of first octets that do
 pub record Largest (s : List ℕ) (p : ℕ) : Type 0 where
   pub within : p ≤ length s
   pub begins : Begins (take p s)

@@ -24,7 +24,7 @@ Accepted = 0
 abbrev pub Form : ℕ
 Form = 1
 
--- source over 32,768
+-- the source is too long
 abbrev pub SourceSize : ℕ
 SourceSize = 2
 
@@ -32,7 +32,7 @@ SourceSize = 2
 abbrev pub Syntax : ℕ
 Syntax = 3
 
--- lists over 128 deep
+-- lists nest too deep
 abbrev pub Depth : ℕ
 Depth = 4
 
@@ -40,15 +40,15 @@ Depth = 4
 abbrev pub Nodes : ℕ
 Nodes = 5
 
--- canonical form over 16,384; or result over the lent room
+-- the canonical form is too long, or the result longer than the room lent
 abbrev pub Size : ℕ
 Size = 6
 
--- a sheet not one fitting canonical form, or a lent table not its own
+-- a sheet that is none, or of no tree that fits; a table that is not its own
 abbrev pub NotOwn : ℕ
 NotOwn = 7
 
--- no such node
+-- there is no node of that number
 abbrev pub NoNode : ℕ
 NoNode = 8
 

@@ -25,14 +25,14 @@ width = 9
 abbrev pub rowNumbers : Row → List ℕ
 rowNumbers r = r .kind ∷ r .start ∷ r .end ∷ r .count ∷ r .hintStart ∷ r .hintEnd ∷ r .dataStart ∷ r .dataEnd ∷ []
 
--- S 4.2: without a hint both hint numbers are 0
+-- S 4.2: no hint, and 0 for its two numbers
 abbrev pub plainRow : ℕ → ℕ → ℕ → Row
 plainRow at a e = record { kind = 0; start = at; end = e; count = 1; hintStart = 0; hintEnd = 0; dataStart = a; dataEnd = e }
 
 abbrev pub hintedRow : ℕ → ℕ → ℕ → ℕ → ℕ → Row
 hintedRow at hs he a e = record { kind = 1; start = at; end = e; count = 1; hintStart = hs; hintEnd = he; dataStart = a; dataEnd = e }
 
--- S 4.2: a list's data is what stands between its parentheses
+-- S 4.2: the data of a list is all inside its parentheses
 abbrev pub listRow : ℕ → ℕ → ℕ → Row
 listRow at e n = record { kind = 2; start = at; end = e; count = n; hintStart = 0; hintEnd = 0; dataStart = at + 1; dataEnd = e - 1 }
 

@@ -25,7 +25,7 @@ digitsUpTo (suc f) n = elim (ltb n 10) [ true ↦ (48 + n) ∷ [] | false ↦ di
 unfoldable pub digits : ℕ → List ℕ
 digits n = digitsUpTo n n
 
--- S 2.3, verbatim: the length in decimal, a colon, that many octets
+-- S 2.3: verbatim, the length before the octets
 unfoldable pub verbatim : List ℕ → List ℕ
 verbatim d = digits (length d) ++ 58 ∷ d
 

@@ -30,7 +30,7 @@ unfoldable pub hexAll : List ℕ → List ℕ
 hexAll [] = []
 hexAll (b ∷ d) = hexDigit (b / 16) ∷ hexDigit (b % 16) ∷ hexAll d
 
--- S 5.2: a token where the octets make one, else quoted where all are 32 to 126, else hexadecimal
+-- S 5.2: a token if the octets can be one, else quoted if all are 32 to 126, else hexadecimal
 unfoldable pub shown : List ℕ → List ℕ
 shown d = pick (isToken d) d (pick (every (among 32 126) d) (34 ∷ quoteAll d ++ 34 ∷ []) (35 ∷ hexAll d ++ 35 ∷ []))
 

@@ -28,11 +28,11 @@ pub told-so-far : {first : List ℕ} {lent : ℕ} {s : List ℕ} {x : State} {sh
 unfolding stateAfter
 told-so-far {first} {lent} {s} h p = let e = p .goes-on first s (in-turn h) .0 in (ap (λ (f : Fed). f .number) e, ap (λ (f : Fed). f .octets) e)
 
--- S 13.3: the sheet begins with them, as far as its room and 16,384 go
+-- S 13.3: they stand at the front of the sheet, as many as it has room for, and 16,384 at most
 pub begins-with : {first : List ℕ} {lent : ℕ} {s : List ℕ} {x : State} {sheet : List ℕ} → Handed first lent s x sheet → sheet ≡ sheetAfter first s
 begins-with h = in-turn h .sheet-is
 
--- S 13.4: the end gives the answer of reading the whole in form 1, and accepted its sheet and table; refused, it restores nothing
+-- S 13.4: the end answers as reading all of it in form 1 does, and accepted leaves its sheet and table; refused, it restores nothing
 pub whatever-the-cutting : {first : List ℕ} {lent : ℕ} {s : List ℕ} {x : State} {sheet table table′ : List ℕ} {r : Reading} → Handed first lent s x sheet → End x sheet lent table table′ r
     → outcome r sheet table′ ≡ inSheet (sheetAfter first s) (reading 1 s first table)
 whatever-the-cutting {first} {s = s} {table = table} h e = e .ends first s (in-turn h) ∙ ap (λ (y : List ℕ). inSheet y (reading 1 s first table)) (in-turn h .sheet-is)

@@ -17,7 +17,7 @@ use Rattle.pieces.specs.declared.track.Track.{Track}
 
 -- ---- what is promised
 
--- S 13.3: as far as the sheet's room and 16,384 go
+-- S 13.3: as many octets as the sheet has room for, and 16,384 at most
 abbrev pub space : ℕ → ℕ
 space room = min room maxCanonical
 
