@@ -1,4 +1,4 @@
-"""The program `canon` as it is built, against document 01: what it writes for what comes from standard input.
+"""The program `canon` as it is built, against docs/SPECIFICATION.md (S 8.6): what it writes for what comes from standard input.
 
 Run from the repository's root, once the program is proved: python3 -m unittest discover -s tests
 """
@@ -13,8 +13,8 @@ from pathlib import Path
 CANON = Path(__file__).parent.parent / "target" / "bin" / "canon"
 OCTETS = bytes(range(256))
 
-# 01: source at most 32,768 octets; lists nest at most 128 deep (02); the program's table has 2,048 records;
-# the canonical form has at most 16,384 octets.
+# S 6.1: a source has at most 32,768 octets, lists nest at most 128 deep, a canonical form has at most 16,384 octets;
+# S 8.6: the program's table has 2,048 records.
 SOURCE, DEPTH, RECORDS, CANONICAL = 32768, 128, 2048, 16384
 
 

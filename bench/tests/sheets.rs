@@ -1,7 +1,7 @@
 //! The plain reader and the library give the same answers, octets and records,
 //! and leave the same behind in all that is lent: on the texts that are timed,
-//! and on document 01's sheets to try, whose answers stand here as 01 gives them
-//! or as they follow from it by hand.
+//! and on the examples of docs/SPECIFICATION.md (S 16), whose answers stand here
+//! as it gives them or as they follow from it by hand.
 
 use bench::plain::Reader;
 use bench::texts::texts;

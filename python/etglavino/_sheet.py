@@ -163,7 +163,7 @@ class Sheet:
         """The sheet with the node replaced by the tree of a text.
 
         Refusals, the first that applies: 1, 2, 3, 7, 8, 4, 5, 6, where 4 to 6
-        speak of the tree with the node replaced."""
+        are of the tree with the node replaced."""
         return Sheet._of(
             *_entries.replace(form, octets_of(text), self._canonical, self._table, node)
         )
@@ -173,7 +173,7 @@ class Sheet:
         that the node is; the list's element count puts it at the end.
 
         Refusals, the first that applies: 1, 2, 3, 7, 8, 9, 4, 5, 6, where 4 to 6
-        speak of the tree with the element in it."""
+        are of the tree with the element in it."""
         return Sheet._of(
             *_entries.insert(form, octets_of(text), self._canonical, self._table, node, k)
         )

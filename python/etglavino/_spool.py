@@ -74,8 +74,8 @@ def spool_add(area: Area, sheet: Octets) -> None:
 
 
 class Adding:
-    """An addition under way, one octet store at a time. After a cut between any
-    two, opening shows the old entries, or those and the new one.
+    """An addition under way, one octet store at a time. Whichever store a cut
+    comes behind, opening shows the old entries alone or with the new one.
 
     Making one only makes the checks: it raises `Refusal` 10, 7 or 6, the first
     that applies."""

@@ -1,17 +1,17 @@
-"""Tests of the package. Expected values are document 01's, or worked out from
-it by hand."""
+"""Tests of the package. Expected values are those of docs/SPECIFICATION.md, which
+"S 16.1" cites, or worked out from it by hand."""
 
 from etglavino import Node
 
 LIST = b"(3:abc[1:x]0:)"
-"""The list that document 01 works with."""
+"""The list of S 16.1."""
 
 LIST_NODES = (
     Node(2, 0, 14, 3, 0, 0, 1, 13, 0),
     Node(0, 1, 6, 1, 0, 0, 3, 6, 0),
     Node(1, 6, 13, 1, 9, 10, 13, 13, 0),
 )
-"""Its records, as documents 01 and 02 print them."""
+"""Its records, as S 16.1 has them."""
 
 
 def nested(depth: int) -> bytes:

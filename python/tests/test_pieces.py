@@ -1,4 +1,4 @@
-"""Texts in pieces: what document 02 says of them, worked out by hand."""
+"""Texts in pieces: what S 13 says of them, worked out by hand."""
 
 from __future__ import annotations
 

@@ -1,4 +1,4 @@
-"""Reading: document 01's sheets to try, the limits, the order of refusals."""
+"""Reading: the examples of S 16, the limits, the order of refusals."""
 
 import unittest
 

@@ -54,7 +54,7 @@ class Write(Case):
 
 
 class Replace(Case):
-    def test_document_01s_correction(self) -> None:
+    def test_correction_of_the_specification(self) -> None:
         sheet = read(1, LIST)
         corrected = replace(Form.ADVANCED, b'"hi"', sheet, 1)
         self.assertEqual(corrected.canonical, b"(2:hi[1:x]0:)")

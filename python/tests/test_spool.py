@@ -1,4 +1,4 @@
-"""Spools in lent octets: document 02's examples, and each store."""
+"""Spools in lent octets: the examples of S 16.6, and each store."""
 
 from __future__ import annotations
 

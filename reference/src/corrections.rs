@@ -1,4 +1,4 @@
-//! An element put into a list, and a node removed (document 02, Ask 5).
+//! An element put into a list, and a node removed (S 8.7, 8.8).
 
 use crate::entries::{own_tree, placed, store, tree_of_text, Reading};
 use crate::limits::{NO_PLACE, NO_SUCH_NODE, RECORD};

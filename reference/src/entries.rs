@@ -224,7 +224,7 @@ pub(crate) fn tree_of_canonical(canonical: &[u8], length: usize) -> Result<Tree,
 }
 
 /// Row 7 with a table, which must be the one that reading would give: as
-/// many records, and all their numbers. Document 01 calls it the own table.
+/// many records, and all their numbers. S 1.4: the own table.
 pub(crate) fn tree_of_pair(
     canonical: &[u8],
     length: usize,

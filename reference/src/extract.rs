@@ -1,4 +1,4 @@
-//! The extract of a sheet for foremen (document 02, Ask 12).
+//! The extract of a sheet (S 11).
 
 use crate::entries::{own_tree, placed, store, tree_of_canonical, Reading};
 use crate::limits::RECORD;

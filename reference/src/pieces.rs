@@ -1,4 +1,4 @@
-//! A canonical text that comes in pieces (document 02, Ask 1).
+//! A canonical text that comes in pieces (S 13).
 //!
 //! It keeps what the buffers first held and every octet that was fed, so that
 //! the cutting cannot matter; the end reads the whole in form 1.

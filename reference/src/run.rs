@@ -1,4 +1,4 @@
-//! Sheets written back to back (document 02, request 14).
+//! Sheets written back to back (S 12.2, 12.3).
 
 use crate::canonical;
 

@@ -1,4 +1,4 @@
-//! A spool: sheets that wait in a lent area (document 02, Ask 6).
+//! A spool: sheets that wait in a lent area (S 9).
 //!
 //! An area is taken apart into its entries, and an addition puts it together
 //! again as a whole. The order of the stores is the library's own choice, so

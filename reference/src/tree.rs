@@ -29,7 +29,7 @@ pub type Record = [u32; RECORD];
 /// A tree laid out: its canonical octets and its records in node order.
 #[derive(Clone, Debug, Default, PartialEq, Eq)]
 pub struct Layout {
-    /// The canonical form. Document 01 calls it the sheet.
+    /// The canonical form (S 2.4).
     pub octets: Vec<u8>,
     /// One record for each node, in the order in which the nodes begin.
     pub records: Vec<Record>,

@@ -1,4 +1,4 @@
-//! Values with a type, and hours: request 8 of document 02, over trees.
+//! Values with a type, and hours (S 10), over trees.
 
 use crate::entries::tree_of_pair;
 use crate::limits::{NOT_LINE, NOT_OWN, NOT_TYPED, NO_SUCH_NODE, TOO_LARGE};

@@ -5,7 +5,7 @@ mod common;
 
 use common::canonical;
 
-/// The escapes of 01 and of request 3: the octet after the backslash, and the
+/// The escapes of 1997 and of request 3: the octet after the backslash, and the
 /// octet it means.
 const ESCAPES: [(u8, u8); 11] = [
     (b'b', 8),

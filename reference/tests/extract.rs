@@ -1,4 +1,4 @@
-//! Extracts, worked out from document 02 by hand.
+//! Extracts, worked out from S 11 by hand.
 
 use reference::entries::{read, Reading};
 use reference::extract::{extract, extract_own};

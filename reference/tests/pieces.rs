@@ -1,11 +1,11 @@
-//! Pieces: what document 02 says of them, worked out by hand.
+//! Pieces: what S 13 says of them, worked out by hand.
 
 use reference::entries::Reading;
 use reference::limits::*;
 use reference::pieces::{Ended, Pieces};
 
 const LIST: &[u8] = b"(3:abc[1:x]0:)";
-/// Its table, as documents 01 and 02 print it.
+/// Its table, as S 16.1 has it.
 const LIST_TABLE: [u32; 27] = [
     2, 0, 14, 3, 0, 0, 1, 13, 0, //
     0, 1, 6, 1, 0, 0, 3, 6, 0, //

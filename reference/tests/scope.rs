@@ -1,4 +1,4 @@
-//! Document 01's cases with whole tables, outputs and sizes, by hand.
+//! The cases of S 16 with whole tables, outputs and sizes, by hand.
 
 mod common;
 
@@ -132,7 +132,7 @@ fn what_is_written_may_be_twice_as_long() {
 }
 
 #[test]
-fn the_correction_of_document_01() {
+fn the_correction_of_the_specification() {
     let mut pair = Pair::new(LIST, 20, 33);
     let reading = pair.replace(3, b"\"hi\"", 1);
     assert_eq!(

@@ -1,4 +1,4 @@
-//! Spools: document 02's examples and what it says of damage, worked out by hand.
+//! Spools: the examples of S 16.6 and what S 9.2 says of damage, worked out by hand.
 
 use reference::spool::{added, entry, open, Opening};
 

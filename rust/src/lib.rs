@@ -236,8 +236,8 @@ pub fn same(
     Refusal::check(number, same == 1)
 }
 
-/// A node's hint: the part of the sheet that holds it if the node is a string
-/// with a hint, and in every other case the default as lent.
+/// The hint of a string that has one, as the part of the sheet where it stands;
+/// for all else, a bad sheet or table too, the default that was lent.
 pub fn hint<'a>(
     canonical: &'a [u8],
     table: &[u32],

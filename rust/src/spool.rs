@@ -108,8 +108,8 @@ pub fn spool_add(area: &mut [u8], sheet: &[u8], length: usize) -> Result<(), Ref
     Refusal::check(refusal, ())
 }
 
-/// An addition under way, one octet store at a time. After a cut between any
-/// two stores, opening shows the old entries, or those and the new one.
+/// An addition under way, one octet store at a time. Whichever store a cut comes
+/// behind, opening shows the old entries alone or with the new one behind them.
 ///
 /// Any numbers may stand in it, and area and sheet may be others than those of
 /// the start: a step then stores nothing, or one octet inside the area.

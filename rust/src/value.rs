@@ -13,8 +13,8 @@ pub enum Value {
     Single(f32),
     /// Hint `f64`: eight octets, IEEE 754 big-endian.
     Double(f64),
-    /// Hint `int`: the shortest big-endian two's complement of at most eight
-    /// octets, zero being no octets.
+    /// Hint `int`: two's complement, big-endian, in as few octets as say it and
+    /// in eight at most; zero has none.
     Whole(i64),
     /// Any other hint, or none: the octets from `start` to `end`.
     Raw {

@@ -1,4 +1,4 @@
-//! Texts in pieces: what document 02 says of them, and each way to feed them.
+//! Texts in pieces: what S 13 says of them, and each way to feed them.
 
 mod common;
 

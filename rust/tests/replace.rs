@@ -6,7 +6,7 @@ use common::*;
 use etglavino::{Extent, Form, Refusal, Slot, MAX_SOURCE, RECORD};
 
 #[test]
-fn document_01s_correction() {
+fn correction_of_the_specification() {
     let mut sheet = Sheet::list();
     let extent = Extent {
         length: 13,

@@ -7,7 +7,7 @@ use etglavino::{
     Extent, Form, Kind, OwnedSheet, Record, Refusal, Sheet, Value, MAX_CANONICAL, MAX_NODES, RECORD,
 };
 
-/// Document 01's records of its list.
+/// The records of S 16.1.
 fn list_records() -> Vec<Record> {
     let rows = LIST_TABLE.chunks_exact(RECORD);
     rows.map(|row| Record::from(<[u32; RECORD]>::try_from(row).unwrap()))
@@ -15,7 +15,7 @@ fn list_records() -> Vec<Record> {
 }
 
 #[test]
-fn documents_list_in_lent_and_in_owned_space() {
+fn the_list_in_lent_and_in_owned_space() {
     let (mut octets, mut records) = ([7; 20], [Record::default(); 4]);
     let source = b" ( abc [ x ] \"\" ) ";
     let lent = Sheet::read(Form::Advanced, source, &mut octets[..], &mut records[..]).unwrap();

@@ -1,4 +1,4 @@
-//! A spool in lent space: document 02's examples, its cuts, and a disk that
+//! A spool in lent space: the examples of S 16.6, cuts, and a disk that
 //! keeps no order. Expected areas were worked out by hand.
 
 mod common;

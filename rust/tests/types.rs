@@ -17,7 +17,7 @@ const REFUSALS: [Refusal; 8] = [
 ];
 
 #[test]
-fn refusals_are_numbered_from_one_in_document_01s_order() {
+fn refusals_are_numbered_from_one_in_order() {
     for (number, refusal) in (1..).zip(REFUSALS) {
         assert_eq!(refusal.number(), number);
         let shown = refusal.to_string();

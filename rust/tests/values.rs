@@ -1,5 +1,5 @@
-//! Values with a type, and hours. Expected values are document 02's, or worked
-//! out from it by hand. Every entry runs on threads with just `STACK` octets.
+//! Values with a type, and hours. Expected values are worked out from S 10
+//! by hand. Every entry runs on threads with just `STACK` octets.
 
 mod common;
 

@@ -1,5 +1,5 @@
-"""Texts converted, checked, shown and compared. Expected values are document
-01's, or worked out from it by hand."""
+"""Texts converted, checked, shown and compared. Expected values are those
+of docs/SPECIFICATION.md, or worked out from it by hand."""
 
 import unittest
 

@@ -10,7 +10,7 @@ ROOT = Path(__file__).resolve().parents[2]
 TOOL = os.environ.get("ETGLAVINO_TOOL", str(ROOT / "tool/target/release/etglavino"))
 
 LIST = b"(3:abc[1:x]0:)"
-"""The list that document 01 works with; its other spellings and its table follow."""
+"""The list of S 16.1 (docs/SPECIFICATION.md); its other spellings and its table follow."""
 LIST_BASIC = b"{KDM6YWJjWzE6eF0wOik=}"
 LIST_ADVANCED = b'(abc [x]"")\n'
 LIST_TABLE = b"2 0 14 3 0 0 1 13 0\n0 1 6 1 0 0 3 6 0\n1 6 13 1 9 10 13 13 0\n"

@@ -1,7 +1,7 @@
 //! Texts whose places are asked for.
 
-/// 02's and its readings' examples: what each begins with that begins some canonical
-/// form.
+/// Examples, S 16.5 and others by hand: how many octets of each begin some canonical
+/// form (S 7.3).
 pub const EXAMPLES: [(&[u8], usize); 14] = [
     (b"", 0),
     (b"3:abcX", 5),

@@ -1,4 +1,4 @@
--- A tree in braces, which form 4 has where a value may stand.
+-- A tree in braces, which form 4 has where a value may stand (S 3.3).
 use Prim.Native.Nat.{ℕ, _+_, _≤_, _<_}
 use mathlib.Core.Path.{_≡_}
 use mathlib.Core.List.{List}

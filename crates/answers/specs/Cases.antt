@@ -1,4 +1,4 @@
--- Whether each case of an answer is an acceptance, and 01's number and values for it. They settle the case (proofs/Injective).
+-- Whether each case of an answer is an acceptance, and its number and values (S 14.2). They settle the case (proofs/Injective).
 use Prim.Native.Nat.{ℕ}
 use mathlib.Core.Path.{_≡_}
 use mathlib.Core.Bool.{true}

@@ -6,7 +6,7 @@ use mathlib.Core.List.{List}
 use denote.Ref.{RefT, now, ptr}
 use Rattle.model.specs.Answers.{Part}
 
--- 01, "we show the part of the sheet that holds it .. the default as lent": in the sheet where a part of it is shown, else where the other stands
+-- S 1.5, 8.5, what is shown is no copy: in the sheet where a part of it is shown, else where the other stands
 unfoldable pub shownAt : Option Part → ℕ × ℕ → ℕ × ℕ → ℕ × ℕ
 shownAt none sheet other = other
 shownAt (some p) sheet other = (sheet .0, p .start + sheet .1)

@@ -1,7 +1,7 @@
-// What the entries answer. specs/ gives 01's number and values for each case.
+// What the entries answer. specs/ gives number and values for each case (S 14.2).
 ghost use Rattle.answers.specs.Cases.{RefusesAt, Refuses, RefusesWriting, RefusesComparing};
 
-// Why something was refused: the number of the row in document 01's table, and the place in the text; 0 where none is told.
+// Why something was refused: the number of the row (S 7.1), and the place in the text (S 7.3); 0 where none is told.
 pub struct Refusal {
     pub number: u32,
     pub place: usize,

@@ -1,4 +1,4 @@
--- How many octets of a text begin a string, where the text does not begin with a whole one: what Ask 7's p needs of a length. Its
+-- How many octets of a text begin a string, where the text does not begin with a whole one: what the place of S 7.3 needs of a length. Its
 -- digits are looked at to their end, however many there are; their value doesn't matter.
 use Prim.Native.Nat.{ℕ, _+_}
 use mathlib.Core.List.{List, [], _∷_}

@@ -3,7 +3,7 @@ use Prim.Native.Nat.{ℕ, _+_, _*_, _/_, _%_, _<_}
 use mathlib.Core.List.{List, [], _∷_}
 use lib.ListN.{getD}
 
--- 01, "four letters taken together give three octets"
+-- S 3.10: four letters give three octets
 abbrev pub threeOctets : ℕ → ℕ → ℕ → ℕ → List ℕ
 threeOctets a b c e = (a * 4 + b / 16) ∷ (b % 16 * 16 + c / 4) ∷ (c % 4 * 64 + e) ∷ []
 

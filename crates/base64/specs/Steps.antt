@@ -15,7 +15,7 @@ use Rattle.base64.specs.declared.steps.Group.{Group}
 use Rattle.base64.specs.declared.steps.Group.the-variants.{Four, Rest, NoGroup}
 use Rattle.base64.specs.Bits.{threeOctets, Low}
 
--- an octet that closes base-64: the bar, and the brace, for which 01 says "Braces follow the same rule"
+-- an octet that closes base-64: the bar, and the brace, for which the rule is the same (S 3.10)
 pub record Closing (mark : ℕ) : Type 0 where
   pub no-letter : letter mark ≡ 64
   pub no-pad : mark ≡ 61 → ⊥

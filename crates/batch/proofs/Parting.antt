@@ -1,4 +1,4 @@
--- 02, Ask 14, "sheets written back to back, any number of them, can be split in only one way": of any size, any number of them.
+-- S 12.2: a run comes from one list of trees only, of any size and any number of them.
 use Prim.Native.Nat.{ℕ, zero, suc, _+_, _-_, _≤_, _<_}
 use native.Mathlib.Omega.{arith}
 use mathlib.Core.Path.{_≡_, refl, sym, ap, ap₂, _∙_, subst}

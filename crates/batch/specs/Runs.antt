@@ -1,4 +1,4 @@
--- Sheets written back to back, a run of them (02, Ask 14): where the first ends, and all of them one after another. A sheet here is a
+-- Sheets written back to back, a run of them (S 12.2): where the first ends, and all of them one after another. A sheet here is a
 -- tree's canonical form of any size and depth: no limit has a say in where it ends.
 use Prim.Native.Nat.{ℕ, zero, suc}
 use mathlib.Core.List.{List, [], _∷_}
@@ -8,7 +8,7 @@ use Rattle.model.specs.Decode.{decode₁}
 use Rattle.model.specs.Tree.{Forest, nil, cons, canon}
 
 -- how many octets at the front, at most so many, are one canonical form; 0 where none are. No canonical form begins another
--- (demand 2), so that there is one such number at most: `first-is`, `first-begins`, `first-none` say so
+-- (S 2.4), so that there is one such number at most: `first-is`, `first-begins`, `first-none` say so
 unfoldable pub firstUpTo : ℕ → List ℕ → ℕ
 firstUpTo zero run = 0
 firstUpTo (suc n) run = pick (isNone (decode₁ (take (suc n) run))) (firstUpTo n run) (suc n)

@@ -1,4 +1,4 @@
-// Sheets written back to back (02, Ask 14): where the first of them ends.
+// Sheets written back to back (S 12.3): where the first of them ends.
 ghost use mathlib.Core.Path.{_≡_};
 ghost use Rattle.batch.specs.Runs.{firstSheet};
 use canonical::Item;

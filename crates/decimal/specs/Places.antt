@@ -1,4 +1,4 @@
--- 02, Ask 4, "by comparing and subtracting": a number taken apart by powers of ten, from the largest.
+-- S 5.4: a number taken apart by powers of ten, from the largest, by comparing and subtracting.
 use Prim.Native.Nat.{ℕ, _+_, _*_, _-_, _/_, _%_, _≤_, _<_}
 use mathlib.Core.Path.{_≡_}
 use mathlib.Core.List.{List, [], _∷_}

@@ -1,4 +1,4 @@
--- Demand 3, "Correcting one entry equals starting again.": of every accepted correction, whichever it is.
+-- S 15.3: correcting equals reading afresh, of every accepted correction, whichever it is.
 use Prim.Native.Nat.{ℕ, _*_, _/_, _≤_}
 use native.Mathlib.Omega.{arith}
 use mathlib.Core.Path.{_≡_, refl, sym, ap, _∙_, subst}
@@ -54,7 +54,7 @@ room-as {t} canonical table canonical′ table′ h k r =
 
 module _ {canonical table : List ℕ} {len count : ℕ} {old now : Tree} {k n s e : ℕ} {new : Forest} {holding : ℕ → Bool} {answer : Outcome}
     (c : Correction canonical table len count old now k n s e new holding answer) where
-  -- 01, "The corrected sheet is that tree's canonical form"
+  -- S 15.3: the sheet is the corrected tree's canonical form
   pub corrected-sheet : take (answer .octets) (answer .canonical) ≡ canon now
   corrected-sheet = ap (λ (o : Outcome). take (o .octets) (o .canonical)) (c .is) ∙ front-octets now len count canonical table
 
@@ -69,7 +69,7 @@ module _ {canonical table : List ℕ} {len count : ℕ} {old now : Tree} {k n s 
   unfolding filled
   corrected-count = ap (λ (o : Outcome). o .count) (c .is)
 
-  -- 01, "Reading it afresh is reading it in form 1 into a sheet and a table of the same room"
+  -- S 15.3: as reading in form 1 into as much room, whatever that holds
   pub afresh : (canonical′ table′ : List ℕ) → length canonical′ ≡ length canonical → length table′ ≡ length table
       → SameResult answer (reading 1 (take (answer .octets) (answer .canonical)) canonical′ table′)
   afresh canonical′ table′ h k =

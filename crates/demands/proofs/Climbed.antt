@@ -1,4 +1,4 @@
--- 02, Ask 11: whoever climbs from a node comes to node 0, in at most as many steps as the tree is deep.
+-- S 4.4: whoever climbs from a node comes to node 0, in at most as many steps as the tree is deep.
 use Prim.Native.Nat.{ℕ, zero, suc, _+_, _-_, _≤_, _<_, max}
 use native.Mathlib.Omega.{arith}
 use mathlib.Core.Path.{_≡_, refl, sym, ap, _∙_, subst}

@@ -1,4 +1,4 @@
--- 02, Ask 3: "Two escapes were left out".
+-- S 3.13: the two escapes of request 3.
 use Prim.Native.Nat.{ℕ}
 use mathlib.Core.Path.{_≡_, refl}
 use mathlib.Core.Option.{some}
@@ -17,16 +17,16 @@ use Rattle.model.proofs.Wider.{language-wider}
 pub more-escapes : (es fs : List (ℕ × ℕ)) {form : ℕ} {s : List ℕ} {t : Tree} → Language (escaping es) form s t → Language (escaping (es ++ fs)) form s t
 more-escapes es fs = language-wider (listed-wider es fs)
 
--- "also has `\a` (octet 7) and `\?` (octet 63)": the list is 01's, and these two
+-- S 3.8: the list is that of 1997, and the two of request 3
 pub two-more : escapes ≡ listed ++ (97, 7) ∷ (63, 63) ∷ []
 two-more = refl
 
--- "Put the definition right": the rules in force have that list
+-- the rules in force have that list
 pub in-force : rules ≡ escaping escapes
 unfolding escape
 in-force = refl
 
--- "texts accepted before keep their octets": the decoder gives the tree that it gave with 01's list
+-- S 3.13: a text accepted before keeps its tree
 pub kept : (form : ℕ) (s : List ℕ) (t : Tree) → decodeUnder (escaping listed) form s ≡ some t → decode form s ≡ some t
 unfolding decode escape
 kept form s t e = decoder-wider (escaping listed) rules (listed-wider listed ((97, 7) ∷ (63, 63) ∷ [])) listed-apart rules-apart form s t e

@@ -1,4 +1,4 @@
--- 02, Ask 8: what is answered of a node of a sheet with its own table, by the node's tree: its value, and its line.
+-- S 10.2, 10.3: what is answered of a node of a sheet with its own table, by the node's tree: its value, and its line.
 use Prim.Native.Nat.{ℕ, _≤_, _<_}
 use native.Mathlib.Omega.{arith}
 use mathlib.Core.Path.{_≡_, refl, sym, ap, _∙_, subst}
@@ -68,7 +68,7 @@ module _ (canonical : List ℕ) (len : ℕ) (t : Tree) (x : Tree) (f : Forest) (
       by NoCount e = is-none (λ l n w. let p = count-of-line l n w in let z : _≡_ {A = ℕ} 0 1 = cc (p .1) in omega arith)
 
 module _ (canonical : List ℕ) (len : ℕ) (table : List ℕ) (count node : ℕ) where
-  -- 02, "after 7 and 8"
+  -- S 10.2: rows 7 and 8 come first
   pub value-not-own : ownTree canonical len table count ≡ none → valuing canonical len table count node ≡ unvalued 7
   unfolding valuing
   value-not-own e = not-own canonical len table count node _ _ _ e
@@ -110,7 +110,7 @@ module _ (canonical : List ℕ) (len : ℕ) (table : List ℕ) (count node : ℕ
           a-node canonical len table count node _ _ _ t o h
           ∙ value-some (nodeValue canonical len table count node) v (value-by ∙ ap valueIn (value-is _ _ (nodeAt t node) v w))
 
-      -- 02, "A list, a wrong length, an `int` not shortest, NaN and infinity refuse with 11"
+      -- S 10.2: where the node's tree has no value, 11
       pub value-refused : ((v : Value) → Has v → ⊥) → valuing canonical len table count node ≡ unvalued 11
       unfolding valuing
       value-refused f =
@@ -152,7 +152,7 @@ module _ (canonical : List ℕ) (len : ℕ) (table : List ℕ) (count node : ℕ
           ∙ line-some (nodeLine canonical len table count node) _ l (totalBy n) (line-by ∙ ap (keptIf (hoursAt canonical t node)) (p .1) ∙ p .0)
           (ap (λ (x : Tree). totalFor (lineCount canonical x node)) tree-is ∙ ap totalFor (p .1))
 
-      -- 02, "Whatever is wrong with a line gives 12"
+      -- S 10.3: where the node's tree is no line, 12
       pub line-refused : ((l : Line) (n : ℕ) → ShiftLine (nodeAt t node) l n → ⊥) → lining canonical len table count node ≡ unlined 12
       unfolding lining
       line-refused f =

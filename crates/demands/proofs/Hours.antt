@@ -1,4 +1,4 @@
--- 02, Ask 8: a line is answered exactly where the node is one, with its total; else 12. The total is exactly a quarter of its count.
+-- S 10.3, 10.5: a line is answered exactly where the node is one, with its total; else 12. The total is exactly a quarter of its count.
 use Prim.Native.Nat.{ℕ, _+_, _^_, _≤_, _<_}
 use native.Mathlib.Omega.{arith}
 use mathlib.Core.Path.{_≡_, refl, sym, ap, _∙_}

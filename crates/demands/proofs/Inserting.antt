@@ -1,5 +1,5 @@
--- Demand 3 of inserting (02, Ask 5): refused exactly when a condition is missing, and an accepted insertion is a correction whose entry is
--- the element inserted.
+-- S 15 of inserting: refused exactly when a condition is missing, and an accepted insertion is a correction whose entry is the element
+-- inserted.
 use Prim.Native.Nat.{ℕ, _+_, _-_, _<_}
 use native.Mathlib.Omega.{arith}
 use native.Mathlib.Nat.{add-zero}
@@ -48,7 +48,7 @@ module _ (form : ℕ) (text canonical table : List ℕ) (len count node k : ℕ)
   abbrev answer : Outcome
   answer = inserting form text canonical table len count node k
 
-  -- 02, "it comes directly after 8 in correction's order"
+  -- S 8.7: 9 comes directly after 8
   pub insert-order : map (λ (c : Check). c .row) checks ≡ (1 ∷ 2 ∷ 3 ∷ 7 ∷ 8 ∷ 9 ∷ 4 ∷ 5 ∷ 6 ∷ [])
   unfolding insertingChecks textChecks roomChecks
   insert-order = refl
@@ -124,7 +124,7 @@ module _ (form : ℕ) (text canonical table : List ℕ) (len count node k : ℕ)
   unfolding inserting telling
   insert-refused-for n h e = fills-for checks _ len count canonical table n h e
 
-  -- ---- 02, "an insertion's entry is the element inserted, which in the old sheet starts and ends at its place"
+  -- ---- S 15.1: the entry is the new element, in the old sheet an empty part at its place
   module _ (c : Insertable form text canonical table len count node k) where
     abbrev old : Tree
     old = c .old

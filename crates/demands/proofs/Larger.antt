@@ -1,4 +1,4 @@
--- 02, Ask 9: "Larger plants", its cases.
+-- S 16.4: the cases of request 9.
 use Prim.Native.Nat.{ℕ, zero, suc, _+_, _*_, _≤_, _<_}
 use native.Mathlib.Omega.{arith}
 use mathlib.Core.Path.{_≡_, refl, ap, _∙_}
@@ -122,7 +122,7 @@ module _ (t : Tree) (canonical table : List ℕ) (short : length (canon t) ≤ m
         ∙ verdict-past Nodes _ _ (le-ltb (records table) (nodes t) r)
         ∙ verdict-here Size _ _ (picked _ _ (lt-ltb maxCanonical (length (canon t)) h)))
 
--- "now 128 and 129 deep": n lists in each other are accepted up to 128, in room for them
+-- S 16.4, depth: n lists in each other are accepted up to 128, in room for them
 pub deep-accepted : (n : ℕ) (canonical table : List ℕ) → n < 128 → 1 + n ≤ records table → 2 + 2 * n ≤ length canonical
     → reading 1 (canon (nest n)) canonical table ≡ filled (nest n) 0 0 canonical table
 deep-accepted n canonical table h r o =
@@ -141,7 +141,7 @@ deep-accepted n canonical table h r o =
 pub deeper-refused : (n : ℕ) (canonical table : List ℕ) → 128 ≤ n → n < 16384 → reading 1 (canon (nest n)) canonical table ≡ unchanged 4 canonical table
 deeper-refused n canonical table h s = too-deep (nest n) canonical table (omega (arith, nest-length n)) (omega (arith, nest-depth n))
 
--- "a list of 8,191 `0:` accepted"
+-- S 16.4: a list of 8,191 `0:` is read
 pub most-accepted : (canonical table : List ℕ) → 8192 ≤ records table → 16384 ≤ length canonical
     → reading 1 (canon (empties 8191)) canonical table ≡ filled (empties 8191) 0 0 canonical table
 most-accepted canonical table r o =
@@ -156,12 +156,12 @@ most-accepted canonical table r o =
     l : length (canon (empties 8191)) ≤ maxSource
     l = omega (arith, empties-length 8191)
 
--- "of 8,192: 5 in 8,192 records"
+-- S 16.4: one of 8,192 gives 5 in 8,192 records
 pub over-refused-5 : (canonical table : List ℕ) → records table ≡ 8192 → reading 1 (canon (empties 8192)) canonical table ≡ unchanged 5 canonical table
 over-refused-5 canonical table r =
     too-many (empties 8192) canonical table (omega (arith, empties-length 8192)) (omega (arith, empties-depth 8192)) (omega (arith, empties-nodes 8192))
 
--- "6 in more"
+-- and 6 in more
 pub over-refused-6 : (canonical table : List ℕ) → 8192 < records table → reading 1 (canon (empties 8192)) canonical table ≡ unchanged 6 canonical table
 over-refused-6 canonical table r =
     too-long (empties 8192) canonical table (omega (arith, empties-length 8192)) (omega (arith, empties-depth 8192)) (omega (arith, empties-nodes 8192)) (omega (arith, empties-length 8192))

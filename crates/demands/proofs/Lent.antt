@@ -1,4 +1,4 @@
--- Demand 3 about the lent sheet and table, before an accepted correction and after it, whichever it is.
+-- S 15.4 to 15.6, of the lent sheet and table before an accepted correction and after it, whichever it is.
 use Prim.Native.Nat.{ℕ, _+_, _*_, _-_, _≤_, _<_}
 use native.Mathlib.Omega.{arith}
 use mathlib.Core.Path.{_≡_, sym, ap, ap₂, _∙_}
@@ -32,7 +32,7 @@ module _ {canonical table : List ℕ} {len count : ℕ} {old now : Tree} {k n s 
   moves : Moves old now k n s (e - s) new
   moves = change-moves (c .change)
 
-  -- "Octets before the entry stay."
+  -- S 15.4: octets before the entry stay
   pub octets-stay : (i : ℕ) → i < s → getD (answer .canonical) i 0 ≡ getD canonical i 0
   octets-stay i h =
       octet-of (canon now) (answer .canonical) (answer .octets) i (corrected-sheet c) (omega (arith, moves .octetsIn, change-length (c .change)))
@@ -45,7 +45,7 @@ module _ {canonical table : List ℕ} {len count : ℕ} {old now : Tree} {k n s 
       octet-of (canon now) (answer .canonical) (answer .octets) (s + i) (corrected-sheet c) (omega (arith, moves .octetsIn, change-length (c .change)))
       ∙ octet-new moves i h
 
-  -- "Octets after it are the same, in the same order, and only move.": by the new length less the old
+  -- S 15.4: octets behind it are the same, in order, and move by the new length less the old
   pub octets-move : (i i′ : ℕ) → e ≤ i → i < len → i′ + len ≡ i + answer .octets → getD (answer .canonical) i′ 0 ≡ getD canonical i 0
   octets-move i i′ h l m =
       octet-of (canon now) (answer .canonical) (answer .octets) i′ (corrected-sheet c) (omega (arith, corrected-octets c))
@@ -63,14 +63,14 @@ module _ {canonical table : List ℕ} {len count : ℕ} {old now : Tree} {k n s 
   around-as j h = let x : s + (e - s) ≡ e = omega (arith, c .ordered) in rw x (sym (c .held j h))
 
   module _ (j : ℕ) (h : j < k) where
-    -- "Among earlier records only those of the lists around the entry change."
+    -- S 15.5: of earlier records only those of the lists around change
     pub records-stay : holding j ≡ false → recordAt (answer .table) j ≡ recordAt table j
     records-stay i =
         record-is j (omega (arith, moves .nodesIn, change-nodes (c .change)))
         ∙ ap₂ recorded (change-stays (c .change) j h (around-as j h ∙ i)) (change-up-before (c .change) j h)
         ∙ sym (record-was j (omega (arith, moves .nodesIn)))
 
-    -- 01, "their records change at most in end, node count and data end"
+    -- S 15.5: these change in end, node count and data end at most
     pub records-grow : holding j ≡ true → Grows (rowOf old j) (rowOf now j) (length (canon old)) (length (canon now)) (nodes old) (nodes now)
     records-grow i = change-grows (c .change) j h (around-as j h ∙ i)
 
@@ -86,7 +86,7 @@ module _ {canonical table : List ℕ} {len count : ℕ} {old now : Tree} {k n s 
   pub records-shift : (j j′ : ℕ) → k + n ≤ j → j < nodes old → j′ + nodes old ≡ j + nodes now → Shifts (rowOf old j) (rowOf now j′) (length (canon old)) (length (canon now))
   records-shift j j′ h i l = change-shifts (c .change) j j′ h i l
 
-  -- ---- 02, Ask 11, "Demand 3 then also settles this number for the records after a correction": the ninth of a record
+  -- ---- S 15.6, the parents after a correction: the ninth number of a record
   pub ninth-was : (j : ℕ) → j < nodes old → getD (recordAt table j) 8 0 ≡ parentOf old j
   ninth-was j h = ap (λ (l : List ℕ). getD l 8 0) (record-was j h)
 

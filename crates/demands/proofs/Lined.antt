@@ -1,5 +1,5 @@
--- 02, Ask 8, "a shift line is a list of exactly three `f64` strings": such a list has their doubles as its hours, and where a tree that
--- stands in a sheet has hours it is such a list.
+-- S 10.3: a list of exactly three `f64` strings has their doubles as its hours, and where a tree that stands in a sheet has hours it is
+-- such a list.
 use Prim.Native.Nat.{ℕ, suc, _+_}
 use native.Mathlib.Omega.{arith}
 use mathlib.Core.Path.{_≡_, refl, sym, ap, _∙_, subst}

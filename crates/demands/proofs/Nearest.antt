@@ -1,4 +1,4 @@
--- 02, Ask 11, "the node number of the list directly around it": it is a list that holds the node, and no list in it does.
+-- S 4.4: the parent is a list that holds the node, and no list in it does.
 use Prim.Native.Nat.{ℕ, zero, suc, _+_, _-_, _≤_, _<_}
 use native.Mathlib.Omega.{arith}
 use mathlib.Core.Path.{_≡_, refl, sym, ap, ap₂, _∙_, subst}

@@ -48,7 +48,7 @@ rests : map (λ (o : Outcome). o .canonical) (longer-first 14 ∷ shorter-first 
 unfolding correcting equal chain isNone digitsUpTo digits verbatim canon nodes depth flat tableOf rows parents bind number decimal first afterLength verbatimOf closeStrict strictLexeme before lexemesBy strictLexemes onto enclose place placeIn nestings onlyTree onlyIn nest decode₁ decode join within replace verdict judged noForm the roomChecks textChecks settled fits fitting sheetTree owns ownTree filled replaced replacingChecks replacing telling
 rests = refl
 
--- "provided both are accepted in both orders": the longer one has no room before the shorter one has made it
+-- S 12.1, all four accepted: the longer one has no room before the shorter one has made it
 tight : (correcting longer (take 11 lent) table 11 3 1) .number ∷ shorter-first 11 .number ∷ [] ≡ 6 ∷ 0 ∷ []
 unfolding correcting equal chain isNone digitsUpTo digits verbatim canon nodes depth flat tableOf rows parents bind number decimal first afterLength verbatimOf closeStrict strictLexeme before lexemesBy strictLexemes onto enclose place placeIn nestings onlyTree onlyIn nest decode₁ decode join within replace verdict judged noForm the roomChecks textChecks settled fits fitting sheetTree owns ownTree filled replaced replacingChecks replacing telling
 tight = refl

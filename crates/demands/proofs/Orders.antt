@@ -1,5 +1,5 @@
--- 02, Ask 14: corrections of two different nodes, neither inside the other, end in the same length, count, octets and records in either
--- order. So do insertions and removals.
+-- S 12.1: corrections of two nodes, the one further on and outside the other, end in the same length, count, octets and records in either
+-- order. So do insertions and removals (S 12.4).
 use Prim.Native.Nat.{ℕ, suc, _+_, _-_, _≤_, _<_}
 use native.Mathlib.Omega.{arith}
 use mathlib.Core.Path.{_≡_, refl, sym, ap, _∙_, subst}
@@ -202,7 +202,7 @@ module _ (c d : Errand) (t : Tree) (len count a b b' : ℕ)
         let m = own-of canonical len table count t own .counted in
         sym (either-order t a b present outside (deedOf c) (deedOf d) b' (omega (arith, shift, n, m, done-nodes t a b present outside (deedOf c))))
 
-    -- 02, "end in the same length, count, octets and table up to these in either order"
+    -- S 12.1: the same length, count, octets and records in either order
     pub either-way : SameResult a-then-b b-then-a
     either-way =
         same-way c d d c t len count a b' b a canonical table own canonical' table' own' a-first b-second b-first a-second same-trees

@@ -1,4 +1,4 @@
--- Ask 1, sheets in pieces, sentence by sentence: of the promises of a piece and of the end (`Piece` and `End` of crate pieces), over every
+-- S 13, texts in pieces, clause by clause: of the promises of a piece and of the end (`Piece` and `End` of crate pieces), over every
 -- way of cutting. A table that is lent as numbers has as many as are lent, one of records as many records; `lent` is either.
 use Prim.Native.Nat.{ℕ, _≤_, _<_, min}
 use native.Mathlib.Omega.{arith}
@@ -29,8 +29,8 @@ use Rattle.pieces.proofs.Wholes.{read-long, accepted-sheet}
 use Rattle.demands.proofs.Numbers.{refusing}
 use Rattle.demands.proofs.Placed.{canonical-text, read-tells}
 
--- ---- "a piece or end lent one of another size than the first time gets 7, with counts 0, before all else, and nothing changes, the state
--- included": whatever the state is, handed back or not
+-- ---- S 13.2: another size gives 7 first of all, with counts 0, and leaves everything as it was, the state too; whatever the state is,
+-- handed back or not
 
 pub another-size : {x : State} {piece sheet after : List ℕ} {lent : ℕ} {r : Fed} → sameSizes x (length sheet) lent ≡ false → Piece x piece sheet lent after r
     → (r .number ≡ NotOwn) × (r .octets ≡ 0) × (r .state ≡ x) × (after ≡ sheet)
@@ -47,14 +47,14 @@ pub first-sizes : {first : List ℕ} {lent : ℕ} {s : List ℕ} {x : State} {sh
 unfolding sameSizes stateAfter
 first-sizes {first} {lent} {s} h = ap (λ (y : State). sameSizes y (length first) lent) (in-turn h .x-is) ∙ true-both (eq-eqb (length first) (length first) refl) (eq-eqb lent lent refl)
 
--- ---- "a canonical sheet comes in scraps, some empty": an empty one changes nothing
+-- ---- S 13.1, pieces of any length: an empty one changes nothing
 
 pub empty-piece : {first : List ℕ} {lent : ℕ} {s : List ℕ} {x : State} {sheet after : List ℕ} {r : Fed} → Handed first lent s x sheet → Piece x [] sheet lent after r → (r .state ≡ x) × (after ≡ sheet)
 empty-piece {first} {lent} {s} h p =
     let e = p .goes-on first s (in-turn h) in
     (ap (λ (y : Fed). y .state) (e .0) ∙ ap (stateAfter (length first) lent) (append-nil s) ∙ sym (in-turn h .x-is), e .1 ∙ ap (sheetAfter first) (append-nil s) ∙ sym (in-turn h .sheet-is))
 
--- ---- "the sheet already begins with them, as far as its room and 16,384 go"; past them it is as it first was
+-- ---- S 13.3: what was taken stands at the front of the sheet, up to its room and 16,384; past that it is as it first was
 
 module _ {first : List ℕ} {lent : ℕ} {s : List ℕ} {x : State} {sheet : List ℕ} (h : Handed first lent s x sheet) where
   -- so many are there
@@ -89,30 +89,29 @@ module _ {first : List ℕ} {lent : ℕ} {s : List ℕ} {x : State} {sheet table
   gives : outcome r sheet table′ ≡ inSheet (sheetAfter first s) whole
   gives = whatever-the-cutting h e
 
-  -- "the end then gives the answer of reading the whole in form 1": accepted or refused, its number, place and counts
+  -- S 13.4: the answer of reading all octets fed in form 1, accepted or refused, its number, place and counts
   pub same-answer : (outcome r sheet table′ .accepted ≡ whole .accepted) × (outcome r sheet table′ .number ≡ whole .number) × (outcome r sheet table′ .place ≡ whole .place)
       × (outcome r sheet table′ .octets ≡ whole .octets) × (outcome r sheet table′ .count ≡ whole .count)
   same-answer =
       (ap (λ (o : Outcome). o .accepted) gives, ap (λ (o : Outcome). o .number) gives, ap (λ (o : Outcome). o .place) gives, ap (λ (o : Outcome). o .octets) gives, ap (λ (o : Outcome). o .count) gives)
 
-  -- ".. and, where accepted, the same sheet and table": all that reading the whole answers and leaves
+  -- S 13.4, accepted: all that reading the whole answers and leaves
   pub same-when-accepted : whole .accepted ≡ true → outcome r sheet table′ ≡ whole
   same-when-accepted a = gives ∙ (λ i. inSheet (accepted-sheet first s table a i) whole)
 
-  -- "A refused end restores nothing": the sheet is as the pieces left it, and the table as it first was
+  -- S 13.4, refused: the sheet is as the pieces left it, and the table as it first was
   pub restores-nothing : whole .accepted ≡ false → (sheet ≡ sheetAfter first s) × (table′ ≡ table)
   restores-nothing a = (begins-with h, sym (left-table r sheet table′) ∙ ap (λ (o : Outcome). o .table) gives ∙ refused-table first s table a)
 
-  -- "the count stops at 32,769, and then the end gives 2"
+  -- S 13.3, 13.4: where 32,769 octets were taken, the end gives 2
   pub then-the-end-gives-2 : 32769 ≤ length s → outcome r sheet table′ ≡ unchanged SourceSize sheet table
   then-the-end-gives-2 l = gives ∙ ap (inSheet (sheetAfter first s)) (read-long s first table (omega arith)) ∙ (λ i. unchanged SourceSize (sym (begins-with h) i) table)
 
-  -- Ask 7, "Ask 1's end reports p too"
+  -- S 13.4: with 3 the end tells the place of S 7.3
   pub end-tells : outcome r sheet table′ .number ≡ Syntax → Largest s (outcome r sheet table′ .place)
   end-tells n = subst (Largest s) (sym (same-answer .2)) (read-tells 1 s first table canonical-text (sym (same-answer .1) ∙ n))
 
--- ---- "State, sheet and table after any piece or refused end are fixed by the octets fed and the buffers' first contents, never by the
--- cutting": two ways of cutting the same octets have the same state and sheet, and give the same answer and table
+-- ---- S 13.5: two ways of cutting the same octets have the same state and sheet, and give the same answer and table
 
 pub any-two-cuttings : {first : List ℕ} {lent : ℕ} {s : List ℕ} {x y : State} {sheet sheet′ table table₁ table₂ : List ℕ} {r q : Reading} → Handed first lent s x sheet → Handed first lent s y sheet′
     → End x sheet lent table table₁ r → End y sheet′ lent table table₂ q → (x ≡ y) × (sheet ≡ sheet′) × (outcome r sheet table₁ ≡ outcome q sheet′ table₂)

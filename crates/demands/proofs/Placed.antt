@@ -1,5 +1,5 @@
--- Ask 7: the place that is told with refusal 3 is the largest p such that the first p octets begin some canonical form, in form 1 and in
--- form 2 where the text doesn't begin with `{`; in all other cases it is 0.
+-- S 7.3: the place that is told with refusal 3 is the largest p for which some canonical form begins with the first p octets, in form 1, and in
+-- form 2 unless the text begins with `{`; in all other cases it is 0.
 use Prim.Native.Nat.{ℕ}
 use mathlib.Core.Path.{_≡_, refl, sym, ap, _∙_, subst}
 use mathlib.Core.Bool.{true, false}

@@ -1,6 +1,4 @@
--- Demand 2: "A text is accepted exactly when document 01's reading of RFC 9804 allows it in the form named (canonical, basic,
--- advanced) and text and tree fit the limits and the room lent. The octets left are that tree's canonical form and the table
--- is that tree's table."
+-- S 14.4: exactly which texts are read; and S 8.1: the sheet and the table that are left, and what stays.
 use Prim.Native.Nat.{ℕ, _*_, _-_, _≤_, _<_, max}
 use native.Mathlib.Omega.{arith}
 use mathlib.Core.Path.{_≡_, refl, sym, ap, _∙_}
@@ -90,7 +88,7 @@ module _ (form : ℕ) (source canonical table : List ℕ) where
     filled-tree : answer ≡ filled tree 0 0 canonical table
     filled-tree = allowed-accepted (accepted-allowed e)
 
-    -- "length and node count" are the tree's
+    -- S 8.1: length and node count are the tree's
     pub length-left : answer .octets ≡ length (canon tree)
     unfolding filled
     length-left = ap (λ (o : Outcome). o .octets) filled-tree
@@ -99,7 +97,7 @@ module _ (form : ℕ) (source canonical table : List ℕ) where
     unfolding filled
     count-left = ap (λ (o : Outcome). o .count) filled-tree
 
-    -- "The octets left are that tree's canonical form", and "octets .. past them stay"
+    -- S 8.1: the octets left are the tree's canonical form, and those past them stay
     pub octets-left : take (answer .octets) (answer .canonical) ≡ canon tree
     unfolding filled settled
     octets-left = ap (λ (o : Outcome). take (o .octets) (o .canonical)) filled-tree ∙ take-append-seam (canon tree) _
@@ -110,7 +108,7 @@ module _ (form : ℕ) (source canonical table : List ℕ) where
         ap (λ (o : Outcome). drop (o .octets) (o .canonical)) filled-tree
         ∙ settled-past canonical (canon tree) (length (canon tree)) refl ∙ ap (λ (n : ℕ). drop n canonical) (sym length-left)
 
-    -- "the table is that tree's table", and "records past them stay"
+    -- S 8.1: the table left is the tree's, and records past it stay
     pub table-left : take (width * answer .count) (answer .table) ≡ tableOf tree
     unfolding filled settled
     table-left = ap (λ (o : Outcome). take (width * o .count) (o .table)) filled-tree ∙ take-at (tableOf tree) _ (width * nodes tree) (table-length tree)

@@ -1,5 +1,4 @@
--- Demand 3, "Whatever is handed in, a correction is refused exactly when one of those conditions is missing.", of replacing; and an
--- accepted one is a correction of the node.
+-- S 15.2 of replacing: refused exactly when a condition is missing; and an accepted one is a correction of the node.
 use Prim.Native.Nat.{ℕ, _<_}
 use native.Mathlib.Omega.{arith}
 use mathlib.Core.Path.{_≡_, sym, ap, ap₂, _∙_, subst}

@@ -1,5 +1,5 @@
--- Demand 3 of removing (02, Ask 5): refused exactly when a condition is missing, and an accepted removal is a correction of the node. What is
--- left always has room.
+-- S 15 of removing: refused exactly when a condition is missing, and an accepted removal is a correction of the node. What is left always
+-- has room.
 use Prim.Native.Nat.{ℕ, _<_}
 use native.Mathlib.Omega.{arith}
 use mathlib.Core.Path.{_≡_, refl, sym, ap, _∙_}
@@ -30,7 +30,7 @@ module _ (canonical table : List ℕ) (len count node : ℕ) where
   abbrev answer : Outcome
   answer = removing canonical table len count node
 
-  -- 02, "a removal has no text to judge"; rows 4 to 6 never apply to it (`removing-fits`)
+  -- S 8.8: there is no text to judge; rows 4 to 6 never apply to a removal (`removing-fits`)
   pub remove-order : map (λ (c : Check). c .row) checks ≡ (7 ∷ 8 ∷ 9 ∷ [])
   unfolding removingChecks
   remove-order = refl

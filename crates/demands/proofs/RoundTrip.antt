@@ -1,4 +1,4 @@
--- 01, demand 2: what is written in any form, read in that form with room, gives the same octets and their table.
+-- S 5.3: what is written in any form, read in that form with room, gives the same octets and their table.
 use Prim.Native.Nat.{ℕ, _≤_}
 use native.Mathlib.Omega.{arith}
 use mathlib.Core.Path.{_≡_, ap, _∙_, subst}

@@ -1,4 +1,4 @@
--- Demand 1, "by a fixed order of checks": a number is given exactly when its row is the first that applies.
+-- S 14.3: a number is given exactly when its row is the first that applies.
 use Prim.Native.Nat.{ℕ, _<_}
 use native.Mathlib.Omega.{arith}
 use mathlib.Core.Path.{_≡_, refl, sym, ap, _∙_}

@@ -1,6 +1,5 @@
--- 01, "Asked for a node's hint, we show the part of the sheet that holds it if the node is a string with a hint, and in every
--- other case, bad sheets and tables included, the default as lent. Asked for data, we show that part if sheet and table are good
--- and the node exists, else an empty part."
+-- S 8.5: a node's hint is shown as the part of the sheet that holds it, and in every other case the default as lent; its data as that part,
+-- and in every other case an empty one.
 use Prim.Native.Nat.{ℕ, _+_, _-_, _≤_, _<_}
 use native.Mathlib.Omega.{arith}
 use mathlib.Core.Path.{_≡_, refl, sym, ap, _∙_}
@@ -138,7 +137,7 @@ module _ (canonical : List ℕ) (len : ℕ) (table : List ℕ) (count node : ℕ
             (simp length-append (omega arith))
             (simp length-append (omega arith))
 
-      -- a list: "A list's data is what stands between its parentheses"
+      -- a list: its data is what stands between its parentheses (S 4.2)
       module _ (f : Forest) (q : nodeAt t node ≡ list f) where
         pub list-row : rowOf t node ≡ listRow (length front) (length front + length (canon (list f))) (nodes (list f))
         unfolding rows

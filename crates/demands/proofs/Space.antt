@@ -1,6 +1,6 @@
--- 01, of an accepted correction: "it sets octets between the new and a larger old length to 0, and records likewise; past both,
--- nothing changes". Octet by octet, number by number and record by record. `getD l i d` is d past the end of l, so what holds for
--- every d is said of what stands there.
+-- S 8.3, of an accepted correction: zeros between the new and a larger old length, in the table likewise, and past both nothing changes.
+-- Octet by octet, number by number and record by record. `getD l i d` is d past the end of l, so what holds for every d is said of what
+-- stands there.
 use Prim.Native.Nat.{ℕ, _+_, _*_, _-_, _≤_, _<_, max}
 use native.Mathlib.Omega.{arith}
 use mathlib.Core.Path.{_≡_, sym, ap, _∙_}
@@ -82,15 +82,15 @@ module _ {canonical table : List ℕ} {len count : ℕ} {old now : Tree} {k n s 
   numbers-are : length (tableOf now) ≡ width * answer .count
   numbers-are = table-length now ∙ sym (ap (λ (n : ℕ). width * n) (corrected-count c))
 
-  -- "it sets octets between the new and a larger old length to 0"
+  -- S 8.3: octets between the new and a larger old length are 0
   pub octets-zeroed : (i : ℕ) → answer .octets ≤ i → i < len → (d : ℕ) → getD (answer .canonical) i d ≡ 0
   octets-zeroed i h k d = ap (λ (l : List ℕ). getD l i d) canonical-is ∙ settled-zero canonical (canon now) len (answer .octets) octets-are i h k d
 
-  -- "past both, nothing changes"
+  -- S 8.3: past both nothing changes
   pub octets-kept : (i : ℕ) → answer .octets ≤ i → len ≤ i → (d : ℕ) → getD (answer .canonical) i d ≡ getD canonical i d
   octets-kept i h k d = ap (λ (l : List ℕ). getD l i d) canonical-is ∙ settled-rest canonical (canon now) len (answer .octets) octets-are i h k d
 
-  -- "and records likewise": by their numbers
+  -- S 8.3: records likewise, by their numbers
   pub numbers-zeroed : (i : ℕ) → width * answer .count ≤ i → i < width * count → (d : ℕ) → getD (answer .table) i d ≡ 0
   numbers-zeroed i h k d = ap (λ (l : List ℕ). getD l i d) table-is ∙ settled-zero table (tableOf now) (width * count) (width * answer .count) numbers-are i h k d
 

@@ -1,4 +1,4 @@
--- (ours) what is answered of a list of lines, by the list's tree; and that the total of any answer, of a line, a line made up or a list of
+-- S 10.4: what is answered of a list of lines, by the list's tree; and that the total of any answer, of a line, a line made up or a list of
 -- lines, is exactly a quarter of its count.
 use Prim.Native.Nat.{ℕ, _+_, _^_, _≤_, _<_}
 use native.Mathlib.Omega.{arith}

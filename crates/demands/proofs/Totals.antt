@@ -1,4 +1,4 @@
--- 02, Ask 8, "the double that is exactly a quarter of that count (plus zero for 0)": of the total in any answer, whatever was asked.
+-- S 10.3: the double is exactly a quarter of the count, plus zero for 0: of the total in any answer, whatever was asked.
 use Prim.Native.Nat.{ℕ, _≤_, _<_}
 use mathlib.Core.Path.{_≡_, refl, sym, ap, _∙_}
 use mathlib.Core.Option.{Option, none, some}

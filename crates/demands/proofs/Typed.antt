@@ -1,4 +1,4 @@
--- 02, Ask 8: the value of a string with a hint, wherever it stands in a sheet, and that a node's value writes back to its data octets.
+-- S 10.1, 10.6: the value of a string with a hint, wherever it stands in a sheet, and that a node's value writes back to its data octets.
 use Prim.Native.Nat.{ℕ, _+_}
 use native.Mathlib.Omega.{arith}
 use mathlib.Core.Path.{_≡_, refl, sym, ap, _∙_}
@@ -71,7 +71,7 @@ module _ (canonical : List ℕ) (len : ℕ) (table : List ℕ) (count node : ℕ
   unfolding nodeValue the
   value-by = ap (λ (x : Option Tree). valueIn (typedRow canonical (rowOf (the x) node))) o
 
-  -- 02, "every accepted value writes back to the same data octets, a raw one copied from its place in the octets lent"
+  -- S 10.6: an accepted value writes back to the same octets of data, a raw one from its place
   pub value-back : T (octets canonical) → (v : Value) → nodeValue canonical len table count node ≡ some v
       → coding canonical v ≡ some (slice (rowOf t node .dataStart) (rowOf t node .dataEnd) canonical)
   unfolding typedRow

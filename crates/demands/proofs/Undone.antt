@@ -1,5 +1,5 @@
--- Laws that a clerk expects of corrections one after another (02, Ask 5): what was just inserted, removed; what was removed, inserted in its
--- place; another tree inserted there; and that removed space is used again.
+-- Laws of corrections one after another (S 15.8, 15.9): what was just inserted, removed; what was removed, inserted in its place; another
+-- tree inserted there; and that removed space is used again.
 use Prim.Native.Nat.{ℕ, _*_, _-_, _≤_, _<_, max}
 use native.Mathlib.Omega.{arith}
 use mathlib.Core.Path.{_≡_, sym, ap, ap₂, subst, _∙_}

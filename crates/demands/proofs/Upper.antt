@@ -1,5 +1,4 @@
--- 02, Ask 11, "the node number of the list directly around it": of an element that was inserted it is the list asked for, and of a node
--- that was replaced it stays.
+-- S 15.6, the parent of a new tree: of an element that was inserted it is the list asked for, and of a node that was replaced it stays.
 use Prim.Native.Nat.{ℕ, _+_, _≤_, _<_}
 use native.Mathlib.Omega.{arith}
 use mathlib.Core.Path.{_≡_, refl, sym, ap, _∙_}

@@ -1,4 +1,4 @@
--- The value of a string by its hint, told both ways: a value is given exactly where 02's words give it.
+-- The value of a string by its hint (S 10.1), told both ways: a value is given exactly where the definitions over trees have one.
 use Prim.Native.Nat.{ℕ, _≤_}
 use native.Mathlib.Omega.{arith}
 use mathlib.Core.Path.{_≡_, refl, sym, ap, _∙_, subst}
@@ -84,7 +84,7 @@ module _ (s e : ℕ) (d : List ℕ) (v : Value) where
       let b : (leb (length d) 8 ≡ true) × (shortest d ≡ true) = both-are _ _ t in
       subst (ValueOf s e (hinted int d)) u (whole (leb-true _ _ (b .0)) (b .1)))
 
-  -- 02, "Strings now carry numbers, told by hint": a string with a value is as the words have it
+  -- S 10.1: a string with a value is as its hint tells
   pub hint-says : (g : List ℕ) → hintedAs g d (Is (Raw s e)) ≡ Is v → ValueOf s e (hinted g d) v
   hint-says g w =
       kind-cases g
@@ -120,7 +120,7 @@ module _ (s e : ℕ) where
   value-says (hinted g d) v w = hint-says s e d v g w
   value-says (list f) v w = let z : _≡_ {A = ℕ} 0 1 = cc in absurd (omega arith)
 
-  -- and a string as the words have it has the value
+  -- and a string as its hint tells has the value
   pub value-is : (x : Tree) (v : Value) → ValueOf s e x v → valueBy s e x ≡ Is v
   unfolding kindOf equal
   value-is x v (single {d} l f) = as-single d s e f32 refl ∙ single-made d l f

@@ -1,4 +1,4 @@
--- (ours) a list of lines: the sum over the elements of the list's tree, or the first element that is no line.
+-- S 10.4, a list of lines: the sum over the elements of the list's tree, or the first element that is no line.
 use Prim.Native.Nat.{ℕ, zero, suc, _+_, _*_, _≤_, _<_}
 use native.Mathlib.Omega.{arith}
 use native.Mathlib.Nat.{add-zero}

@@ -22,7 +22,7 @@ use Rattle.demands.proofs.Rows.{judged-by, judged-for, no-row, not-this
 
 -- ---- writing
 
--- 01, "writing 1, 7, 6": none applies
+-- S 8.2: 1, 7, 6, and none applies
 pub record Writable (form : ℕ) (canonical : List ℕ) (len : ℕ) (out : List ℕ) : Type 0 where
   pub known : noOutForm form ≡ false
   pub tree : Tree
@@ -69,7 +69,7 @@ module _ (form : ℕ) (canonical : List ℕ) (len : ℕ) (out : List ℕ) where
       let q : written form canonical len ≡ encode form t = ap (λ (o : Option Tree). encode form (the o)) i in
       record { known = a .0; tree = t; is = i; roomy = omega (arith, r, ap length q) })
 
-  -- 01, "An accepted writing gives its length; output past it stays"
+  -- S 8.2: the length given is the text's, and output past it stays
   module _ (e : answer .number ≡ 0) where
     abbrev tree : Tree
     tree = accepted-writable e .tree
@@ -90,7 +90,7 @@ module _ (a : List ℕ) (aLength : ℕ) (b : List ℕ) (bLength : ℕ) (x : List
   abbrev compareChecks : List Check
   compareChecks = comparingChecks a aLength b bLength
 
-  -- 01, "and no in a refusal"
+  -- S 7.2: the answer is no in a refusal
   pub compare-refused-by : (n : ℕ) → 0 < n → First compareChecks n → comparing a aLength b bLength x ≡ uncompared n
   unfolding comparing
   compare-refused-by n h f = judged-by (λ (c : Comparison). c .number) compareChecks _ (λ (k : ℕ). uncompared k) (λ k. refl) n h f

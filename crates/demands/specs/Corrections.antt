@@ -1,4 +1,4 @@
--- Demand 3 for replacing, inserting and removing: the conditions of each, and the one notion of an accepted correction.
+-- S 15 for replacing, inserting and removing: the conditions of each, and the one notion of an accepted correction.
 use Prim.Native.Nat.{ℕ, _-_, _≤_, _<_}
 use mathlib.Core.Path.{_≡_}
 use mathlib.Core.Bool.{Bool, true, false}
@@ -17,8 +17,8 @@ use Rattle.edits.specs.Place.{around}
 use Rattle.demands.specs.Conditions.{Room}
 
 -- an accepted correction of a sheet with its own table, of tree `old`, to tree `now`. The entry is n nodes from node k on, the octets
--- from octet s to octet e, in `lists` lists: those nodes before it of which `holding` says so. It gives way to `new`. 02, "an insertion's entry .. in the old
--- sheet starts and ends at its place", so that n is 0 and s is e
+-- from octet s to octet e, in `lists` lists: those nodes before it of which `holding` says so. It gives way to `new`. An insertion's entry
+-- starts and ends at its place in the old sheet (S 15.1), so that n is 0 and s is e
 pub record Correction (canonical table : List ℕ) (len count : ℕ) (old now : Tree) (k n s e : ℕ) (new : Forest) (holding : ℕ → Bool) (answer : Outcome) : Type 0 where
   pub lists : ℕ
   pub own : ownTree canonical len table count ≡ some old
@@ -28,7 +28,7 @@ pub record Correction (canonical table : List ℕ) (len count : ℕ) (old now : 
   pub change : Change old now k n s (e - s) lists new
   pub held : (j : ℕ) → j < k → holding j ≡ around s e (rowOf old j)
 
--- 02, "Insert a text's tree, in any form, as the k-th element of a list node (0 up to its element count)"
+-- S 8.7, 15.2: the text's tree may become the element of number k of the list that the node is
 pub record Insertable (form : ℕ) (text canonical table : List ℕ) (len count node k : ℕ) : Type 0 where
   pub new : Tree
   pub old : Tree
@@ -41,7 +41,7 @@ pub record Insertable (form : ℕ) (text canonical table : List ℕ) (len count 
   pub place : hasPlace (nodeAt old node) k ≡ true
   pub room : Room (insert old node k new) canonical table
 
--- 02, "remove any node but node 0", "a removal has no text to judge"
+-- S 8.8, 15.2: the node may be removed; there is no text to judge
 pub record Removable (canonical table : List ℕ) (len count node : ℕ) : Type 0 where
   pub old : Tree
   pub own : ownTree canonical len table count ≡ some old

@@ -1,4 +1,4 @@
--- Shift lines and lists of them, as trees, in the words of 02's Ask 8.
+-- Lines and lists of them, as trees (S 10.3, 10.4).
 use Prim.Native.Nat.{ℕ, suc, _+_, _≤_}
 use mathlib.Core.Path.{_≡_}
 use mathlib.Core.Bool.{false}
@@ -15,8 +15,7 @@ use Rattle.typed.specs.declared.Value.the-variants.{Double}
 use Rattle.typed.proofs.Exact.{Exactly}
 use Rattle.demands.specs.Values.{f64}
 
--- 02, "a list of exactly three `f64` strings: a line keeps its ordinary, night and holiday hours together as doubles": the tree is such
--- a list, and the doubles are those of h
+-- S 10.3, a list of exactly three `f64` strings, ordinary, night and holiday hours: the tree is such a list, and the doubles are those of h
 pub record Three (x : Tree) (h : Line) : Type 0 where
   pub first : List ℕ
   pub second : List ℕ
@@ -26,12 +25,12 @@ pub record Three (x : Tree) (h : Line) : Type 0 where
   pub night : doubleOf second ≡ Is (Double (h .night))
   pub holiday : doubleOf third ≡ Is (Double (h .holiday))
 
--- 02, "Each is 0 to 24 in whole quarters, minus zero refused": the double is exactly n quarters, its sign clear
+-- S 10.3, 0 to 24 in whole quarters with the sign clear: the double is exactly n quarters
 pub record Hours (x : Float) (n : ℕ) : Type 0 where
   pub quarters : Exactly n x
   pub day : n ≤ 96
 
--- 02, "the exact count of quarters": the hours of h are good, and n quarters together
+-- S 10.3, the count of quarters: the hours of h are good, and n quarters together
 pub record Quartered (h : Line) (n : ℕ) : Type 0 where
   pub a : ℕ
   pub b : ℕ
@@ -46,17 +45,17 @@ pub record ShiftLine (x : Tree) (h : Line) (n : ℕ) : Type 0 where
   pub three : Three x h
   pub quartered : Quartered h n
 
--- 02, "the double that is exactly a quarter of that count (plus zero for 0)": of the bits, and of the number that they stand for
+-- S 10.3, the double that is exactly a quarter of the count: of the bits, and of the number that they stand for
 pub record QuarterOf (s : Total) : Type 0 where
   pub bits : Exactly (s .quarters) (s .hours)
   pub number : HasValue (s .hours) false (s .quarters) 4
 
--- (ours) every element is a line: n of them, of q quarters together
+-- S 10.4: every element is a line: n of them, of q quarters together
 pub data AllLines : Forest → ℕ → ℕ → Type 0 where
   no-line : AllLines nil 0 0
   a-line : {x : Tree} {f : Forest} {h : Line} {m n q : ℕ} → ShiftLine x h m → AllLines f n q → AllLines (cons x f) (suc n) (m + q)
 
--- (ours) x is the first element that is no line: k nodes stand before it
+-- S 10.4: x is the first element that is no line: k nodes stand before it
 pub record FirstBad (f : Forest) (k : ℕ) (x : Tree) : Type 0 where
   pub good : Forest
   pub rest : Forest

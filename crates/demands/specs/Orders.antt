@@ -1,10 +1,10 @@
--- Two clerks, one sheet (02, Ask 14): what a clerk asks for, and one thing after another.
+-- Two clerks, one sheet (S 12.1): what a clerk asks for, and one thing after another.
 use Prim.Native.Nat.{ℕ}
 use mathlib.Core.List.{List}
 use Rattle.model.specs.Answers.{Outcome, replacing}
 use Rattle.model.specs.Corrections.{inserting, removing}
 
--- 02, "corrections of two different nodes", of which Ask 5 has two kinds more: an insertion into a node and a removal
+-- S 1.6, a correction: a node replaced, an insertion into a node, a removal
 pub data Errand : Type 0 where
   -- form, text
   replacement : ℕ → List ℕ → Errand

@@ -61,7 +61,7 @@ module _ {t t' : Tree} {k n s l d : ℕ} {g : Forest} (c : Change t t' k n s l d
   first-length : length (take k (parents t 0 0)) ≡ k
   first-length = length-take-le k (parents t 0 0) (omega (arith, within, parents-length t 0 0))
 
-  -- 01's "earlier records": the number stays
+  -- S 15.6: the parent in an earlier record stays
   pub change-up-before : (j : ℕ) → j < k → parentOf t' j ≡ parentOf t j
   change-up-before j h =
       ap (λ (x : List ℕ). getD x j 0) change-ups

@@ -1,4 +1,4 @@
--- What a change at a place does to octets, records, length, node count and depth, in the words of 01, whichever edit makes it.
+-- What a change at a place does to octets, records, length, node count and depth (S 15.4 to 15.6), whichever edit makes it.
 use Prim.Native.Nat.{ℕ, _+_, _-_, _≤_, _<_, max}
 use native.Mathlib.Omega.{arith}
 use mathlib.Core.Path.{_≡_, refl, sym, ap, _∙_, subst}
@@ -90,12 +90,11 @@ module _ {t t' : Tree} {k n s l d : ℕ} {g : Forest} (c : Change t t' k n s l d
           let e : rowOf t' j ≡ grown l (length (canons g)) n (nodess g) (rowOf t j) = record-around change-moves j h (is-around s l (rowOf t j) z w) in
           is-around s (length (canons g)) (rowOf t' j) (omega (arith, ap (λ (r : Row). r .start) e)) (omega (arith, ap (λ (r : Row). r .end) e)) ∙ sym (is-around s l (rowOf t j) z w)
 
-  -- ---- 01, "Earlier records are those of lower node numbers": they stay, but for those of the lists around
+  -- ---- S 15.5: earlier records stay, but for those of the lists around
   pub change-stays : (j : ℕ) → j < k → around s (s + l) (rowOf t j) ≡ false → rowOf t' j ≡ rowOf t j
   change-stays j h e = record-aside change-moves j h e
 
-  -- 01, "their records change at most in end, node count and data end": by the new length less the old, the new node count less
-  -- the old
+  -- S 15.5, these change in end and data end by the new length less the old, and in node count by the new node count less the old
   pub change-grows : (j : ℕ) → j < k → around s (s + l) (rowOf t j) ≡ true → Grows (rowOf t j) (rowOf t' j) (length (canon t)) (length (canon t')) (nodes t) (nodes t')
   change-grows j h e =
       subst (λ (r : Row). Grows (rowOf t j) r (length (canon t)) (length (canon t')) (nodes t) (nodes t')) (sym (record-around change-moves j h e)) (by (change-side j h))

@@ -212,7 +212,7 @@ module _ (t : Tree) (node : ℕ) (h : node < nodes t) where
             (λ x. ends (later (omega arith)) ∙ sym (unpicked _ _ (ne-eqb j node x) ∙ unpicked _ _ (le-ltb j node y))))
             (λ y. earlier y (node-side t j node y h) ∙ sym (unpicked _ _ (ne-eqb j node (λ x. omega arith))))
 
-  -- ---- 02, "node isn't a list, k is too large": hopping finds no place exactly then
+  -- ---- row 9, the node is no list or has too few elements: hopping finds no place exactly then
   string-placed : (k : ℕ) → (entry .kind ≡ 2 → ⊥) → placed (rowOf t) node k ≡ none
   unfolding placed
   string-placed k n = unpicked _ _ (ne-eqb (entry .kind) 2 n)
@@ -248,7 +248,7 @@ module _ (t : Tree) (node : ℕ) (h : node < nodes t) where
     insert-change u =
         by-list (λ (i : ℕ). Change t (insert t node k u) i 0 (placeOctet (rowOf t) node i) 0 (lists + 1) (one u)) (λ f i l. list-change f i k l u)
 
-    -- 01, "The lists around an entry": by numbers in the old tree
+    -- S 15.5, the lists around: by numbers in the old tree
     pub insert-around : (i : ℕ) → i < j → around (placeOctet (rowOf t) node j) (placeOctet (rowOf t) node j) (rowOf t i) ≡ either (eqb i node) (holds t i node)
     insert-around i =
         by-list (λ (j : ℕ). i < j → around (placeOctet (rowOf t) node j) (placeOctet (rowOf t) node j) (rowOf t i) ≡ either (eqb i node) (holds t i node))

@@ -1,5 +1,5 @@
--- A node replaced: what demand 3 says of octets, records, length, node count and depth, in the words of 01. Each is what a change does
--- (`Changed`, `Moved`), of the change that replacing is.
+-- A node replaced: octets, records, length, node count and depth (S 15.4 to 15.6). Each is what a change does (`Changed`, `Moved`), of the
+-- change that replacing is.
 use Prim.Native.Nat.{ℕ, _+_, _-_, _≤_, _<_, max}
 use native.Mathlib.Omega.{arith}
 use mathlib.Core.Path.{_≡_, sym, ap, ap₂, _∙_}
@@ -46,8 +46,8 @@ module _ (t : Tree) (k : ℕ) (h : k < nodes t) where
   around-as : (j : ℕ) → j < k → around (entry .start) (entry .start + (entry .end - entry .start)) (rowOf t j) ≡ holds t j k
   around-as j l = let x : entry .start + (entry .end - entry .start) ≡ entry .end = omega (arith, entry-in) in rw x (around-holds t j k l h)
 
-  -- ---- 01, "The lists around an entry are all that hold it, at whatever depth": the records around its octets are those of the
-  -- nodes that hold it by number, which are lists and have it for a node of theirs
+  -- ---- S 15.5, the lists around are all that hold the entry, at any depth: the records around its octets are those of the nodes that hold
+  -- it by number, which are lists and have it for a node of theirs
   pub lists-around : (j : ℕ) → j < k → around (entry .start) (entry .end) (rowOf t j) ≡ holds t j k
   lists-around j l = around-holds t j k l h
 
@@ -93,7 +93,7 @@ module _ (t : Tree) (k : ℕ) (h : k < nodes t) where
         ++ (rows u (entry .start) ++ map (moved (entry .end - entry .start) (length (canon u))) (drop (k + entry .count) (rows t 0)))
     replace-rows = rw (canons-one, nodess-one, rowss-one) at (replace-moves .table)
 
-    -- 02, "Demand 3 then also settles this number": the lists directly around nodes, all of them
+    -- S 15.6, parents: the lists directly around nodes, all of them
     pub replace-parents : parents now 0 0
         ≡ take k (parents t 0 0) ++ (parents u k (parentOf t k) ++ map (upMoved k (entry .count) (nodes u)) (drop (k + entry .count) (parents t 0 0)))
     replace-parents = rw (nodess-one, parentss-one, ← change-up-at change entry-some) at (change-ups change)
@@ -127,7 +127,7 @@ module _ (t : Tree) (k : ℕ) (h : k < nodes t) where
     pub parent-shifts : (j j' : ℕ) → k + entry .count ≤ j → j < nodes t → j' + nodes t ≡ j + nodes now → parentOf now j' ≡ upMoved k (entry .count) (nodes u) (parentOf t j)
     parent-shifts j j' l i e = change-up-later change j j' l i e ∙ ap (λ (n : ℕ). upMoved k (entry .count) n (parentOf t j)) (nodess-one u)
 
-    -- ---- 01, "Octets before the entry are those before its start": they stay
+    -- ---- S 15.4: octets before the entry's start stay
     pub octets-before-stay : take (entry .start) (canon now) ≡ take (entry .start) (canon t)
     octets-before-stay = octets-front replace-moves
 
@@ -142,8 +142,8 @@ module _ (t : Tree) (k : ℕ) (h : k < nodes t) where
     octet-entry-new i l =
         octet-new replace-moves i (rw canons-one l) ∙ ap (λ (s : List ℕ). getD s i 0) (canons-one u)
 
-    -- 01, "Octets after it are those from its end up to the old length, and each moves by the new length less the old": the same
-    -- octets in the same order; octet i is then octet i', where i' is i and the new length less the old
+    -- S 15.4: octets from its end to the old length are the same in the same order; octet i is then octet i', where i' is i and the new
+    -- length less the old
     pub octets-after-same : drop (entry .start + length (canon u)) (canon now) ≡ drop (entry .end) (canon t)
     octets-after-same =
         let x : entry .start + (entry .end - entry .start) ≡ entry .end = omega (arith, entry-in .0) in
@@ -152,12 +152,11 @@ module _ (t : Tree) (k : ℕ) (h : k < nodes t) where
     pub octet-after-moves : (i i' : ℕ) → entry .end ≤ i → i' + length (canon t) ≡ i + length (canon now) → getD (canon now) i' 0 ≡ getD (canon t) i 0
     octet-after-moves i i' l e = change-octet change i i' (omega (arith, entry-in)) e
 
-    -- ---- 01, "Earlier records are those of lower node numbers": they stay, but for those of the lists around
+    -- ---- S 15.5: earlier records stay, but for those of the lists around
     pub record-stays : (j : ℕ) → j < k → holds t j k ≡ false → rowOf now j ≡ rowOf t j
     record-stays j l e = change-stays change j l (around-as j l ∙ e)
 
-    -- "their records change at most in end, node count and data end": by the new length less the old, the new node count less
-    -- the old
+    -- S 15.5: these change in end and data end by the new length less the old, and in node count by the new node count less the old
     pub record-grows : (j : ℕ) → j < k → holds t j k ≡ true → Grows (rowOf t j) (rowOf now j) (length (canon t)) (length (canon now)) (nodes t) (nodes now)
     record-grows j l e = change-grows change j l (around-as j l ∙ e)
 

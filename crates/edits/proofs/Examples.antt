@@ -1,4 +1,4 @@
--- 01's starred correction, computed: node 1 of (3:abc[1:x]0:) replaced by "hi".
+-- The correction of S 16.1, computed: node 1 of (3:abc[1:x]0:) replaced by "hi".
 use mathlib.Core.Path.{_≡_, refl}
 use mathlib.Core.Bool.{true, false}
 use mathlib.Core.List.{[], _∷_, _++_}

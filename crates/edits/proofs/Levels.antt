@@ -68,7 +68,7 @@ module _ (t : Tree) (k : ℕ) (h : k < nodes t) where
       let n = nodess (one (a .node)) in
       ap (take k) (rows-at t place (one (a .node)) (a .is)) ∙ take-at (lead place 0 l n) _ k (lead-length place 0 l n ∙ a .num)
 
-  -- 01, "The lists around an entry are all that hold it, at whatever depth"
+  -- S 15.5: the lists around are all that hold the entry, at any depth
   pub level-holders : holders (take k (rows t 0)) 0 k ≡ level place
   level-holders =
       let a = locate t k h in

@@ -13,12 +13,12 @@ unfoldable pub element : (ℕ → Row) → ℕ → ℕ → ℕ → Option ℕ
 element row end zero j = some j
 element row end (suc k) j = pick (ltb j end) (element row end k (j + (row j) .count)) none
 
--- 02, "as the k-th element of a list node (0 up to its element count)": the number that the element gets, none where there is no such place
+-- S 8.7: the number that the k-th element gets, none where the list has no such place
 unfoldable pub placed : (ℕ → Row) → ℕ → ℕ → Option ℕ
 placed row node k = pick (eqb ((row node) .kind) 2) (element row (node + (row node) .count) k (node + 1)) none
 
--- 02, "which in the old sheet starts and ends at its place": the octet where the element that has number j so far begins, or where the
--- list's data ends
+-- S 15.1, where an inserted element starts and ends in the old sheet: the octet where the element that has number j so far begins, or where
+-- the list's data ends
 abbrev pub placeOctet : (ℕ → Row) → ℕ → ℕ → ℕ
 placeOctet row node j = pick (ltb j (node + (row node) .count)) ((row j) .start) ((row node) .dataEnd)
 

@@ -1,4 +1,4 @@
--- The lists around a node, counted in a table, for the depth of a corrected tree (01, "4 to 6 speak of the corrected tree").
+-- The lists around a node, counted in a table, for the depth of a corrected tree (S 8.3: row 4 is of that tree).
 use Prim.Native.Nat.{ℕ, suc, _+_}
 use mathlib.Core.List.{List, [], _∷_}
 use lib.Dec.{ltb}

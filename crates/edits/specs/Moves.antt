@@ -25,13 +25,12 @@ pub record Change (t t' : Tree) (k n s l d : ℕ) (g : Forest) : Type 0 where
 pub record Moves (t t' : Tree) (k n s l : ℕ) (g : Forest) : Type 0 where
   pub nodesIn : k + n ≤ nodes t
   pub octetsIn : s + l ≤ length (canon t)
-  -- 01, "Octets before the entry are those before its start. Octets after it are those from its end up to the old length"
+  -- S 15.4: octets before the start and from the end on
   pub octets : canon t' ≡ take s (canon t) ++ (canons g ++ drop (s + l) (canon t))
   pub count : nodes t' + n ≡ nodes t + nodess g
   pub table : rows t' 0 ≡ map (kept s l (length (canons g)) n (nodess g)) (take k (rows t 0)) ++ (rowss g s ++ map (moved l (length (canons g))) (drop (k + n) (rows t 0)))
 
--- 01, "their records change at most in end, node count and data end": the record of a list around, where the octets grow from
--- l to l' and the nodes from n to n'
+-- S 15.5: the record of a list around, where the octets grow from l to l' and the nodes from n to n'
 pub record Grows (r r' : Row) (l l' n n' : ℕ) : Type 0 where
   pub kind : r' .kind ≡ r .kind
   pub start : r' .start ≡ r .start
@@ -42,8 +41,8 @@ pub record Grows (r r' : Row) (l l' n n' : ℕ) : Type 0 where
   pub dataEnd : r' .dataEnd + l ≡ r .dataEnd + l'
   pub count : r' .count + n ≡ r .count + n'
 
--- 01, "each moves by the new length less the old": the record of a node after the entry, where the octets grow from l to l'.
--- "Without a hint both hint numbers are 0", so these move only where there is a hint
+-- S 15.6: the record of a node behind the entry, where the octets grow from l to l'. Without a hint both hint numbers are 0 (S 4.2), so
+-- these move only where there is a hint
 pub record Shifts (r r' : Row) (l l' : ℕ) : Type 0 where
   pub kind : r' .kind ≡ r .kind
   pub count : r' .count ≡ r .count

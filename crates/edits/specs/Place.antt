@@ -86,14 +86,14 @@ trailUps (here b) own up n = parentss b (own + n) up
 trailUps (past t p) own up n = trailUps p (own + nodes t) up n
 trailUps (down p b) own up n = trailUps p (own + 1) own n ++ parentss b (own + 1 + number p + n + beyond p) up
 
--- 02, "Demand 3 then also settles this number for the records after a correction": where n nodes from node k on give way to n' nodes, a
--- list that begins before them keeps its number, and any other has it shifted by the change in node count
+-- S 15.6, parents: where n nodes from node k on give way to n' nodes, a list that begins before them keeps its number, and any other has it
+-- shifted by the change in node count
 abbrev pub upMoved : ℕ → ℕ → ℕ → ℕ → ℕ
 upMoved k n n' up = pick (ltb up k) up (up + n' - n)
 
 -- ---- rows, where l octets with n nodes, from octet s on, give way to l' octets with n' nodes
 
--- 01, "each moves by the new length less the old": the row of a node after them; hint numbers only where there is a hint
+-- S 15.6, places move by the new length less the old: the row of a node after them; hint numbers only where there is a hint
 abbrev pub moved : ℕ → ℕ → Row → Row
 moved l l' r =
     record {
@@ -107,7 +107,7 @@ moved l l' r =
       dataEnd = r .dataEnd + l' - l;
     }
 
--- 01, "their records change at most in end, node count and data end": the row of a list around them
+-- S 15.5: the row of a list around them
 abbrev pub grown : ℕ → ℕ → ℕ → ℕ → Row → Row
 grown l l' n n' r =
     record {
@@ -121,11 +121,11 @@ grown l l' n n' r =
       dataEnd = r .dataEnd + l' - l;
     }
 
--- 01, "The lists around an entry": the row begins before octet s and ends after octet e. Strictly, so that a node that ends
--- where an empty part lies is not around it
+-- S 15.5, the lists around: the row begins before octet s and ends after octet e. Strictly, so that a node that ends where an empty part
+-- lies is not around it
 abbrev pub around : ℕ → ℕ → Row → Bool
 around s e r = both (ltb (r .start) s) (ltb e (r .end))
 
--- 01, "Earlier records are those of lower node numbers": they stay, or are those of the lists around
+-- S 15.5, earlier records: they stay, or are those of the lists around
 abbrev pub kept : ℕ → ℕ → ℕ → ℕ → ℕ → Row → Row
 kept s l l' n n' r = pick (around s (s + l) r) (grown l l' n n' r) r

@@ -5,7 +5,7 @@ ghost use Rattle.model.specs.Corrections.{inserting, removing};
 ghost use Rattle.answers.specs.Cases.{outcome};
 use answers::Reading;
 
-// The tree of a text of the form named becomes element k, from 0, of the list that a node is, where k is at most its element count.
+// S 8.7: the tree of a text of the form named becomes element k, from 0, of the list that a node is, where k is at most its element count.
 pub fn insert(
     form: u32,
     text: &[u8],
@@ -21,7 +21,7 @@ pub fn insert(
     editor::insert(form, text, canonical, table, length, nodes, node, k)
 }
 
-// A node, which is any but node 0, is removed with all that is in it.
+// S 8.8: a node, which is any but node 0, is removed with all that is in it.
 pub fn remove(
     canonical: &mut [u8],
     table: &mut [u32],

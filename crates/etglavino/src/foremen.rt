@@ -4,7 +4,7 @@ ghost use Rattle.answers.specs.Cases.{outcome};
 ghost use Rattle.extracts.specs.Extracting.{extracting, extractingOwn};
 use answers::Reading;
 
-// The extract of the sheet in the first `length` octets, into the foreman's canonical octets and node table: every list in it whose
+// S 11.2: the extract of the sheet in the first `length` octets, into canonical octets and a node table of its own: every list in it whose
 // first element is the unhinted `private` has become `()`. In a refusal both hold what they held; in an acceptance what lies past the
 // octets and the records stays. Neither ever holds an octet that is hidden.
 pub fn extract(sheet: &[u8], length: usize, canonical: &mut [u8], table: &mut [u32]) -> Reading
@@ -13,7 +13,7 @@ pub fn extract(sheet: &[u8], length: usize, canonical: &mut [u8], table: &mut [u
     extract::extract(sheet, length, canonical, table)
 }
 
-// The same of a sheet with this length, node count and table.
+// S 11.2: the same of a sheet with this length, node count and table.
 pub fn extract_own(
     sheet: &[u8],
     length: usize,

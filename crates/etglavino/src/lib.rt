@@ -36,7 +36,7 @@ pub use typing::total;
 pub use typing::value;
 pub use typing::week;
 
-// A text of the form named (1 canonical, 2 basic, 3 advanced, 4 advanced with trees in braces) into canonical octets and the node
+// S 8.1: a text of the form named (1 canonical, 2 basic, 3 advanced, 4 advanced with trees in braces) into canonical octets and the node
 // table, nine numbers to a node. In a refusal both lent buffers hold what they held; in an acceptance what lies past the octets and the
 // records stays.
 pub fn read(form: u32, source: &[u8], canonical: &mut [u8], table: &mut [u32]) -> Reading
@@ -45,17 +45,17 @@ pub fn read(form: u32, source: &[u8], canonical: &mut [u8], table: &mut [u32]) -
     reader::read(form, source, canonical, table)
 }
 
-// The sheet in the first `length` octets, written in the form named. In a refusal the output holds what it held; in an
-// acceptance what lies past the octets written stays.
+// S 8.2: the sheet in the first `length` octets, written in the form named. In a refusal the output holds what it held; in an acceptance
+// what lies past the octets written stays.
 pub fn write(form: u32, canonical: &[u8], length: usize, out: &mut [u8]) -> Writing
     ensures { λ r. ⌜ output r (now (out .exit)) ≡ writing form (now (canonical .entry)) length (now (out .entry)) ⌝ }
 {
     write::write(form, canonical, length, out)
 }
 
-// A node of the sheet with this length, node count and table gives way to the tree of a text of the form named (01: an entry
-// is corrected). In a refusal both lent buffers hold what they held; in an acceptance what lies past the old and the new octets
-// and records stays, and what lies between the new ones and larger old ones is zeroed.
+// S 8.3: a node of the sheet with this length, node count and table gives way to the tree of a text of the form named. In a refusal both
+// lent buffers hold what they held; in an acceptance what lies past the old and the new octets and records stays, and what lies between
+// the new ones and larger old ones is zeroed.
 pub fn replace(
     form: u32,
     text: &[u8],
@@ -70,14 +70,14 @@ pub fn replace(
     editor::replace(form, text, canonical, table, length, nodes, node)
 }
 
-// Two sheets compared: the same shape, data and hints, where a missing hint counts as the default.
+// S 8.4: two sheets compared: the same shape, data and hints, where a missing hint counts as the default.
 pub fn same(a: &[u8], a_length: usize, b: &[u8], b_length: usize, default_hint: &[u8]) -> Comparing
     ensures { λ r. ⌜ told r ≡ comparing (now (a .entry)) «a_length» (now (b .entry)) «b_length» (now («default_hint» .entry)) ⌝ }
 {
     lookup::same(a, a_length, b, b_length, default_hint)
 }
 
-// A node's hint: the part of the sheet that holds it, else the default, bad sheets and tables included.
+// S 8.5: a node's hint: the part of the sheet that holds it, else the default, bad sheets and tables included.
 pub fn hint<'a>(
     canonical: &'a [u8],
     length: usize,
@@ -91,7 +91,7 @@ pub fn hint<'a>(
     lookup::hint(canonical, length, table, nodes, node, default_hint)
 }
 
-// A node's data: the part of the sheet that holds it, else an empty part at the sheet's front.
+// S 8.5: a node's data: the part of the sheet that holds it, else an empty part at the sheet's front.
 pub fn data<'a>(
     canonical: &'a [u8],
     length: usize,
@@ -104,7 +104,7 @@ pub fn data<'a>(
     lookup::data(canonical, length, table, nodes, node)
 }
 
-// Where a node's hint stands in the sheet, if it is a string with a hint.
+// S 8.5: where a node's hint stands in the sheet, if it is a string with a hint.
 pub fn hint_place(
     canonical: &[u8],
     length: usize,
@@ -117,7 +117,7 @@ pub fn hint_place(
     lookup::hint_place(canonical, length, table, nodes, node)
 }
 
-// Where a node's data stands in the sheet.
+// S 8.5: where a node's data stands in the sheet.
 pub fn data_place(
     canonical: &[u8],
     length: usize,

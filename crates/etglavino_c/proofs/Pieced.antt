@@ -53,7 +53,7 @@ module _ (state sheet : List ℕ) (lent : ℕ) (table table′ : List ℕ) (r : 
   pub end-handed : (x : State) → x ≡ stateIn state → End x sheet lent table table′ r → EndOut (stateIn state) sheet lent table table′ n p len count
   end-handed x f e = ended-handed (subst (λ (y : State). End y sheet lent table table′ r) f e)
 
--- ---- 02, "those handed back from it in turn": the numbers that a start and a piece hand out are such states
+-- ---- S 13.6, states given in turn: the numbers that a start and a piece hand out are such states
 
 pub start-in-turn : (first : List ℕ) (lent : ℕ) (state : List ℕ) → state ≡ stateNumbers (stateAfter (length first) lent []) → InTurn first lent [] (stateIn state) first
 start-in-turn first lent state e = turn-start first lent (stateIn state) (ap stateIn e ∙ comes-back (stateAfter (length first) lent []))

@@ -14,7 +14,7 @@ use Rattle.records.specs.Numbers.{numbers}
 use Rattle.records.specs.declared.Record.{Record}
 use Rattle.etglavino_c.specs.Pointers.{outcomeAt}
 
--- the numbers of the state, the sheet, 02's number and the octets told
+-- the numbers of the state, the sheet, the refusal's number and the octets told
 pub record PieceAt : Type 0 where
   pub state : List ℕ
   pub sheet : List ℕ
@@ -24,8 +24,7 @@ pub record PieceAt : Type 0 where
 abbrev pub pieceAt : List ℕ → List ℕ → ℕ → ℕ → PieceAt
 pieceAt state sheet n octets = record { state = state; sheet = sheet; number = n; octets = octets }
 
--- `Piece` of crate pieces, with the state as numbers. 02, "gets 7, with counts 0, before all else, and nothing changes, the state
--- included"
+-- `Piece` of crate pieces, with the state as numbers. S 13.2: another size gets 7, and nothing changes, the state included
 pub record PieceOut (before piece sheet : List ℕ) (lent : ℕ) (sheet′ after : List ℕ) (n octets : ℕ) : Type 0 where
   pub resized : sameSizes (stateIn before) (length sheet) lent ≡ false → pieceAt after sheet′ n octets ≡ pieceAt before sheet NotOwn 0
   pub goes-on : (first s : List ℕ) → InTurn first lent s (stateIn before) sheet
@@ -36,7 +35,7 @@ pub record EndOut (x : State) (sheet : List ℕ) (lent : ℕ) (table table′ : 
   pub resized : sameSizes x (length sheet) lent ≡ false → outcomeAt n p len count sheet table′ ≡ unchanged NotOwn sheet table
   pub ends : (first s : List ℕ) → InTurn first lent s x sheet → outcomeAt n p len count sheet table′ ≡ inSheet sheet (reading 1 s first table)
 
--- 02, "of another size": a table that is lent as numbers has as many as are lent
+-- S 13.1, the size of a table: one that is lent as numbers has as many as are lent
 abbrev pub EndNumbers : State → List ℕ → List ℕ → List ℕ → ℕ → ℕ → ℕ → ℕ → Type 0
 EndNumbers x sheet table table′ n p len count = EndOut x sheet (length table) table table′ n p len count
 

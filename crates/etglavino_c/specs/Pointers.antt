@@ -1,4 +1,4 @@
--- What a C entry answers: 01's number is returned, and what is asked for goes out through pointers.
+-- What a C entry answers: the number (S 7.1) is returned, and what is asked for goes out through pointers.
 use Prim.Native.Nat.{ℕ}
 use mathlib.Core.Path.{_≡_}
 use mathlib.Core.Bool.{Bool, true, false}

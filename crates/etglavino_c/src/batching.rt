@@ -1,4 +1,4 @@
-// Sheets written back to back, for C: a count of octets is returned, and no number of 01.
+// Sheets written back to back, for C: a count of octets is returned, and no refusal's number.
 ghost use mathlib.Core.Path.{_≡_};
 ghost use Rattle.batch.specs.Runs.{firstSheet};
 

@@ -1,4 +1,4 @@
--- An extract given by the notes of a sheet, and the foreman's table filled.
+-- An extract given by the notes of a sheet, and its table filled (S 11.2).
 use Prim.Native.Nat.{ℕ, _/_}
 use mathlib.Core.Path.{_≡_}
 use mathlib.Core.Bool.{Bool, not}

@@ -1,5 +1,5 @@
 // The extract of a sheet: every list whose first element is the unhinted `private` becomes `()`. What is shown is put together in local
-// space by the sheet's notes, and from there read in form 1, so that what the foreman lends is written once and never holds a hidden octet.
+// space by the sheet's notes, and from there read in form 1, so that what is lent for it is written once and never holds a hidden octet.
 mod cut; // cut.rt: the octets that are shown
 
 ghost use mathlib.Core.Path.{_≡_};
@@ -133,7 +133,7 @@ fn fill(answer: Reading, notes: &[usize; limits::NODES], table: &mut [u32])
     }
 }
 
-// The extract of a sheet, into the foreman's sheet and table.
+// The extract of a sheet, into a sheet and a table of its own (S 11.2).
 pub fn extract(sheet: &[u8], octets: usize, canonical: &mut [u8], table: &mut [u32]) -> Reading
     ensures { λ r. ⌜ outcome r (now (canonical .exit)) (now (table .exit)) ≡ extracting (now (sheet .entry)) octets (now (canonical .entry)) (now (table .entry)) ⌝ }
 {

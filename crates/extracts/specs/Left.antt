@@ -1,4 +1,4 @@
--- What an extract has left: lists that may be seen, and the strings that stand in no other.
+-- What an extract has left (S 11.1): lists that may be seen, and the strings that stand in no other.
 use Prim.Native.Nat.{ℕ}
 use mathlib.Core.Path.{_≡_}
 use mathlib.Core.Bool.{false}

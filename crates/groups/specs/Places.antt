@@ -1,4 +1,4 @@
--- What is found at a place of an area: a length, and the sheet of an entry.
+-- What is found at a place of an area: a length, and the sheet of an entry (S 9.1).
 use Prim.Native.Nat.{ℕ, _-_, _≤_, _<_}
 use mathlib.Core.Path.{_≡_}
 use mathlib.Core.List.{List}

@@ -13,7 +13,7 @@ kindOf closing = 1
 kindOf (atom d) = 2
 kindOf (hinting h d) = 2
 
--- 01, "a missing hint counts as the caller's own default hint"
+-- S 8.4: a missing hint counts as the default
 unfoldable pub hintOr : List ℕ → Lexeme → List ℕ
 hintOr x opening = []
 hintOr x closing = []

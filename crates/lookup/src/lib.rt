@@ -23,7 +23,7 @@ pub use noted::own_notes;
 pub use noted::place_by;
 use walk::Extent;
 
-// Whether the first `length` octets are one fitting canonical form (01: a sheet).
+// Whether the first `length` octets are one fitting canonical form (S 1.1: a sheet).
 pub fn sheet(canonical: &[u8], length: usize) -> bool
     ensures { λ r. ⌜ r ≡ not (isNone (sheetTree (now (canonical .entry)) length)) ⌝ }
 {
@@ -44,7 +44,7 @@ pub fn sheet(canonical: &[u8], length: usize) -> bool
     }
 }
 
-// Whether, besides, the first `nodes` records are its table (01: the sheet's own).
+// Whether, besides, the first `nodes` records are its table (S 1.4: the sheet's own).
 pub fn own_sheet(canonical: &[u8], length: usize, table: &[u32], nodes: usize) -> bool
     ensures { λ r. ⌜ r ≡ not (isNone (ownTree (now (canonical .entry)) length (now (table .entry)) nodes)) ⌝ }
 {

@@ -58,7 +58,7 @@ pub fn note_sheet(
     note_in(canonical, length, notes, records, nodes)
 }
 
-// Whether the first `nodes` records are the table of the sheet of these octets (01: the sheet's own); where they are, these are its
+// Whether the first `nodes` records are the table of the sheet of these octets (S 1.4: the sheet's own); where they are, these are its
 // notes.
 pub fn own_notes(
     canonical: &[u8],

@@ -1,4 +1,4 @@
--- Ask 5's corrections, shown of the definitions that the promises cite, as one list: what is answered, what is wanted.
+-- Insertions and removals (S 8.7, 8.8), shown of the definitions that the promises cite, as one list: what is answered, what is wanted.
 use Prim.Native.Nat.{ℕ}
 use mathlib.Core.Path.{_≡_, refl}
 use mathlib.Core.Bool.{true}

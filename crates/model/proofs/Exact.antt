@@ -231,7 +231,7 @@ module _ {ρ : Rules} (apart : Apart ρ) where
   pub unique : {form : ℕ} {s : List ℕ} {t u : Tree} → Language ρ form s t → Language ρ form s u → t ≡ u
   unique {form} {s} {t} {u} x y = let p : decodeUnder ρ form s ≡ some t = complete x in let q : decodeUnder ρ form s ≡ some u = complete y in cc
 
--- a source of n octets has a canonical form of at most 3 n, in each form
+-- S 6.2: what a source of n octets says has 3 n at most in canonical form, whatever the form
 c-sexp-size : {s : List ℕ} {t : Tree} → CSexp s t [] → length (canon t) ≡ length s
 c-sexp-size x = ap length (sym (c-sexp-canon x))
 

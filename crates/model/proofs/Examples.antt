@@ -1,5 +1,5 @@
--- Texts of 01, of the RFC and of the readings that settle 01's open points, beside their trees, as one list. The values of
--- escapes, digits and letters stand in the grammar and in the decoder alike, so examples have to pin them.
+-- Texts of S 16, of the RFC and of what the RFC leaves open, beside their trees, as one list. The values of escapes, digits and letters
+-- stand in the grammar and in the decoder alike, so examples have to pin them.
 use mathlib.Core.Path.{_≡_, refl}
 use mathlib.Core.Option.{Option, none, some}
 use mathlib.Core.List.{List, [], _∷_, map}

@@ -1,4 +1,4 @@
--- The laws of the model, each in the words of the papers.
+-- The laws of the model, clause by clause.
 use Prim.Native.Nat.{ℕ, _*_, _≤_}
 use native.Mathlib.Omega.{arith}
 use mathlib.Core.Path.{_≡_, sym, subst}
@@ -28,19 +28,19 @@ use Rattle.model.proofs.Wider.{language-wider}
 use Rattle.model.proofs.Written.{round-trip₃}
 use Rattle.model.proofs.WrittenBasic.{round-trip₂}
 
--- Demand 2: different trees never share a canonical form.
+-- S 2.4: different trees have different canonical forms.
 pub canonical-unique : (t u : Tree) → canon t ≡ canon u → t ≡ u
 canonical-unique t u e = canon-inj t u e
 
--- Demand 2: no canonical form is the beginning of another.
+-- S 2.4: no canonical form begins another.
 pub canonical-prefix-free : (t u : Tree) (k : List ℕ) → canon t ++ k ≡ canon u → (t ≡ u) × (k ≡ [])
 canonical-prefix-free t u k e = prefix-free t u k e
 
--- 01, "A tree and its canonical octets": the RFC's rule c-sexp is the function `canon`.
+-- S 3.1: the RFC's rule c-sexp is the function `canon`.
 pub canonical-rule : (s : List ℕ) (t : Tree) (k : List ℕ) → CSexp s t k ↔ (s ≡ canon t ++ k)
 canonical-rule s t k = (λ x. c-sexp-strip x, λ e. subst (λ (x : List ℕ). CSexp x t k) (sym e) (strip-c-sexp t k))
 
--- 01, "The three forms that come in", and form 4 of 02: under any rules the decoder reads each form's language and nothing else.
+-- S 3.1 to 3.3: under any rules the decoder reads each form's language and nothing else.
 pub decoder-exact : (ρ : Rules) → Apart ρ → (form : ℕ) (s : List ℕ) (t : Tree) → (decodeUnder ρ form s ≡ some t) ↔ Language ρ form s t
 decoder-exact ρ a form s t = (sound a form s t, λ x. complete a x)
 
@@ -57,7 +57,7 @@ one-tree ρ a form s t u x y = unique a x y
 pub decoder-wider : (ρ σ : Rules) → Wider ρ σ → Apart ρ → Apart σ → (form : ℕ) (s : List ℕ) (t : Tree) → decodeUnder ρ form s ≡ some t → decodeUnder σ form s ≡ some t
 decoder-wider ρ σ w a b form s t e = complete b (language-wider w (sound a form s t e))
 
--- Demand 2: what goes out in any form is read back, for a tree of octets.
+-- S 5.3: what goes out in any form is read back, for a tree of octets.
 pub round-trip : (form : ℕ) (t : Tree) → noOutForm form ≡ false → TreeBytes t → decode form (encode form t) ≡ some t
 unfolding decode encode noOutForm
 round-trip form t f x =
@@ -73,17 +73,17 @@ round-trip form t f x =
 pub octets-in-octets-out : (form : ℕ) (s : List ℕ) (t : Tree) → Language rules form s t → Bytes s → TreeBytes t × Bytes (canon t)
 octets-in-octets-out form s t x b = (language-tree b x, language-bytes b x)
 
--- ---- 01, "Three sizes are to be proved"
+-- ---- S 6.2: sizes
 
--- a source of n octets has a canonical form of at most 3n
+-- what a source of n octets says has 3n at most in canonical form
 pub canonical-within-3n : (form : ℕ) (s : List ℕ) (t : Tree) → Language rules form s t → length (canon t) ≤ 3 * length s
 canonical-within-3n form s t x = language-tripled x
 
--- a canonical form of n octets has at most n/2 nodes
+-- n octets of canonical form have n/2 nodes at most
 pub nodes-within-half : (t : Tree) → 2 * nodes t ≤ length (canon t)
 nodes-within-half t = nodes-half t
 
--- 02, "16,384 octets hold at most 8,192 nodes anyway"
+-- S 6.2: 8,192 nodes at most, in 16,384 octets
 pub small-nodes : (t : Tree) → length (canon t) ≤ maxCanonical → nodes t ≤ mostNodes
 small-nodes t h = omega (arith, nodes-half t)
 
@@ -94,15 +94,15 @@ fits-within t f =
     let w : (leb (depth t) maxDepth ≡ true) × (leb (length (canon t)) maxCanonical ≡ true) = both-true f in
     (leb-true _ _ (w .0), leb-true _ _ (w .1))
 
--- so "fitting" needs no node limit
+-- so what fits needs no node limit
 pub fitting-nodes : (t : Tree) → fits t ≡ true → nodes t ≤ mostNodes
 fitting-nodes t f = small-nodes t (fits-within t f .1)
 
--- advanced output from n octets is at most 2n
+-- n octets go out in form 3 in 2n at most
 pub advanced-within-2n : (t : Tree) → length (advanced t) ≤ 2 * length (canon t)
 advanced-within-2n t = doubled t
 
--- "So whatever we write of a fitting sheet is short enough to be read"
+-- S 6.2: what is written of a tree that fits is short enough to be read
 pub written-within-source : (form : ℕ) (t : Tree) → fits t ≡ true → length (encode form t) ≤ maxSource
 unfolding encode
 written-within-source form t f =

@@ -1,4 +1,4 @@
--- 01's number tells whether an answer is an acceptance: it is 0 there, and in a refusal it never is.
+-- S 7.4: the number tells whether an answer is an acceptance: it is 0 there, and in a refusal it never is.
 use Prim.Native.Nat.{ℕ}
 use mathlib.Core.Path.{_≡_, refl, sym}
 use mathlib.Core.Bool.{true}

@@ -11,7 +11,7 @@ use Rattle.model.specs.Tree.{Tree, plain, hinted, list, Forest, nil, con
 use Rattle.model.specs.Write.{isToken, quoteOne, quoteAll, hexAll, shown, advanced, elements, following, baseAll, basic}
 use Rattle.model.proofs.Sizes.{digits-length, verbatim-length}
 
--- ---- advanced output from n octets is at most 2 n
+-- ---- S 6.2: n octets go out in form 3 in 2 n at most
 
 quoteOne-size : (b : ℕ) → length (quoteOne b) ≤ 2
 unfolding quoteOne
@@ -70,7 +70,7 @@ pub basic-length : (t : Tree) → length (basic t) ≡ (length (canon t) + 2) / 
 unfolding basic
 basic-length t = omega (arith, base-length (canon t), length-append (baseAll (canon t)) (125 ∷ []))
 
--- ---- a canonical form of n octets has at most n / 2 nodes
+-- ---- S 6.2: n octets of canonical form have n / 2 nodes at most
 mutual
   unfolding canon nodes
 

@@ -75,7 +75,7 @@ braced-size {ρ} {s} {d} {k} {t} b x =
     let y : Split 125 s k (λ l. Base64 ρ l d) = base-64-strip 125 refl (λ e. omega arith) b in
     omega (arith, upto-size (y .upto), base-size (y .means), ap length (c-sexp-strip x ∙ append-nil (canon t)))
 
--- a source of n octets has a canonical form of at most 3 n
+-- S 6.2: what a source of n octets says has 3 n at most in canonical form
 module _ {ρ : Rules} {β : Bool} where
   mutual
     unfolding canon

@@ -1,4 +1,4 @@
--- The starred cases of 01, and cases that requests name, shown of the definitions that every promise cites, as one list: what is answered, what is wanted.
+-- The cases of S 16, shown of the definitions that every promise cites, as one list: what is answered, what is wanted.
 use Prim.Native.Nat.{ℕ}
 use mathlib.Core.Path.{_≡_, refl}
 use mathlib.Core.Bool.{true}
@@ -68,13 +68,13 @@ cases =
     ∷ (outcome (reading 3 (124 ∷ 89 ∷ 87 ∷ 74 ∷ 106 ∷ 90 ∷ 65 ∷ 124 ∷ []) sheet table), outcome (accepted 6 1 (52 ∷ 58 ∷ 97 ∷ 98 ∷ 99 ∷ 100 ∷ []) (0 ∷ 0 ∷ 6 ∷ 1 ∷ 0 ∷ 0 ∷ 2 ∷ 6 ∷ 0 ∷ [])))
     -- 03:abc
     ∷ (outcome (reading 3 (48 ∷ 51 ∷ 58 ∷ 97 ∷ 98 ∷ 99 ∷ []) sheet table), outcome (unchanged 3 sheet table))
-    -- Ask 7: 3:abcX, 03: and a text cut short; another form tells no place
+    -- S 16.5: 3:abcX, 03: and a text cut short; another form tells no place
     ∷ (outcome (reading 1 (51 ∷ 58 ∷ 97 ∷ 98 ∷ 99 ∷ 88 ∷ []) sheet table), outcome (unchangedAt 3 5 sheet table))
     ∷ (outcome (reading 1 (48 ∷ 51 ∷ 58 ∷ []) sheet table), outcome (unchangedAt 3 1 sheet table))
     ∷ (outcome (reading 2 (40 ∷ 51 ∷ 58 ∷ 97 ∷ 98 ∷ []) sheet table), outcome (unchangedAt 3 5 sheet table))
     ∷ (outcome (reading 3 (51 ∷ 58 ∷ 97 ∷ 98 ∷ 99 ∷ 88 ∷ []) sheet table), outcome (unchangedAt 3 0 sheet table))
     ∷ (outcome (replacing 1 (48 ∷ 51 ∷ 58 ∷ []) (lent sheet (40 ∷ 41 ∷ [])) (lent table (2 ∷ 0 ∷ 2 ∷ 1 ∷ 0 ∷ 0 ∷ 1 ∷ 1 ∷ 0 ∷ [])) 2 1 0), outcome (unchangedAt 3 1 (lent sheet (40 ∷ 41 ∷ [])) (lent table (2 ∷ 0 ∷ 2 ∷ 1 ∷ 0 ∷ 0 ∷ 1 ∷ 1 ∷ 0 ∷ []))))
-    -- Ask 13: {MzphYmM=} in form 4, and in form 3
+    -- S 16.7: {MzphYmM=} in form 4, and in form 3
     ∷ (outcome (reading 4 (123 ∷ 77 ∷ 122 ∷ 112 ∷ 104 ∷ 89 ∷ 109 ∷ 77 ∷ 61 ∷ 125 ∷ []) sheet table), outcome (accepted 5 1 (51 ∷ 58 ∷ 97 ∷ 98 ∷ 99 ∷ []) (0 ∷ 0 ∷ 5 ∷ 1 ∷ 0 ∷ 0 ∷ 2 ∷ 5 ∷ 0 ∷ [])))
     ∷ (outcome (reading 3 (123 ∷ 77 ∷ 122 ∷ 112 ∷ 104 ∷ 89 ∷ 109 ∷ 77 ∷ 61 ∷ 125 ∷ []) sheet table), outcome (unchanged 3 sheet table))
     -- 3"ab"

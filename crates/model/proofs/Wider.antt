@@ -64,6 +64,6 @@ module _ {ρ σ : Rules} (w : Wider ρ σ) where
   language-wider (form-3 x) = form-3 (advanced-wider (λ e. e) x)
   language-wider (form-4 x) = form-4 (advanced-wider (λ e. e) x)
 
--- 02, Ask 13, "Form 4 accepts all that form 3 accepts, with the same tree"
+-- S 3.15: form 4 accepts what form 3 accepts, with the same tree
 pub form-3-in-4 : {ρ : Rules} {s : List ℕ} {t : Tree} → Language ρ 3 s t → Language ρ 4 s t
 form-3-in-4 (form-3 x) = form-4 (advanced-wider (record { leftovers = λ n h. h; escapes = λ e h. refl }) (λ e. refl) x)

@@ -7,8 +7,7 @@ use Rattle.base.specs.Choice.{pick}
 use Rattle.model.specs.Grammar.{Rules}
 use Rattle.model.specs.Octets.{isWhitespace, octval, leftover, find}
 
--- 02, "This amends 01's …", "texts accepted before keep their octets": what ρ lets stand, σ lets stand, and what ρ gives a meaning has
--- that meaning in σ
+-- S 3.13, 3.14: what ρ lets stand, σ lets stand, and what ρ gives a meaning has that meaning in σ
 pub record Wider (ρ σ : Rules) : Type 0 where
   pub leftovers : (n : ℕ) → ρ .leftover n ≡ true → σ .leftover n ≡ true
   pub escapes : (e : ℕ) → ρ .escape e < 256 → σ .escape e ≡ ρ .escape e
@@ -20,19 +19,19 @@ pub record Apart (ρ : Rules) : Type 0 where
   pub cr : 256 ≤ ρ .escape 13
   pub lf : 256 ≤ ρ .escape 10
 
--- 01, "Leftover low bits are ignored": whatever the escapes are, the rules with 01's sentence
+-- S 3.14, stray bits ignored: the rules before request 2, whatever the escapes are
 abbrev pub ignoring : (ℕ → ℕ) → Rules
 ignoring escape = record { leftover = λ n. true; escape = escape }
 
--- and those with 02's Ask 2
+-- and those since
 abbrev pub minding : (ℕ → ℕ) → Rules
 minding escape = record { leftover = leftover; escape = escape }
 
--- 02, Ask 3, "the escape list": the rules with this one
+-- S 3.8: the rules with this list of escapes
 abbrev pub escaping : List (ℕ × ℕ) → Rules
 escaping es = minding (λ e. find es e 256)
 
--- 01, "Escapes are 001's and no others": the list before 02's Ask 3
+-- S 3.13: the list before request 3
 abbrev pub listed : List (ℕ × ℕ)
 listed = (98, 8) ∷ (116, 9) ∷ (118, 11) ∷ (110, 10) ∷ (102, 12) ∷ (114, 13) ∷ (34, 34) ∷ (39, 39) ∷ (92, 92) ∷ []
 
@@ -46,7 +45,7 @@ unfoldable pub pads : ℕ → List ℕ
 pads zero = []
 pads (suc n) = 61 ∷ pads n
 
--- 02, Ask 2, "two spellings of one line": texts between marks that differ only in whitespace and in "=" at the end
+-- S 3.14, one spelling: texts between marks that differ only in whitespace and in "=" at the end
 pub record Spelling (x y : List ℕ) : Type 0 where
   pub letters : List ℕ
   pub p : ℕ

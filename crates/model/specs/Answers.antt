@@ -1,5 +1,4 @@
--- What every entry answers, and what every lent buffer holds afterwards: for all inputs, refused ones too.
--- 01 calls the canonical octets of a tree, in lent space, a sheet; a node is an entry of it; replacing is correcting.
+-- What every entry answers, and what every lent buffer holds afterwards: for all inputs, refused ones too (S 7, 8, 14.2).
 use Prim.Native.Nat.{ℕ, zero, suc, _*_, _-_, max}
 use mathlib.Core.Bool.{Bool, true, false, not}
 use mathlib.Core.Option.{Option, none, some}
@@ -18,7 +17,7 @@ use Rattle.model.specs.Limits.{maxSource, maxDepth, maxCanonical, Accept
 
 -- ---- the order of checks
 
--- a row of 01's table, and whether it applies
+-- a row of S 7.1, and whether it applies
 pub record Check : Type 0 where
   pub row : ℕ
   pub applies : Bool
@@ -26,7 +25,7 @@ pub record Check : Type 0 where
 abbrev pub when : ℕ → Bool → Check
 when n t = record { row = n; applies = t }
 
--- 01, "The first that applies in this order"; 0 where none does
+-- S 7.1: the first in the entry's order that applies; 0 where none does
 unfoldable pub verdict : List Check → ℕ
 verdict [] = Accepted
 verdict (c ∷ cs) = pick (c .applies) (c .row) (verdict cs)
@@ -35,11 +34,11 @@ verdict (c ∷ cs) = pick (c .applies) (c .row) (verdict cs)
 unfoldable pub judged : {A : Type 0} → List Check → A → (ℕ → A) → A
 judged cs accepted refused = elim (verdict cs) [ zero ↦ accepted | suc n ↦ refused (suc n) ]
 
--- row 1 of what comes in; 02, Ask 13, "row 1 otherwise reads “not 1 to 4”"
+-- row 1 of what comes in: not 1 to 4
 unfoldable pub noForm : ℕ → Bool
 noForm form = not (among 1 4 form)
 
--- row 1 of what goes out; 02, Ask 13, "We write no form 4: writing refuses it with 1"
+-- row 1 of what goes out: not 1 to 3
 unfoldable pub noOutForm : ℕ → Bool
 noOutForm form = not (among 1 3 form)
 
@@ -48,7 +47,7 @@ unfoldable pub the : Option Tree → Tree
 the none = list nil
 the (some t) = t
 
--- rows 4 to 6 of a tree that is to go into lent space; 02, "Row 5 becomes 'over the lent records'"; "result over the lent room"
+-- rows 4 to 6 of a tree that is to go into lent space: too deep, more nodes than records are lent, too long or over the room lent
 unfoldable pub roomChecks : Tree → List ℕ → List ℕ → List Check
 roomChecks t canonical table =
     when Depth (ltb maxDepth (depth t))
@@ -56,7 +55,7 @@ roomChecks t canonical table =
     ∷ when Size (either (ltb maxCanonical (length (canon t))) (ltb (length canonical) (length (canon t))))
     ∷ []
 
--- rows 1 to 3 of a text
+-- rows 1 to 3 of a text (S 3, 6.1)
 unfoldable pub textChecks : ℕ → List ℕ → List Check → List Check
 textChecks form text more =
     when Form (noForm form)
@@ -66,25 +65,22 @@ textChecks form text more =
 
 -- ---- lent space
 
--- new contents from the front, zeros up to a larger old length, and past both what was there.
--- 01, "it sets octets between the new and a larger old length to 0, and records likewise; past both, nothing changes"
+-- S 8.3: new contents from the front, zeros up to a larger old length, and past both what was there
 unfoldable pub settled : List ℕ → ℕ → List ℕ → List ℕ
 settled lent old new = new ++ (replicate (old - length new) 0 ++ drop (max old (length new)) lent)
 
--- 01, "A tree fits if its lists nest at most 32 deep .., and its canonical form has at most 16,384 octets"; 02, "Raise the depth
--- to 128 and drop the node limit"
+-- S 6.1: lists nest at most 128 deep, and the canonical form has at most 16,384 octets
 unfoldable pub fits : Tree → Bool
 fits t = both (leb (depth t) maxDepth) (leb (length (canon t)) maxCanonical)
 
 unfoldable pub fitting : Tree → Option Tree
 fitting t = pick (fits t) (some t) none
 
--- the tree of the sheet with the length given: none where row 7 applies to the sheet.
--- 01, "7 also covers one beyond what is lent"
+-- the tree of the sheet with the length given: none where row 7 applies to the sheet, or where the length is beyond what is lent
 unfoldable pub sheetTree : List ℕ → ℕ → Option Tree
 sheetTree canonical len = pick (ltb (length canonical) len) none (chain (decode₁ (take len canonical)) fitting)
 
--- 01, "A table is a sheet's own when the count given is the sheet's node count and the records up to it are exactly these"
+-- S 1.4: the node count given is the sheet's, and the records up to it are the tree's
 unfoldable pub owns : List ℕ → ℕ → Tree → Option Tree
 owns table count t = pick (both (eqb count (nodes t)) (equal (take (width * count) table) (tableOf t))) (some t) none
 
@@ -92,7 +88,7 @@ owns table count t = pick (both (eqb count (nodes t)) (equal (take (width * coun
 unfoldable pub ownTree : List ℕ → ℕ → List ℕ → ℕ → Option Tree
 ownTree canonical len table count = chain (sheetTree canonical len) (owns table count)
 
--- ---- reading, and replacing: whether it is accepted, 01's number, a place in the text, length and node count, and the lent sheet
+-- ---- reading, and replacing: whether it is accepted, the number, a place in the text, length and node count, and the lent sheet
 -- and table afterwards
 pub record Outcome : Type 0 where
   pub accepted : Bool
@@ -103,7 +99,7 @@ pub record Outcome : Type 0 where
   pub canonical : List ℕ
   pub table : List ℕ
 
--- 01, "Counts are 0 in a refusal, and all lent space is unchanged"; a number and a place are told
+-- S 7.2: in a refusal counts are 0 and nothing lent is changed; a number and a place are told
 abbrev pub unchangedAt : ℕ → ℕ → List ℕ → List ℕ → Outcome
 unchangedAt n p canonical table = record { accepted = false; number = n; place = p; octets = 0; count = 0; canonical = canonical; table = table }
 
@@ -111,17 +107,17 @@ unchangedAt n p canonical table = record { accepted = false; number = n; place =
 abbrev pub unchanged : ℕ → List ℕ → List ℕ → Outcome
 unchanged n canonical table = unchangedAt n 0 canonical table
 
--- Ask 7, "in form 2 where the text doesn't begin with `{`"
+-- S 7.3: form 2 tells a place only where the text doesn't begin with `{`
 unfoldable pub braced : List ℕ → Bool
 braced [] = false
 braced (b ∷ s) = eqb b 123
 
--- the place that is told of a text that is not in its form's language. Ask 7, "With refusal 3 in form 1, and in form 2 where the text
--- doesn't begin with `{`, also give the largest p ..": `place` is that (crate automaton, `place-largest`). "In the other cases p is 0"
+-- S 7.3, the place that is told of a text that is not in its form's language: in form 1, and in form 2 without `{`, the largest p for which
+-- some canonical form begins with its first p octets: `place` is that (crate automaton, `place-largest`); else 0
 unfoldable pub placeOf : ℕ → List ℕ → ℕ
 placeOf form text = pick (either (eqb form 1) (both (eqb form 2) (not (braced text)))) (place text) 0
 
--- the same answer, and with refusal 3 a place. Ask 7, "01's \"counts are 0 in a refusal\" gets this exception"
+-- S 7.3: the same answer, and with refusal 3 a place
 unfoldable pub telling : ℕ → Outcome → Outcome
 telling p o =
     record {
@@ -147,11 +143,11 @@ filled t oldOctets oldCount canonical table =
       table = settled table (width * oldCount) (tableOf t);
     }
 
--- 01, "reading 1 to 6"
+-- S 8.1: 1 to 6
 unfoldable pub readingChecks : ℕ → List ℕ → List ℕ → List ℕ → List Check
 readingChecks form source canonical table = textChecks form source (roomChecks (the (decode form source)) canonical table)
 
--- 01, "An accepted reading gives length and node count; octets and records past them stay"
+-- S 8.1: octets and table of the text's tree, with their length and node count; what lies past them stays
 unfoldable pub reading : ℕ → List ℕ → List ℕ → List ℕ → Outcome
 reading form source canonical table =
     telling (placeOf form source)
@@ -159,11 +155,11 @@ reading form source canonical table =
     (filled (the (decode form source)) 0 0 canonical table)
     (λ n. unchanged n canonical table))
 
--- the corrected tree
+-- S 8.3: the corrected tree
 unfoldable pub replaced : ℕ → List ℕ → List ℕ → List ℕ → ℕ → ℕ → ℕ → Tree
 replaced form text canonical table len count node = replace (the (ownTree canonical len table count)) node (the (decode form text))
 
--- 01, "correcting 1, 2, 3, 7, 8, 4, 5, 6, where 4 to 6 speak of the corrected tree"
+-- S 8.3: 1, 2, 3, 7, 8, 4, 5, 6, where 4 to 6 are of the corrected tree
 unfoldable pub replacingChecks : ℕ → List ℕ → List ℕ → List ℕ → ℕ → ℕ → ℕ → List Check
 replacingChecks form text canonical table len count node =
     textChecks form text
@@ -171,7 +167,7 @@ replacingChecks form text canonical table len count node =
     ∷ when NoNode (leb count node)
     ∷ roomChecks (replaced form text canonical table len count node) canonical table)
 
--- 01, "An accepted correction gives the new length and node count"
+-- S 8.3: the corrected tree in place of the old one, its length and node count
 unfoldable pub replacing : ℕ → List ℕ → List ℕ → List ℕ → ℕ → ℕ → ℕ → Outcome
 replacing form text canonical table len count node =
     telling (placeOf form text)
@@ -179,7 +175,7 @@ replacing form text canonical table len count node =
     (filled (replaced form text canonical table len count node) len count canonical table)
     (λ n. unchanged n canonical table))
 
--- ---- writing: whether it is accepted, 01's number, a place (0: writing tells none), the length, and the lent output afterwards
+-- ---- writing: whether it is accepted, the number, a place (0: writing tells none), the length, and the lent output afterwards
 pub record Output : Type 0 where
   pub accepted : Bool
   pub number : ℕ
@@ -187,7 +183,7 @@ pub record Output : Type 0 where
   pub octets : ℕ
   pub out : List ℕ
 
--- 01, "Counts are 0 in a refusal, and all lent space is unchanged"
+-- S 7.2: in a refusal the length is 0, and the output is as it was
 abbrev pub unwrittenAt : ℕ → ℕ → List ℕ → Output
 unwrittenAt n p out = record { accepted = false; number = n; place = p; octets = 0; out = out }
 
@@ -198,7 +194,7 @@ unwritten n out = unwrittenAt n 0 out
 unfoldable pub written : ℕ → List ℕ → ℕ → List ℕ
 written form canonical len = encode form (the (sheetTree canonical len))
 
--- 01, "writing 1, 7, 6"
+-- S 8.2: 1, 7, 6
 unfoldable pub writingChecks : ℕ → List ℕ → ℕ → List ℕ → List Check
 writingChecks form canonical len out =
     when Form (noOutForm form)
@@ -206,32 +202,32 @@ writingChecks form canonical len out =
     ∷ when Size (ltb (length out) (length (written form canonical len)))
     ∷ []
 
--- 01, "An accepted writing gives its length; output past it stays"
+-- S 8.2: the length is given, and output past it stays
 unfoldable pub writing : ℕ → List ℕ → ℕ → List ℕ → Output
 writing form canonical len out =
     judged (writingChecks form canonical len out)
     (record { accepted = true; number = Accepted; place = 0; octets = length (written form canonical len); out = settled out 0 (written form canonical len) })
     (λ n. unwritten n out)
 
--- ---- comparing: whether it is accepted, 01's number, a place (0: comparing tells none), and yes or no
+-- ---- comparing: whether it is accepted, the number, a place (0: comparing tells none), and yes or no
 pub record Comparison : Type 0 where
   pub accepted : Bool
   pub number : ℕ
   pub place : ℕ
   pub yes : Bool
 
--- 01, "no in a refusal"
+-- S 7.2: no in a refusal
 abbrev pub uncomparedAt : ℕ → ℕ → Comparison
 uncomparedAt n p = record { accepted = false; number = n; place = p; yes = false }
 
 abbrev pub uncompared : ℕ → Comparison
 uncompared n = uncomparedAt n 0
 
--- 01, "comparing 7"
+-- S 8.4: 7
 unfoldable pub comparingChecks : List ℕ → ℕ → List ℕ → ℕ → List Check
 comparingChecks a aLength b bLength = when NotOwn (either (isNone (sheetTree a aLength)) (isNone (sheetTree b bLength))) ∷ []
 
--- 01, "A comparison answers yes or no besides"
+-- S 8.4: yes or no
 unfoldable pub comparing : List ℕ → ℕ → List ℕ → ℕ → List ℕ → Comparison
 comparing a aLength b bLength defaultHint =
     judged (comparingChecks a aLength b bLength)
@@ -254,11 +250,11 @@ octetsAt canonical p = take (p .end - p .start) (drop (p .start) canonical)
 unfoldable pub shownRow : List ℕ → ℕ → List ℕ → ℕ → ℕ → Option Row
 shownRow canonical len table count node = chain (ownTree canonical len table count) (λ t. pick (ltb node (nodes t)) (some (rowOf t node)) none)
 
--- 01, "if the node is a string with a hint"
+-- S 8.5: of a string with a hint, the part where the hint stands
 unfoldable pub hintPart : List ℕ → ℕ → List ℕ → ℕ → ℕ → Option Part
 hintPart canonical len table count node = chain (shownRow canonical len table count node) (λ r. pick (eqb (r .kind) 1) (some (part (r .hintStart) (r .hintEnd))) none)
 
--- 01, "if sheet and table are good and the node exists"
+-- S 8.5: of any node of a good sheet with its own table, the part where its data stands
 unfoldable pub dataPart : List ℕ → ℕ → List ℕ → ℕ → ℕ → Option Part
 dataPart canonical len table count node = chain (shownRow canonical len table count node) (λ r. some (part (r .dataStart) (r .dataEnd)))
 
@@ -266,10 +262,10 @@ unfoldable pub shownOr : Option Part → List ℕ → List ℕ → List ℕ
 shownOr none canonical other = other
 shownOr (some p) canonical other = octetsAt canonical p
 
--- 01, "in every other case, bad sheets and tables included, the default as lent"
+-- S 8.5: for all else the default that was lent
 unfoldable pub hintShown : List ℕ → ℕ → List ℕ → ℕ → ℕ → List ℕ → List ℕ
 hintShown canonical len table count node defaultHint = shownOr (hintPart canonical len table count node) canonical defaultHint
 
--- 01, "else an empty part"
+-- S 8.5: for all else an empty part
 unfoldable pub dataShown : List ℕ → ℕ → List ℕ → ℕ → ℕ → List ℕ
 dataShown canonical len table count node = shownOr (dataPart canonical len table count node) canonical []

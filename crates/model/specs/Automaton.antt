@@ -1,4 +1,4 @@
--- Canonical text octet by octet, and Ask 7's p. `keep` is applied to every number that grows; `free` leaves it as it is.
+-- Canonical text octet by octet, and the place of S 7.3. `keep` is applied to every number that grows; `free` leaves it as it is.
 use Prim.Native.Nat.{ℕ, _+_, _*_, _-_, max}
 use mathlib.Core.Bool.{Bool, true, false}
 use mathlib.Core.List.{List, [], _∷_}
@@ -60,7 +60,7 @@ ended keep false c at = state between (holds keep c) at
 unfoldable pub coming : (ℕ → ℕ) → Bool → ℕ → Count → ℕ → State
 coming keep h n c at = pick (ltb 0 n) (state (filling h n) c at) (ended keep h c at)
 
--- 01, "String: verbatim, or `[` verbatim `]` verbatim. List: `(`, its elements, `)`. No whitespace anywhere."
+-- S 2.4, the canonical form octet by octet:
 -- in a phase, with what was counted and taken, an octet
 unfoldable pub stepAt : (ℕ → ℕ) → Phase → Count → ℕ → ℕ → State
 stepAt keep between c at b =
@@ -105,6 +105,6 @@ rests (filling h n) = false
 rests bracket = false
 rests dead = false
 
--- 02, Ask 7, "the largest p such that the first p octets begin some canonical form of any size": the octets taken before it dies
+-- S 7.3, the largest p for which some canonical form begins with the first p octets: those taken before it dies
 unfoldable pub place : List ℕ → ℕ
 place s = run free start s .taken

@@ -1,11 +1,11 @@
--- Sheets compared (01, "Sheets are compared by RFC rule: same shape, and at each string same data and same hint").
+-- Sheets compared (S 8.4): the same shape, and at each string the same data and the same hint.
 use Prim.Native.Nat.{ℕ}
 use mathlib.Core.Bool.{Bool, true, false}
 use mathlib.Core.List.{List}
 use Rattle.base.specs.Choice.{both, equal}
 use Rattle.model.specs.Tree.{Tree, plain, hinted, list, Forest, nil, cons}
 
--- 01, "a missing hint counts as the caller's own default hint", which comes last
+-- S 8.4: a missing hint counts as the default, which comes last
 unfoldable mutual
   pub same : Tree → Tree → List ℕ → Bool
   same (plain d) (plain e) x = equal d e

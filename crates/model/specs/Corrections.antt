@@ -1,4 +1,4 @@
--- Inserting and removing (02, Ask 5): what they answer, and what the lent sheet and table hold afterwards. Both are corrections, as
+-- Inserting and removing (S 8.7, 8.8): what they answer, and what the lent sheet and table hold afterwards. Both are corrections, as
 -- replacing is: rows 7 and 8, then 9, and the tree that they make is put where the sheet stood (`filled`).
 use Prim.Native.Nat.{ℕ}
 use mathlib.Core.Bool.{Bool, not}
@@ -16,11 +16,11 @@ use Rattle.model.specs.Answers.{Check, when, judged, the, roomChecks, te
 unfoldable pub inserted : ℕ → List ℕ → List ℕ → List ℕ → ℕ → ℕ → ℕ → ℕ → Tree
 inserted form text canonical table len count node k = insert (the (ownTree canonical len table count)) node k (the (decode form text))
 
--- 02, "node isn't a list, k is too large"
+-- row 9: the node is not a list, or has too few elements for the place
 unfoldable pub noPlace : List ℕ → List ℕ → ℕ → ℕ → ℕ → ℕ → Bool
 noPlace canonical table len count node k = not (hasPlace (nodeAt (the (ownTree canonical len table count)) node) k)
 
--- 02, "it comes directly after 8 in correction's order": 1, 2, 3, 7, 8, 9, 4, 5, 6
+-- S 8.7: 1, 2, 3, 7, 8, 9, 4, 5, 6
 unfoldable pub insertingChecks : ℕ → List ℕ → List ℕ → List ℕ → ℕ → ℕ → ℕ → ℕ → List Check
 insertingChecks form text canonical table len count node k =
     textChecks form text
@@ -41,7 +41,7 @@ inserting form text canonical table len count node k =
 unfoldable pub removed : List ℕ → List ℕ → ℕ → ℕ → ℕ → Tree
 removed canonical table len count node = remove (the (ownTree canonical len table count)) node
 
--- 02, "a removal has no text to judge", "node 0 is to be removed"; what is left always has room (`removing-fits`, a theorem): 7, 8, 9
+-- S 8.8: 7, 8, 9. There is no text to judge, and what is left always has room (`removing-fits`, a theorem)
 unfoldable pub removingChecks : List ℕ → List ℕ → ℕ → ℕ → ℕ → List Check
 removingChecks canonical table len count node =
     when NotOwn (isNone (ownTree canonical len table count))
@@ -49,7 +49,7 @@ removingChecks canonical table len count node =
     ∷ when NoPlace (eqb node 0)
     ∷ []
 
--- 02, "Removed space is set to 0 as in a correction"
+-- S 8.8: the tree without the node, and zeros where the rest stood
 unfoldable pub removing : List ℕ → List ℕ → ℕ → ℕ → ℕ → Outcome
 removing canonical table len count node =
     judged (removingChecks canonical table len count node)

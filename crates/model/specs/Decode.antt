@@ -1,4 +1,4 @@
--- The forms decoded: lexemes below, their nesting above. No limit of depth, nodes or octets plays a part.
+-- The forms decoded (S 3.1 to 3.3): lexemes below, their nesting above. No limit of depth, nodes or octets plays a part (S 3.12).
 use Prim.Native.Nat.{ℕ, suc}
 use mathlib.Core.Bool.{Bool, true, false}
 use mathlib.Core.Option.{Option, none, some}
@@ -72,7 +72,7 @@ canonicalOf d k = elim (decode₁ d) [ some t ↦ got d k | none ↦ refused ]
 unfoldable pub braces : Rules → List ℕ → Read (List ℕ)
 braces ρ s = bind (bind (upto 125 s) (λ l k. decoded (unbase ρ l) k)) canonicalOf
 
--- 02, Ask 13, "`{MzphYmM=}` is then `3:abc`": the octets in braces take their place
+-- S 3.3: the octets in braces take their place
 unfoldable pub lexemeIn : Rules → Bool → List ℕ → Read Lexeme
 lexemeIn ρ β [] = refused
 lexemeIn ρ β (b ∷ s) = pick (both β (eqb b 123)) (bind (braces ρ s) (λ d k. lexeme ρ (d ++ k))) (lexeme ρ (b ∷ s))

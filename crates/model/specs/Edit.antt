@@ -1,5 +1,4 @@
--- A node of a tree, by its number, gives way to a forest (01, "The corrected tree is the sheet's tree with the node of that
--- number replaced by the text's tree").
+-- A node of a tree, by its number, gives way to a forest (S 8.3, 8.7, 8.8).
 use Prim.Native.Nat.{ℕ, zero, suc, _-_}
 use lib.Dec.{ltb}
 use Rattle.base.specs.Choice.{pick}
@@ -24,12 +23,12 @@ unfoldable mutual
   across e nil k = nil
   across e (cons t f) k = pick (ltb k (nodes t)) (elim k [ zero ↦ join (e t) f | suc n ↦ cons (within e t n) f ]) (cons t (across e f (k - nodes t)))
 
--- 01, "For node 0 that is the whole"
+-- S 8.3: for node 0 it is the text's tree alone
 unfoldable pub replace : Tree → ℕ → Tree → Tree
 replace t zero u = u
 replace t (suc k) u = within (λ (x : Tree). one u) t k
 
--- ---- 02, "Insert a text's tree .. as the k-th element of a list node .., and remove any node but node 0"
+-- ---- S 8.7, 8.8: a tree put into a list as its k-th element, and a node left out of its list
 
 -- a tree put into a forest as its k-th element, at the end where it has fewer
 unfoldable pub put : Forest → ℕ → Tree → Forest

@@ -1,4 +1,4 @@
--- The language of the forms: RFC 9804's ABNF rule by rule, with 01's narrowing, and form 4 of 1997.
+-- The language of the forms (S 3): RFC 9804's ABNF rule by rule, as S 3 narrows it, and form 4 of 1997.
 -- `R s x k` says: the octets s begin with what the rule R names, x is what that means, and k is the rest of s.
 -- A constructor is a rule, or one of its alternatives, and has the rule's name.
 use Prim.Native.Nat.{ℕ, suc, _+_, _*_, _-_, _/_, _%_, _≤_, _<_}
@@ -42,7 +42,7 @@ pub data Decimal : List ℕ → ℕ → List ℕ → Type 0 where
 pub data Verbatim : List ℕ → List ℕ → List ℕ → Type 0 where
   verbatim : {s d k : List ℕ} → Decimal s (length d) (58 ∷ (d ++ k)) → Verbatim s d k
 
--- [decimal] before the data d; 01, "it must equal the decoded length"
+-- [decimal] before the data d; S 3.11: it is the number of octets decoded
 pub data Length (d : List ℕ) : List ℕ → List ℕ → Type 0 where
   no-length : {k : List ℕ} → Length d k k
   a-length : {s k : List ℕ} → Decimal s (length d) k → Length d s k
@@ -54,12 +54,12 @@ pub data Quotable (ρ : Rules) : List ℕ → List ℕ → List ℕ → Type 0 w
   printable : {b : ℕ} {k : List ℕ} → isPrintable b ≡ true → Quotable ρ (b ∷ k) (b ∷ []) k
   -- backslash and one of the octets that are listed
   escaped-octet : {e : ℕ} {k : List ℕ} → ρ .escape e < 256 → Quotable ρ (92 ∷ e ∷ k) (ρ .escape e ∷ []) k
-  -- backslash 3(%x30-37); 01, "An octal value over 255 is refused"
+  -- backslash 3(%x30-37); S 3.8: at most 255
   escaped-octal : {a b c : ℕ} {k : List ℕ} → octval a < 8 → octval b < 8 → octval c < 8 → octval a * 64 + octval b * 8 + octval c ≤ 255
       → Quotable ρ (92 ∷ a ∷ b ∷ c ∷ k) ((octval a * 64 + octval b * 8 + octval c) ∷ []) k
   -- backslash (%x78 2HEXDIG)
   escaped-hex : {a b : ℕ} {k : List ℕ} → hexval a < 16 → hexval b < 16 → Quotable ρ (92 ∷ 120 ∷ a ∷ b ∷ k) ((hexval a * 16 + hexval b) ∷ []) k
-  -- backslash (CR / LF / (CR LF) / (LF CR)); 01, "which stand for nothing"
+  -- backslash (CR / LF / (CR LF) / (LF CR)); S 3.8: it stands for nothing
   escaped-cr : {k : List ℕ} → Quotable ρ (92 ∷ 13 ∷ k) [] k
   escaped-lf : {k : List ℕ} → Quotable ρ (92 ∷ 10 ∷ k) [] k
   escaped-cr-lf : {k : List ℕ} → Quotable ρ (92 ∷ 13 ∷ 10 ∷ k) [] k
@@ -72,7 +72,7 @@ pub data Quotables (ρ : Rules) : List ℕ → List ℕ → List ℕ → Type 0 
 
 -- ---- tokens
 
--- *(ALPHA / DIGIT / simple-punc); 01, "A token takes the longest run of such octets": the rest does not begin with one
+-- *(ALPHA / DIGIT / simple-punc); S 3.7: the longest run, so that the rest does not begin with one
 pub data Run : List ℕ → List ℕ → List ℕ → Type 0 where
   run-more : {b : ℕ} {s d k : List ℕ} → isTokenOctet b ≡ true → Run s d k → Run (b ∷ s) (b ∷ d) k
   run-end : Run [] [] []
@@ -88,7 +88,7 @@ pub data Hexadecimals : List ℕ → List ℕ → List ℕ → Type 0 where
 
 -- ---- base-64
 
--- 01, "four letters taken together give three octets"
+-- S 3.10: four letters give three octets
 abbrev pub octet₁ : ℕ → ℕ → ℕ
 octet₁ a b = letter a * 4 + letter b / 16
 
@@ -114,7 +114,8 @@ pub data Equals : ℕ → List ℕ → List ℕ → Type 0 where
   no-equals : {n : ℕ} {k : List ℕ} → Equals n k k
   equals : {n : ℕ} {s s₁ k : List ℕ} → Whitespaces s s₁ → Equals n s₁ k → Equals (suc n) (61 ∷ s) k
 
--- *base-64-chars [base-64-end] and the closing mark; 01, "three letters (two octets) may be followed by at most one `=`, two letters (one octet) by at most two"
+-- *base-64-chars [base-64-end] and the closing mark; S 3.10: at most one "=" after three letters at the end, at most two after two, and of
+-- the bits too many only those that the rules let stand
 pub data Base64Chars (ρ : Rules) (mark : ℕ) : List ℕ → List ℕ → List ℕ → Type 0 where
   closing-mark : {k : List ℕ} → Base64Chars ρ mark (mark ∷ k) [] k
   base-64-chars : {a b c e : ℕ} {s s₁ s₂ s₃ s₄ d k : List ℕ} → Base64Char s a s₁ → Base64Char s₁ b s₂ → Base64Char s₂ c s₃ → Base64Char s₃ e s₄ → Base64Chars ρ mark s₄ d k
@@ -138,7 +139,7 @@ pub data SimpleString (ρ : Rules) : List ℕ → List ℕ → List ℕ → Type
   -- base-64 = [decimal] "|" *whitespace *base-64-chars [base-64-end] "|"
   base-64 : {s s₁ s₂ d k : List ℕ} → Length d s (124 ∷ s₁) → Whitespaces s₁ s₂ → Base64Chars ρ 124 s₂ d k → SimpleString ρ s d k
 
--- display = "[" *whitespace simple-string *whitespace "]" *whitespace (01's hint)
+-- display = "[" *whitespace simple-string *whitespace "]" *whitespace (S 3.5: a hint)
 pub data Display (ρ : Rules) : List ℕ → List ℕ → List ℕ → Type 0 where
   display : {s s₁ s₂ s₃ h k : List ℕ} → Whitespaces s s₁ → SimpleString ρ s₁ h s₂ → Whitespaces s₂ (93 ∷ s₃) → Whitespaces s₃ k → Display ρ (91 ∷ s) h k
 
@@ -160,7 +161,7 @@ mutual
   pub data Value (ρ : Rules) (β : Bool) : List ℕ → Tree → List ℕ → Type 0 where
     string : {s d k : List ℕ} → SimpleString ρ s d k → Value ρ β s (plain d) k
     display-string : {s s₁ h d k : List ℕ} → Display ρ s h s₁ → SimpleString ρ s₁ d k → Value ρ β s (hinted h d) k
-    -- 02, Ask 13, "`{`, base-64, `}` may stand too if it decodes to one canonical tree, and its tree is the value"
+    -- S 3.3, form 4: "{", base-64, "}" where the octets decoded are form 1; their tree is the value
     braced-value : {s s₁ d k : List ℕ} {t : Tree} → β ≡ true → Whitespaces s s₁ → Base64Chars ρ 125 s₁ d k → CSexp d t [] → Value ρ β (123 ∷ s) t k
     list-value : {s k : List ℕ} {f : Forest} → Values ρ β s f k → Value ρ β (40 ∷ s) (list f) k
 
@@ -172,12 +173,12 @@ mutual
 
 -- ---- the forms: nothing is left after them
 
--- 01, "Form 1, canonical: exactly one tree as above, nothing after it"
+-- S 3.1: exactly one tree's canonical form
 pub data Canonical : List ℕ → Tree → Type 0 where
   canonical : {s : List ℕ} {t : Tree} → CSexp s t [] → Canonical s t
 
 -- b-sexp = c-sexp / b-base-64; b-base-64 = "{" *whitespace *base-64-chars base-64-end "}", "encodes a c-sexp".
--- 01, "at least two letters stand inside": they give at least one octet. 01, "Braces follow the same rule" as bars.
+-- S 3.2: letters stand inside, so that at least one octet is decoded; S 3.10: braces follow the rule of bars.
 pub data Basic (ρ : Rules) : List ℕ → Tree → Type 0 where
   b-c-sexp : {s : List ℕ} {t : Tree} → CSexp s t [] → Basic ρ s t
   b-base-64 : {s s₁ d : List ℕ} {t : Tree} → Whitespaces s s₁ → Base64Chars ρ 125 s₁ d [] → 0 < length d → CSexp d t [] → Basic ρ (123 ∷ s) t
@@ -190,5 +191,5 @@ pub data Language (ρ : Rules) : ℕ → List ℕ → Tree → Type 0 where
   form-1 : {s : List ℕ} {t : Tree} → Canonical s t → Language ρ 1 s t
   form-2 : {s : List ℕ} {t : Tree} → Basic ρ s t → Language ρ 2 s t
   form-3 : {s : List ℕ} {t : Tree} → Advanced ρ false s t → Language ρ 3 s t
-  -- 02, Ask 13, "Add form 4: form 3, except that …"
+  -- S 3.3: form 3, and braces where a value may stand
   form-4 : {s : List ℕ} {t : Tree} → Advanced ρ true s t → Language ρ 4 s t

@@ -1,4 +1,4 @@
--- A text cut into lexemes: parentheses, strings, strings with a hint.
+-- A text cut into lexemes: parentheses, strings, strings with a hint (S 3.5).
 use Prim.Native.Nat.{ℕ, zero, suc}
 use mathlib.Core.Bool.{true, false}
 use mathlib.Core.Option.{Option, none, some}

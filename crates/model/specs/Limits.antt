@@ -1,31 +1,30 @@
--- 01's limits and refusal numbers, each one name.
+-- The limits (S 6.1) and the refusals' numbers (S 7.1), each one name.
 use Prim.Native.Nat.{ℕ}
 
--- 01, "Room on the page"
+-- S 6.1: octets of a source
 abbrev pub maxSource : ℕ
 maxSource = 32768
 
--- 02, "Raise the depth to 128": 01's 32 gives way
+-- S 6.1: how deep lists nest
 abbrev pub maxDepth : ℕ
 maxDepth = 128
 
 abbrev pub maxCanonical : ℕ
 maxCanonical = 16384
 
--- 02, "drop the node limit: 16,384 octets hold at most 8,192 nodes anyway": no limit, but what a tree that fits has at most
--- (`fitting-nodes`). No answer rests on it.
+-- S 6.2: no limit, but what a tree that fits has at most (`fitting-nodes`). No answer rests on it.
 abbrev pub mostNodes : ℕ
 mostNodes = 8192
 
--- 01, "When the desk sends it back"
+-- S 7.1: no row applies
 abbrev pub Accepted : ℕ
 Accepted = 0
 
--- 02, Ask 13, "row 1 otherwise reads “not 1 to 4”"; in writing not 1 to 3
+-- not 1 to 4; in writing not 1 to 3
 abbrev pub Form : ℕ
 Form = 1
 
--- source over 32,768
+-- the source is too long
 abbrev pub SourceSize : ℕ
 SourceSize = 2
 
@@ -33,26 +32,26 @@ SourceSize = 2
 abbrev pub Syntax : ℕ
 Syntax = 3
 
--- lists over 128 deep
+-- lists nest too deep
 abbrev pub Depth : ℕ
 Depth = 4
 
--- 02, "Row 5 becomes 'over the lent records'"
+-- more nodes than records are lent
 abbrev pub Nodes : ℕ
 Nodes = 5
 
--- canonical form over 16,384; or result over the lent room
+-- the canonical form is too long, or the result longer than the room lent
 abbrev pub Size : ℕ
 Size = 6
 
--- a sheet not one fitting canonical form, or a lent table not its own
+-- a sheet that is none, or of no tree that fits; a table that is not its own
 abbrev pub NotOwn : ℕ
 NotOwn = 7
 
--- no such node
+-- there is no node of that number
 abbrev pub NoNode : ℕ
 NoNode = 8
 
--- 02, Ask 5: the node isn't a list, k is too large, or node 0 is to be removed
+-- S 7.1: the node is not a list or has too few elements, or node 0 is to be removed
 abbrev pub NoPlace : ℕ
 NoPlace = 9

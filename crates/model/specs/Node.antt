@@ -16,7 +16,7 @@ unfoldable mutual
   nodeAmong nil k = list nil
   nodeAmong (cons t f) k = pick (ltb k (nodes t)) (elim k [ zero ↦ t | suc n ↦ nodeIn t n ]) (nodeAmong f (k - nodes t))
 
--- 01, "an entry is a node, told by its number"
+-- S 1.3: a node by its number, node 0 the whole
 unfoldable pub nodeAt : Tree → ℕ → Tree
 nodeAt t zero = t
 nodeAt t (suc k) = nodeIn t k
@@ -26,7 +26,7 @@ unfoldable pub elements : Forest → ℕ
 elements nil = 0
 elements (cons t f) = 1 + elements f
 
--- 02, "as the k-th element of a list node (0 up to its element count)": whether there is such a place; a string has none
+-- S 8.7: k is at most the number of elements that the list has; a string has no place
 unfoldable pub hasPlace : Tree → ℕ → Bool
 hasPlace (plain d) k = false
 hasPlace (hinted h d) k = false

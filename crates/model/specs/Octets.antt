@@ -1,11 +1,11 @@
--- What an octet is to the grammar: RFC 9804's ranges, with the values of digits, letters and escapes.
+-- What an octet is to the grammar: RFC 9804's ranges, with the values of digits, letters and escapes (S 3.4 to 3.10).
 use Prim.Native.Nat.{ℕ, _+_, _-_}
 use mathlib.Core.Bool.{Bool, true}
 use mathlib.Core.List.{List, [], _∷_}
 use lib.Dec.{eqb}
 use Rattle.base.specs.Choice.{pick, either, among, member}
 
--- whitespace = SP / HTAB / vtab / CR / LF / ff; 01, "Whitespace is octets 32, 9, 10, 11, 12, 13"
+-- whitespace = SP / HTAB / vtab / CR / LF / ff; S 3.4
 unfoldable pub isWhitespace : ℕ → Bool
 isWhitespace b = member (32 ∷ 9 ∷ 10 ∷ 11 ∷ 12 ∷ 13 ∷ []) b
 
@@ -21,14 +21,14 @@ isAlpha b = either (among 65 90 b) (among 97 122 b)
 unfoldable pub isSimplePunc : ℕ → Bool
 isSimplePunc b = member (45 ∷ 46 ∷ 47 ∷ 95 ∷ 58 ∷ 42 ∷ 43 ∷ 61 ∷ []) b
 
--- 01, "Token: first a letter or one of `- . / _ : * + =`, then these or digits"
+-- S 3.7: what a token begins with, and what it goes on with
 unfoldable pub isTokenStart : ℕ → Bool
 isTokenStart b = either (isAlpha b) (isSimplePunc b)
 
 unfoldable pub isTokenOctet : ℕ → Bool
 isTokenOctet b = either (isTokenStart b) (isDigit b)
 
--- printable = %x20-21 / %x23-5B / %x5D-7E; 01, "octets 32 to 126 but not `"` or `\`"
+-- printable = %x20-21 / %x23-5B / %x5D-7E; S 3.8: 32 to 126 but for the quotation mark and the backslash
 unfoldable pub isPrintable : ℕ → Bool
 isPrintable b = either (among 32 33 b) (either (among 35 91 b) (among 93 126 b))
 
@@ -48,8 +48,7 @@ letter b =
     (pick (among 48 57 b) (b + 4)
     (pick (eqb b 43) 62 (pick (eqb b 47) 63 64))))
 
--- 02, Ask 2, "RFC 4648 lets a reader refuse leftover low bits that aren't zero. Do so with 3": of the bits that the last letter has too
--- many, only zeros may stand. 01's "Leftover low bits are ignored" gives way.
+-- S 3.10: of the bits that the last letter has too many, only zeros may stand
 unfoldable pub leftover : ℕ → Bool
 leftover bits = eqb bits 0
 
@@ -58,8 +57,7 @@ unfoldable pub find : List (ℕ × ℕ) → ℕ → ℕ → ℕ
 find [] e other = other
 find (p ∷ ps) e other = pick (eqb e (p .0)) (p .1) (find ps e other)
 
--- 01, "Escapes are 001's and no others: `\b \t \v \n \f \r \" \' \\`"; 02, Ask 3, "RFC 9804's grammar also has `\a` (octet 7) and `\?`
--- (octet 63)": "no others" gives way
+-- S 3.8: \b \t \v \n \f \r \" \' \\, and \a and \? of request 3
 abbrev pub escapes : List (ℕ × ℕ)
 escapes = (98, 8) ∷ (116, 9) ∷ (118, 11) ∷ (110, 10) ∷ (102, 12) ∷ (114, 13) ∷ (34, 34) ∷ (39, 39) ∷ (92, 92) ∷ (97, 7) ∷ (63, 63) ∷ []
 

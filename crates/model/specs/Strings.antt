@@ -1,4 +1,4 @@
--- Simple strings decoded. Each function reads what the grammar's rule of its kind names; the laws (proofs/Exact) say that
+-- Simple strings decoded (S 3.6). Each function reads what the grammar's rule of its kind names; the laws (proofs/Exact) say that
 -- the two agree. Like the grammar's, they are over what requests change about strings.
 use Prim.Native.Nat.{ℕ, zero, suc, _+_, _*_, _-_, _%_}
 use mathlib.Core.Bool.{true, false}
@@ -24,7 +24,7 @@ unfoldable pub skip : List ℕ → List ℕ
 skip [] = []
 skip (b ∷ s) = elim (isWhitespace b) [ true ↦ skip s | false ↦ b ∷ s ]
 
--- ---- lengths: numbers of any size
+-- ---- lengths (S 2.3): numbers of any size
 
 -- *DIGIT, after digits that say v
 unfoldable pub number : ℕ → List ℕ → Read ℕ
@@ -39,12 +39,12 @@ decimal b s = elim (eqb b 48) [ true ↦ got 0 s | false ↦ number (b - 48) s ]
 unfoldable pub first : ℕ → List ℕ → Read (List ℕ)
 first n s = pick (leb n (length s)) (got (take n s) (drop n s)) refused
 
--- ---- the rest of a token: the longest run
+-- ---- the rest of a token: the longest run (S 3.7)
 unfoldable pub run : List ℕ → Read (List ℕ)
 run [] = got [] []
 run (b ∷ s) = elim (isTokenOctet b) [ true ↦ bind (run s) (λ d k. got (b ∷ d) k) | false ↦ got [] (b ∷ s) ]
 
--- ---- quoted strings
+-- ---- quoted strings (S 3.8)
 
 -- past an octet c, where the text begins with one
 unfoldable pub past : ℕ → List ℕ → List ℕ
@@ -88,7 +88,7 @@ quotedBy ρ zero s = refused
 quotedBy ρ (suc f) [] = refused
 quotedBy ρ (suc f) (b ∷ s) = elim (eqb b 34) [ true ↦ got [] s | false ↦ bind (pieceOf ρ (b ∷ s)) (λ p r. bind (quotedBy ρ f r) (λ d k. got (p ++ d) k)) ]
 
--- ---- hexadecimal and base-64: first what stands before the closing mark, whitespace left out; then its meaning
+-- ---- hexadecimal and base-64 (S 3.9, 3.10): first what stands before the closing mark, whitespace left out; then its meaning
 
 unfoldable pub upto : ℕ → List ℕ → Read (List ℕ)
 upto m [] = refused
@@ -154,7 +154,7 @@ marked ρ m s =
           ]
     ]
 
--- data of the length that stood before the mark
+-- data of the length that stood before the mark (S 3.11)
 unfoldable pub sized : ℕ → List ℕ → List ℕ → Read (List ℕ)
 sized n d k = pick (eqb (length d) n) (got d k) refused
 

@@ -1,10 +1,10 @@
--- The node table (01, "What the table says").
+-- The node table (S 4).
 use Prim.Native.Nat.{ℕ, _+_, _-_, _/_}
 use mathlib.Core.List.{List, [], _∷_, _++_}
 use lib.ListN.{length, getD}
 use Rattle.model.specs.Tree.{Tree, plain, hinted, list, Forest, nil, cons, digits, verbatim, canon, nodes}
 
--- 01, "Each record has eight numbers"; the ninth, by 02, is said beside them (`parents`)
+-- S 4.1: eight numbers of a record; the ninth, its parent, is said beside them (`parents`)
 pub record Row : Type 0 where
   -- 0 string, 1 string with hint, 2 list
   pub kind : ℕ
@@ -18,22 +18,21 @@ pub record Row : Type 0 where
   pub dataStart : ℕ
   pub dataEnd : ℕ
 
--- how many numbers a record has in a table that is lent as plain numbers
--- (02, "The table is lent nine to a record": 01's eight gives way)
+-- S 4.3: how many numbers a record has in a table that is lent flat
 abbrev pub width : ℕ
 width = 9
 
 abbrev pub rowNumbers : Row → List ℕ
 rowNumbers r = r .kind ∷ r .start ∷ r .end ∷ r .count ∷ r .hintStart ∷ r .hintEnd ∷ r .dataStart ∷ r .dataEnd ∷ []
 
--- 01, "Without a hint both hint numbers are 0"
+-- S 4.2: no hint, and 0 for its two numbers
 abbrev pub plainRow : ℕ → ℕ → ℕ → Row
 plainRow at a e = record { kind = 0; start = at; end = e; count = 1; hintStart = 0; hintEnd = 0; dataStart = a; dataEnd = e }
 
 abbrev pub hintedRow : ℕ → ℕ → ℕ → ℕ → ℕ → Row
 hintedRow at hs he a e = record { kind = 1; start = at; end = e; count = 1; hintStart = hs; hintEnd = he; dataStart = a; dataEnd = e }
 
--- 01, "A list's data is what stands between its parentheses"
+-- S 4.2: the data of a list is all inside its parentheses
 abbrev pub listRow : ℕ → ℕ → ℕ → Row
 listRow at e n = record { kind = 2; start = at; end = e; count = n; hintStart = 0; hintEnd = 0; dataStart = at + 1; dataEnd = e - 1 }
 
@@ -44,7 +43,7 @@ bodyStart at d = at + length (digits (length d)) + 1
 abbrev pub bodyEnd : ℕ → List ℕ → ℕ
 bodyEnd at d = at + length (verbatim d)
 
--- 01, "Nodes stand in the order in which they begin": the rows of a tree whose canonical octets begin at a place
+-- S 1.3, in the order in which nodes begin: the rows of a tree whose canonical octets begin at a place
 unfoldable mutual
   pub rows : Tree → ℕ → List Row
   rows (plain d) at = plainRow at (bodyStart at d) (bodyEnd at d) ∷ []
@@ -56,8 +55,8 @@ unfoldable mutual
   rowss nil at = []
   rowss (cons t f) at = rows t at ++ rowss f (at + length (canon t))
 
--- 02, "Each record gets a ninth number, the node number of the list directly around it, and 0 for node 0": those of a tree whose own
--- number is the first one, and that stands in the list of the second
+-- S 4.1, the number of the list directly around a node, and 0 for node 0: those of a tree whose own number is the first one, and that
+-- stands in the list of the second
 unfoldable mutual
   pub parents : Tree → ℕ → ℕ → List ℕ
   parents (plain d) own up = up ∷ []
@@ -72,7 +71,7 @@ unfoldable mutual
 abbrev pub recorded : Row → ℕ → List ℕ
 recorded r up = rowNumbers r ++ (up ∷ [])
 
--- 01, "The table is first lent as plain numbers": rows, each with its parent (there are as many)
+-- S 4.3, a table as numbers: rows, each with its parent (there are as many)
 unfoldable pub flat : List Row → List ℕ → List ℕ
 flat [] ps = []
 flat (r ∷ rs) [] = recorded r 0 ++ flat rs []
@@ -90,6 +89,6 @@ rowOf t node = getD (rows t 0) node (plainRow 0 0 0)
 abbrev pub parentOf : Tree → ℕ → ℕ
 parentOf t node = getD (parents t 0 0) node 0
 
--- 01, "a remainder unused": how many records a table of so many numbers has
+-- S 4.3, a remainder is never touched: how many records a table of so many numbers has
 abbrev pub records : List ℕ → ℕ
 records table = length table / width

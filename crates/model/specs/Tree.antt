@@ -6,8 +6,7 @@ use lib.ListN.{length}
 use lib.Dec.{ltb}
 
 mutual
-  -- 01, "A tree is a string or a list of zero or more trees": a string without a hint (its data),
-  -- a string with a hint (the hint, the data: an empty hint is not a missing one), a list
+  -- S 2.1, 2.2: a string without a hint (its data), a string with a hint (the hint, the data: an empty hint is not a missing one), a list
   pub data Tree : Type 0 where
     plain : List ℕ → Tree
     hinted : List ℕ → List ℕ → Tree
@@ -18,7 +17,7 @@ mutual
     nil : Forest
     cons : Tree → Forest → Forest
 
--- 01, "Decimal is `0`, or starts with 1 to 9"; the first number bounds how many more digits there are
+-- S 2.3, decimal: `0`, or a first digit that is not `0`; the first number bounds how many more digits there are
 unfoldable pub digitsUpTo : ℕ → ℕ → List ℕ
 digitsUpTo zero n = (48 + n) ∷ []
 digitsUpTo (suc f) n = elim (ltb n 10) [ true ↦ (48 + n) ∷ [] | false ↦ digitsUpTo f (n / 10) ++ ((48 + n % 10) ∷ []) ]
@@ -26,11 +25,11 @@ digitsUpTo (suc f) n = elim (ltb n 10) [ true ↦ (48 + n) ∷ [] | false ↦ di
 unfoldable pub digits : ℕ → List ℕ
 digits n = digitsUpTo n n
 
--- 01, "Verbatim: the length in decimal, a colon, that many octets"
+-- S 2.3: verbatim, the length before the octets
 unfoldable pub verbatim : List ℕ → List ℕ
 verbatim d = digits (length d) ++ 58 ∷ d
 
--- 01, "String: verbatim, or `[` verbatim `]` verbatim. List: `(`, its elements, `)`. No whitespace anywhere."
+-- S 2.4: the canonical form
 unfoldable mutual
   pub canon : Tree → List ℕ
   canon (plain d) = verbatim d
@@ -52,7 +51,7 @@ unfoldable mutual
   nodess nil = 0
   nodess (cons t f) = nodes t + nodess f
 
--- 01, "lists nest at most 32 deep (an outermost list is 1)", 128 by 02
+-- S 6.1: how deep lists nest, an outermost list being 1 deep
 unfoldable mutual
   pub depth : Tree → ℕ
   depth (plain d) = 0

@@ -1,4 +1,4 @@
--- What goes out (01, "What goes out").
+-- What goes out (S 5).
 use Prim.Native.Nat.{ℕ, _+_, _*_, _-_, _/_, _%_}
 use mathlib.Core.Bool.{Bool, false}
 use mathlib.Core.List.{List, [], _∷_, _++_}
@@ -14,7 +14,7 @@ unfoldable pub isToken : List ℕ → Bool
 isToken [] = false
 isToken (b ∷ s) = pick (isTokenStart b) (every isTokenOctet s) false
 
--- 01, "`"` and `\` by backslash"
+-- S 5.2: the quotation mark and the backslash by a backslash
 unfoldable pub quoteOne : ℕ → List ℕ
 quoteOne b = pick (eqb b 34) (92 ∷ 34 ∷ []) (pick (eqb b 92) (92 ∷ 92 ∷ []) (b ∷ []))
 
@@ -22,7 +22,7 @@ unfoldable pub quoteAll : List ℕ → List ℕ
 quoteAll [] = []
 quoteAll (b ∷ d) = quoteOne b ++ quoteAll d
 
--- 01, "lower-case hex"
+-- S 5.2: hexadecimal in lower case
 unfoldable pub hexDigit : ℕ → ℕ
 hexDigit n = pick (ltb n 10) (48 + n) (87 + n)
 
@@ -30,11 +30,11 @@ unfoldable pub hexAll : List ℕ → List ℕ
 hexAll [] = []
 hexAll (b ∷ d) = hexDigit (b / 16) ∷ hexDigit (b % 16) ∷ hexAll d
 
--- 01, "a token where the octets make one, else quoted where all are 32 to 126, else lower-case hex"
+-- S 5.2: a token if the octets can be one, else quoted if all are 32 to 126, else hexadecimal
 unfoldable pub shown : List ℕ → List ℕ
 shown d = pick (isToken d) d (pick (every (among 32 126) d) (34 ∷ quoteAll d ++ 34 ∷ []) (35 ∷ hexAll d ++ 35 ∷ []))
 
--- 01, "elements with one space between and none inside the parentheses' edges; the hint directly before its string"
+-- S 5.2: one space between elements, none inside a parenthesis's edge, and a hint directly before its string
 unfoldable mutual
   pub advanced : Tree → List ℕ
   advanced (plain d) = shown d
@@ -49,7 +49,7 @@ unfoldable mutual
   following nil = []
   following (cons t f) = 32 ∷ advanced t ++ following f
 
--- ---- form 2: 01, "`{`, padded base-64 without whitespace, `}`"
+-- ---- form 2 (S 5.1): padded base-64 without whitespace, in braces
 
 -- RFC 4648's alphabet; 52 to 61 are the digits
 unfoldable pub letterOf : ℕ → ℕ
@@ -64,6 +64,6 @@ baseAll (a ∷ b ∷ c ∷ s) = letterOf (a / 4) ∷ letterOf (a % 4 * 16 + b / 
 unfoldable pub basic : Tree → List ℕ
 basic t = 123 ∷ baseAll (canon t) ++ 125 ∷ []
 
--- a tree in the form named; 01, "Form 1 copies"
+-- a tree in the form named; S 5.1: form 1 is the sheet
 unfoldable pub encode : ℕ → Tree → List ℕ
 encode form t = pick (eqb form 1) (canon t) (pick (eqb form 2) (basic t) (pick (eqb form 3) (advanced t) []))

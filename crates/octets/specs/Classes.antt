@@ -30,7 +30,7 @@ pub record Class (b c : ℕ) : Type 0 where
   pub braceOpening : eqb b 123 ≡ eqb c 12
   pub braceClosing : eqb b 125 ≡ eqb c 13
 
--- 01, "all 256 octets are sorted into classes by one fixed list, and the list is shown once to agree with the rules above at each octet"
+-- S 3.16: one list sorts all 256 octets into classes, and agrees with the grammar at each octet
 pub record Classed (table : List ℕ) : Type 0 where
   pub at : (b : ℕ) → b < 256 → Class b (getD table b 0)
 

@@ -1,4 +1,4 @@
--- Two changes of different nodes of a tree, neither inside the other, make the same tree in either order (02, Ask 14).
+-- Two changes of different nodes of a tree, neither inside the other, make the same tree in either order (S 12.1).
 use Prim.Native.Nat.{ℕ, zero, suc, _+_, _-_, _≤_, _<_}
 use native.Mathlib.Omega.{arith}
 use mathlib.Core.Path.{_≡_, sym, ap, ap₂, _∙_}
@@ -103,7 +103,7 @@ done-across away t (suc k) z h = sym (across-in (makes away) t nil k h)
 pub only : {t u : Tree} → one t ≡ one u → t ≡ u
 only e = cc
 
--- 02, Ask 14: the same tree in either order; replaced, inserted into or removed, any two of these
+-- S 12.1: the same tree in either order; replaced, inserted into or removed, any two of these
 module _ (t : Tree) (a b : ℕ) (h : b < nodes t) (o : a + nodes (nodeAt t a) ≤ b) where
   not-the-whole : 0 < a
   unfolding nodeAt
@@ -147,7 +147,7 @@ module _ (t : Tree) (a b : ℕ) (h : b < nodes t) (o : a + nodes (nodeAt t a) �
   pub shift-is : (c : Deed) → shifted b c (nodeAt t a) + nodes (nodeAt t a) ≡ b + nodess (makes c (nodeAt t a))
   shift-is c = omega arith
 
-  -- two corrections: 02, "the node further on .. has its number shifted by the change in node count"
+  -- two replacements; S 12.1: the number of the node further on is shifted by the change in node count
   pub replaced-either : (u v : Tree) → replace (replace t b v) a u ≡ replace (replace t a u) (b + nodes u - nodes (nodeAt t a)) v
   unfolding done makes
   replaced-either u v = either-order (to u) (to v) (b + nodes u - nodes (nodeAt t a)) (omega (arith, nodess-one u))

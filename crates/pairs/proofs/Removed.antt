@@ -1,5 +1,5 @@
 -- An insertion into a list and something done to a node inside it, removals above all: in which element that node is, and how many
--- elements there are afterwards, say what is shifted (02, Ask 14).
+-- elements there are afterwards, say what is shifted (S 12.4).
 use Prim.Native.Nat.{ℕ, zero, suc, _+_, _-_, _≤_, _<_}
 use native.Mathlib.Omega.{arith}
 use mathlib.Core.Path.{_≡_, refl, sym, ap, ap₂, _∙_}

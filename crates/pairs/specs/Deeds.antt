@@ -1,4 +1,4 @@
--- What may be done to a node of a tree (01, a correction; 02, Ask 5, an insertion and a removal), as one notion for all three.
+-- What may be done to a node of a tree (S 1.6: replaced, inserted into, removed), as one notion for all three.
 use Prim.Native.Nat.{ℕ, zero, suc, _+_, _-_}
 use Rattle.model.specs.Edit.{one, replace, putIn, insert, remove}
 use Rattle.model.specs.Tree.{Tree, Forest, nil, cons, nodes, nodess}
@@ -23,7 +23,7 @@ done (to u) t node = replace t node u
 done (with-in k u) t node = insert t node k u
 done away t node = remove t node
 
--- 02, Ask 14, "its number shifted by the change in node count": the number b, where x has been changed further to the front
+-- S 12.1, shifted by the change in node count: the number b, where x has been changed further to the front
 abbrev pub shifted : ℕ → Deed → Tree → ℕ
 shifted b c x = b + nodess (makes c x) - nodes x
 

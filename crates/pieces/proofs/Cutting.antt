@@ -1,4 +1,4 @@
--- The laws of pieces, in the words of 02, Ask 1.
+-- The laws of pieces (S 13).
 use Prim.Native.Nat.{ℕ, min}
 use mathlib.Core.Path.{_≡_, sym, ap, _∙_}
 use mathlib.Core.List.{List, _++_}
@@ -17,23 +17,22 @@ pub in-turn : {first : List ℕ} {lent : ℕ} {s : List ℕ} {x : State} {sheet 
 in-turn {first} {lent} (starts {x} e) = turn-start first lent x e
 in-turn (fed h p) = turn-piece (in-turn h) p
 
--- "State, sheet and table after any piece .. are fixed by the octets fed and the buffers' first contents, never by the cutting"; no piece
--- is lent the table to write
+-- S 13.5: state and sheet depend on the octets fed and on what the sheet first held, and not on how they were cut; no piece is lent the
+-- table to write
 pub never-by-the-cutting : {first : List ℕ} {lent : ℕ} {s : List ℕ} {x y : State} {sheet sheet′ : List ℕ} → Handed first lent s x sheet → Handed first lent s y sheet′ → (x ≡ y) × (sheet ≡ sheet′)
 never-by-the-cutting h k = (in-turn h .x-is ∙ sym (in-turn k .x-is), in-turn h .sheet-is ∙ sym (in-turn k .sheet-is))
 
--- "After each piece we are told the octets taken so far (the count stops at 32,769 ..)"
+-- S 13.3: the octets taken so far, up to 32,769
 pub told-so-far : {first : List ℕ} {lent : ℕ} {s : List ℕ} {x : State} {sheet piece after : List ℕ} {r : Fed} → Handed first lent s x sheet → Piece x piece sheet lent after r
     → (r .number ≡ 0) × (r .octets ≡ min (length (s ++ piece)) 32769)
 unfolding stateAfter
 told-so-far {first} {lent} {s} h p = let e = p .goes-on first s (in-turn h) .0 in (ap (λ (f : Fed). f .number) e, ap (λ (f : Fed). f .octets) e)
 
--- ".. and the sheet already begins with them, as far as its room and 16,384 go"
+-- S 13.3: they stand at the front of the sheet, as many as it has room for, and 16,384 at most
 pub begins-with : {first : List ℕ} {lent : ℕ} {s : List ℕ} {x : State} {sheet : List ℕ} → Handed first lent s x sheet → sheet ≡ sheetAfter first s
 begins-with h = in-turn h .sheet-is
 
--- "Whatever the cutting, the end then gives the answer of reading the whole in form 1 and, where accepted, the same sheet and table";
--- "A refused end restores nothing"
+-- S 13.4: the end answers as reading all of it in form 1 does, and accepted leaves its sheet and table; refused, it restores nothing
 pub whatever-the-cutting : {first : List ℕ} {lent : ℕ} {s : List ℕ} {x : State} {sheet table table′ : List ℕ} {r : Reading} → Handed first lent s x sheet → End x sheet lent table table′ r
     → outcome r sheet table′ ≡ inSheet (sheetAfter first s) (reading 1 s first table)
 whatever-the-cutting {first} {s = s} {table = table} h e = e .ends first s (in-turn h) ∙ ap (λ (y : List ℕ). inSheet y (reading 1 s first table)) (in-turn h .sheet-is)

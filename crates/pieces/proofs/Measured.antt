@@ -87,7 +87,7 @@ module _ (s : List ℕ) (h : length s ≤ maxSource) where
   pub capped-measures : Measures (decode₁ s) (extent (run capped start s))
   capped-measures = subst (Measures (decode₁ s)) (sym (capped-extent s h)) (run-measures s)
 
-  -- and tells Ask 7's p
+  -- and tells the place of S 7.3
   pub capped-fails : (p : ℕ) → extent (run capped start s) ≡ Refused p → p ≡ place s
   unfolding extent place
   capped-fails p e =

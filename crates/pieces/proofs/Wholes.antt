@@ -159,7 +159,7 @@ ended x sheet lent table table′ r e =
           ∙ ap (λ (y : List ℕ). inSheet y (reading 1 s first table)) (sym (t .sheet-is));
     }
 
--- 02, "where accepted, the same sheet": what reading the whole leaves is what the pieces left
+-- S 13.4, accepted: what reading the whole leaves is what the pieces left
 module _ (first s table : List ℕ) (a : reading 1 s first table .accepted ≡ true) where
   short : length s ≤ maxSource
   short = by-le (length s) maxSource (λ h. h) (λ h. differ a (ap (λ (o : Outcome). o .accepted) (read-long s first table h)))

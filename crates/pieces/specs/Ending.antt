@@ -1,4 +1,4 @@
--- The end of a text that came in pieces (02, Ask 1).
+-- The end of a text that came in pieces (S 13.4).
 use Prim.Native.Nat.{ℕ, _≤_}
 use mathlib.Core.Path.{_≡_}
 use mathlib.Core.Bool.{false}
@@ -21,16 +21,16 @@ use Rattle.pieces.specs.declared.state.State.{State}
 
 -- ---- what is promised
 
--- 02, "A refused end restores nothing": an answer, with the sheet as the pieces left it
+-- S 13.4, a refused end restores nothing: an answer, with the sheet as the pieces left it
 abbrev pub inSheet : List ℕ → Outcome → Outcome
 inSheet sheet o = record { accepted = o .accepted; number = o .number; place = o .place; octets = o .octets; count = o .count; canonical = sheet; table = o .table }
 
 -- the end, in a state, with a sheet and a table; with the table afterwards, and the answer
 pub record End (x : State) (sheet : List ℕ) (lent : ℕ) (table table′ : List ℕ) (r : Reading) : Type 0 where
-  -- whatever the state is: "gets 7, with counts 0, before all else, and nothing changes"
+  -- S 13.2, whatever the state is: another size gets 7, with counts 0, and nothing changes
   pub resized : sameSizes x (length sheet) lent ≡ false → outcome r sheet table′ ≡ unchanged NotOwn sheet table
-  -- "Whatever the cutting, the end then gives the answer of reading the whole in form 1 and, where accepted, the same sheet and
-  -- table": s is the whole, and the sheet first held `first`. That an accepted reading leaves this sheet: `accepted-sheet`
+  -- S 13.4, the answer of reading the whole in form 1: s is the whole, and the sheet first held `first`. That an accepted reading leaves
+  -- this sheet: `accepted-sheet`
   pub ends : (first s : List ℕ) → InTurn first lent s x sheet → outcome r sheet table′ ≡ inSheet sheet (reading 1 s first table)
 
 -- ---- what the code does, whatever the state is
@@ -40,7 +40,7 @@ unfoldable pub pastRow : Extent → ℕ → ℕ → ℕ
 pastRow (Whole len count deep) room n = pick (ltb 0 (roomVerdict deep count len room n)) (roomVerdict deep count len room n) Size
 pastRow (Refused p) room n = Syntax
 
--- 02, Ask 7, "Ask 1's end reports p too"
+-- S 13.4: with 3, the place of S 7.3
 unfoldable pub pastPlace : Extent → ℕ
 pastPlace (Whole len count deep) = 0
 pastPlace (Refused p) = p

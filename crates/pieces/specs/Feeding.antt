@@ -1,4 +1,4 @@
--- Text in pieces (02, Ask 1): what state and sheet are after the octets fed so far, and what a piece does.
+-- Text in pieces (S 13): what state and sheet are after the octets fed so far, and what a piece does.
 use Prim.Native.Nat.{ℕ, _+_, _-_, min}
 use mathlib.Core.Path.{_≡_}
 use mathlib.Core.Bool.{Bool, false}
@@ -17,11 +17,11 @@ use Rattle.pieces.specs.declared.track.Track.{Track}
 
 -- ---- what is promised
 
--- 02, "as far as its room and 16,384 go"
+-- S 13.3: as many octets as the sheet has room for, and 16,384 at most
 abbrev pub space : ℕ → ℕ
 space room = min room maxCanonical
 
--- 02, "the sheet already begins with them"
+-- S 13.3: the octets with which the sheet begins
 unfoldable pub kept : List ℕ → List ℕ → List ℕ
 kept first s = take (space (length first)) s
 
@@ -32,33 +32,33 @@ sheetAfter first s = kept first s ++ drop (length (kept first s)) first
 unfoldable pub trackAfter : ℕ → List ℕ → Track
 trackAfter room s = pick (leb (length s) (space room)) (coded start) (coded (run capped start (take cap s)))
 
--- 02, "fixed by the octets fed and the buffers' first contents, never by the cutting": of the buffers, by their sizes.
--- "the count stops at 32,769": octets past it are not looked at
+-- S 13.5: by the octets fed, and of the buffers by their sizes.
+-- S 13.3: the count goes up to 32,769, and octets past it are not looked at
 unfoldable pub stateAfter : ℕ → ℕ → List ℕ → State
 stateAfter room lent s = record { track = trackAfter room s; fed = min (length s) cap; room = room; lent = lent }
 
--- 02, "the starting state and .. those handed back from it in turn", with the sheet "left alone between":
+-- S 13.6, the start's state and those given from it in turn, the sheet left alone between:
 -- the octets s were fed, and the sheet first held `first`
 pub record InTurn (first : List ℕ) (lent : ℕ) (s : List ℕ) (x : State) (sheet : List ℕ) : Type 0 where
   pub x-is : x ≡ stateAfter (length first) lent s
   pub sheet-is : sheet ≡ sheetAfter first s
 
--- 02, "lent one of another size than the first time": the sheet's octets, and the table's numbers or records
+-- S 13.2, sizes as at the start: the sheet's octets, and the table's numbers or records
 unfoldable pub sameSizes : State → ℕ → ℕ → Bool
 sameSizes x room lent = both (eqb room (x .room)) (eqb lent (x .lent))
 
--- 02, "gets 7, with counts 0"
+-- S 13.2: 7, and a count of 0
 abbrev pub sentBack : State → Fed
 sentBack x = record { state = x; number = NotOwn; octets = 0 }
 
--- 02, "After each piece we are told the octets taken so far"
+-- S 13.3: the octets taken so far
 abbrev pub taken : State → Fed
 taken x = record { state = x; number = Accepted; octets = x .fed }
 
--- a piece, fed in a state, into a sheet; with the sheet afterwards, and the answer. What 02 leaves open is left open: "with any
--- other state, or buffers changed between, a call still ends, keeps inside what is lent and makes the size check"
+-- a piece, fed in a state, into a sheet; with the sheet afterwards, and the answer. With other states, or a sheet changed between, only the
+-- sizes are compared, and the rest is left open (S 13.6)
 pub record Piece (x : State) (piece sheet : List ℕ) (lent : ℕ) (after : List ℕ) (r : Fed) : Type 0 where
-  -- whatever the state is: "before all else, and nothing changes, the state included"
+  -- S 13.2, whatever the state is: nothing changes, the state included
   pub resized : sameSizes x (length sheet) lent ≡ false → (r ≡ sentBack x) × (after ≡ sheet)
   pub goes-on : (first s : List ℕ) → InTurn first lent s x sheet → (r ≡ taken (stateAfter (length first) lent (s ++ piece))) × (after ≡ sheetAfter first (s ++ piece))
 

@@ -18,7 +18,7 @@ pub struct State {
     pub lent: usize,
 }
 
-// The state after a piece, 01's number, and the octets taken so far.
+// The state after a piece, the number (S 13.2), and the octets taken so far.
 pub struct Fed {
     pub state: State,
     pub number: u32,

@@ -1,5 +1,5 @@
--- What is asked of a sheet, and what it answers: a node gives way to a text's tree (01, "correcting"), a text's tree comes into a list,
--- or a node is removed (02, Ask 5). One list of checks and one new tree for all three.
+-- What is asked of a sheet, and what it answers: a node gives way to a text's tree (S 8.3), a text's tree comes into a list (S 8.7), or a
+-- node is removed (S 8.8). One list of checks and one new tree for all three.
 use Prim.Native.Nat.{ℕ}
 use mathlib.Core.Bool.{Bool, true, false, not}
 use mathlib.Core.Option.{Option}
@@ -27,7 +27,7 @@ given (Replace node) u = one u
 given (Insert node k) u = one u
 given (Remove node) u = nil
 
--- 02, "a removal has no text to judge"
+-- S 8.8: a removal has no text
 unfoldable pub texted : Asked → Bool
 texted (Replace node) = true
 texted (Insert node k) = true
@@ -39,7 +39,7 @@ nodeOf (Replace node) = node
 nodeOf (Insert node k) = node
 nodeOf (Remove node) = node
 
--- row 9: 02, "node isn't a list, k is too large, or node 0 is to be removed"
+-- row 9: the node is not a list or has too few elements, or node 0 is to be removed
 unfoldable pub placeless : Asked → Tree → Bool
 placeless (Replace node) t = false
 placeless (Insert node k) t = not (hasPlace (nodeAt t node) k)

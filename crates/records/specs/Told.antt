@@ -36,13 +36,13 @@ recordOf r up =
 abbrev pub parentAt : List ℕ → ℕ → ℕ
 parentAt notes i = parentPart (getD notes i 0)
 
--- how many nodes an answer gives. 01, "Counts are 0 in a refusal"
+-- how many nodes an answer gives; S 7.2: 0 in a refusal
 unfoldable pub countOf : Reading → ℕ
 countOf (reading.Accepted len count) = count
 countOf (reading.Refused f) = 0
 
--- how many records an answer may change, where `old` were in use. 01, "it sets octets between the new and a larger old length to 0, and
--- records likewise; past both, nothing changes", and in a refusal "all lent space is unchanged"
+-- how many records an answer may change, where `old` were in use. S 8.3: past the new and a larger old count nothing changes; S 7.2: in a
+-- refusal nothing does
 unfoldable pub touched : Reading → ℕ → ℕ
 touched (reading.Accepted len count) old = max old count
 touched (reading.Refused f) old = 0

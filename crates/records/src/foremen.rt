@@ -8,7 +8,7 @@ use crate::holds;
 use crate::tell;
 use answers::Reading;
 
-// The extract of a sheet, into the foreman's sheet and records.
+// The extract of a sheet, into a sheet and records of its own (S 11.2).
 pub fn extract(sheet: &[u8], length: usize, canonical: &mut [u8], records: &mut [Record]) -> Reading
     ensures { λ r. ⌜ outcome r (now (canonical .exit)) (numbers (now (records .exit))) ≡ extracting (now (sheet .entry)) length (now (canonical .entry)) (numbers (now (records .entry))) ⌝ }
 {

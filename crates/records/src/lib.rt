@@ -26,7 +26,7 @@ pub use foremen::extract;
 pub use foremen::extract_own;
 pub use piecing::pieces_end;
 
-// A node's record: its eight numbers, in document 01's order, and the number of the list directly around it, 0 for node 0.
+// A node's record: its nine numbers, in the order of S 4.1.
 #[repr(C)]
 pub struct Record {
     pub kind: u32,

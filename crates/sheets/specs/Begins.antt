@@ -1,4 +1,4 @@
--- How far octets begin what is not there, for the place that is told of a text (02, Ask 7).
+-- How far octets begin what is not there, for the place that is told of a text (S 7.3).
 use Prim.Native.Nat.{ℕ, _+_}
 use mathlib.Core.Path.{_≡_}
 use mathlib.Core.List.{List}

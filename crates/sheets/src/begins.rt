@@ -1,4 +1,4 @@
-// How far octets begin a string that is not there: only a text that is refused is asked for it (02, Ask 7).
+// How far octets begin a string that is not there: only a text that is refused is asked for it (S 7.3).
 ghost use mathlib.Core.Path.{_≡_};
 ghost use Prim.Native.Nat.{_≤_};
 ghost use lib.ListN.{length};

@@ -1,4 +1,4 @@
--- The spellings of octets in form 3, and what is found of them on the way.
+-- The spellings of octets in form 3 (S 5.2), and what is found of them on the way.
 use Prim.Native.Nat.{ℕ, _-_, _/_, _%_, _≤_, _<_}
 use mathlib.Core.Path.{_≡_}
 use mathlib.Core.Bool.{true, false}

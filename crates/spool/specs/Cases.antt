@@ -1,4 +1,4 @@
--- Whether each case of an answer is an acceptance, and the papers' number and values for it.
+-- Whether each case of an answer is an acceptance, and its number and values (S 14.2).
 use Prim.Native.Nat.{ℕ}
 use mathlib.Core.Path.{_≡_}
 use mathlib.Core.Bool.{true, false}

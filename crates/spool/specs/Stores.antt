@@ -1,4 +1,4 @@
--- The stores of an addition, by number.
+-- The stores of an addition (S 9.4), by number.
 use Prim.Native.Nat.{ℕ, _+_, _<_}
 use mathlib.Core.Path.{_≡_}
 use mathlib.Core.Bool.{Bool, true, false}

@@ -100,7 +100,7 @@ hours-bits n h =
     toBits-ofBits binary64 (quarterBits n) (let s : quarterBits n < 1074 * 2 ^ 52 = w .small in omega arith)
     (subst (λ (t : Bool). T (not t)) (nanBits-is binary64 (quarterBits n)) (small-finite (quarterBits n) (w .small)))
 
--- 02, "the double that is exactly a quarter of that count (plus zero for 0)"
+-- S 10.3: the double is exactly a quarter of the count, plus zero for 0
 pub quarter-exact : (n : ℕ) → n < 2 ^ 53 → Exactly n (hoursOf n)
 quarter-exact n h =
     let w : Bits n (quarterBits n) = quarter-bits n h in

@@ -1,4 +1,4 @@
--- Worked examples, computed from the definitions: 02's own and each kind's edges.
+-- Worked examples, computed from the definitions: that of S 16.6, and each kind's edges.
 use Prim.Native.Nat.{ℕ, _^_, _-_}
 use mathlib.Core.Path.{_≡_, refl}
 use mathlib.Core.Bool.{true, false}

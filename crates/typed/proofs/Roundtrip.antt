@@ -150,7 +150,7 @@ raw-back : (src : List ℕ) (s e : ℕ) (v : Value) → s ≤ e → e ≤ length
 unfolding coding rawOctets
 raw-back src s e v a b h = ap (coding src) (same-is (Raw s e) v h) ∙ picked _ _ (true-both (le-leb s e a) (le-leb e (length src) b))
 
--- 02, "every accepted value writes back to the same data octets, a raw one copied from its place"
+-- S 10.6: an accepted value writes back to the same octets of data, a raw one from its place
 pub written-back : (k : ℕ) (src : List ℕ) (s e : ℕ) (v : Value) → T (octets src) → s ≤ e → e ≤ length src → valueAt k src s e ≡ Is v → coding src v ≡ some (slice s e src)
 unfolding valueAt
 written-back k src s e v t a b h =

@@ -1,4 +1,4 @@
--- What the entries answer: for all inputs, refused ones too (02, Ask 8).
+-- What the entries answer: for all inputs, refused ones too (S 10.2 to 10.5).
 use Prim.Native.Nat.{ℕ}
 use mathlib.Core.Bool.{Bool, true, false}
 use mathlib.Core.Option.{Option, none, some}
@@ -31,7 +31,7 @@ nodeChecks canonical len table count node rest =
 abbrev pub treeOf : List ℕ → ℕ → List ℕ → ℕ → Tree
 treeOf canonical len table count = the (ownTree canonical len table count)
 
--- ---- a node's value; 02, "refuse with 11, after 7 and 8"
+-- ---- a node's value; S 10.2: 7, 8, 11
 
 abbrev pub valueIn : Typing → Option Value
 valueIn (Is v) = some v
@@ -46,7 +46,7 @@ valuing canonical len table count node =
     (record { accepted = true; number = Accepted; place = 0; value = nodeValue canonical len table count node })
     (λ n. unvalued n)
 
--- ---- a line's total, and a node's line; 02, "Whatever is wrong with a line gives 12, after 7 and 8"
+-- ---- a line's total (S 10.5), and a node's line; S 10.3: 7, 8, 12
 
 unfoldable pub totalling : Line → Totalled
 totalling h =
@@ -69,7 +69,7 @@ lining canonical len table count node =
     })
     (λ n. unlined n)
 
--- ---- a list of lines (ours): 12 with the first element that is no line
+-- ---- a list of lines; S 10.4: 7, 8, 12, and with 12 the first element that is no line
 
 unfoldable pub nodeSum : List ℕ → ℕ → List ℕ → ℕ → ℕ → Sum
 nodeSum canonical len table count node = sumAt canonical (treeOf canonical len table count) node

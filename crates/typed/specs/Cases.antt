@@ -1,4 +1,4 @@
--- Whether each case of an answer is an acceptance, and its number and values; the place is 0, since no entry here takes a text.
+-- Whether each case of an answer is an acceptance, and its number and values (S 14.2); the place is 0, since no entry here takes a text.
 use Prim.Native.Nat.{ℕ}
 use mathlib.Core.Bool.{Bool, true, false}
 use mathlib.Core.Option.{Option, none, some}

@@ -1,4 +1,4 @@
--- The octets of a value, and what writing them answers (02, Ask 8).
+-- The octets of a value, and what writing them answers (S 10.2).
 use Prim.Native.Nat.{ℕ, zero, suc, _/_}
 use mathlib.Core.Bool.{Bool, true, false}
 use mathlib.Core.Option.{Option, none, some}
@@ -16,11 +16,11 @@ use Rattle.typed.specs.Typed.{finite}
 use Rattle.typed.specs.declared.Value.{Value}
 use Rattle.typed.specs.declared.Value.the-variants.{Single, Double, Whole, Raw}
 
--- 02, "A list, a wrong length, an `int` not shortest, NaN and infinity refuse with 11"
+-- S 10.2: no value
 abbrev pub NotTyped : ℕ
 NotTyped = 11
 
--- 02, "Whatever is wrong with a line gives 12"
+-- S 10.3: no line
 abbrev pub NotLine : ℕ
 NotLine = 12
 
@@ -32,7 +32,7 @@ moreUpTo (suc f) m = pick (ltb m 128) 0 (suc (moreUpTo f (m / 256)))
 unfoldable pub more : ℕ → ℕ
 more m = moreUpTo 7 m
 
--- 02, "zero being no octets"; a negative number is one less than minus m: the digits of m, turned over
+-- S 10.1: zero has no octets; a negative number is one less than minus m: the digits of m, turned over
 unfoldable pub wholeOctets : ℤ → List ℕ
 wholeOctets (pos zero) = []
 wholeOctets (pos (suc n)) = map (turned false) (octs (suc (more (suc n))) (suc n) [])
@@ -41,7 +41,7 @@ wholeOctets (negsuc m) = map (turned true) (octs (suc (more m)) m [])
 unfoldable pub floatOctets : Format → ℕ → Float → Option (List ℕ)
 floatOctets f k x = pick (finite f (toBits f x)) (some (octs k (toBits f x) [])) none
 
--- 02, "a raw one copied from its place in the octets lent"; a part of them starts and ends within them
+-- S 10.2: a raw one is copied from its place, a part of what is lent; it starts and ends within it
 unfoldable pub rawOctets : List ℕ → ℕ → ℕ → Option (List ℕ)
 rawOctets src s e = pick (both (leb s e) (leb e (length src))) (some (slice s e src)) none
 
@@ -63,7 +63,7 @@ unfoldable pub theOctets : Option (List ℕ) → List ℕ
 theOctets none = []
 theOctets (some o) = o
 
--- 02, "with 7 exactly if that place isn't a part of them; writing NaN or infinity gives 11, before 6"
+-- S 10.2: 7, 11, 6
 unfoldable pub puttingChecks : Value → List ℕ → List ℕ → List Check
 puttingChecks v src out =
     when NotOwn (both (isRaw v) (isNone (coding src v)))
@@ -71,7 +71,7 @@ puttingChecks v src out =
     ∷ when Size (ltb (length out) (length (theOctets (coding src v))))
     ∷ []
 
--- 01, "An accepted writing gives its length; output past it stays"
+-- S 10.2: the octets of the value, and their number; output past them stays, as in S 8.2
 unfoldable pub putting : Value → List ℕ → List ℕ → Output
 putting v src out =
     judged (puttingChecks v src out)

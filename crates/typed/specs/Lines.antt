@@ -1,4 +1,4 @@
--- A node's value, a shift line and a list of lines, by the rows of a sheet's tree (02, Ask 8).
+-- A node's value, a line and a list of lines, by the rows of a sheet's tree (S 10.2 to 10.4).
 use Prim.Native.Nat.{ℕ, zero, suc, _+_}
 use mathlib.Core.Option.{Option, none, some}
 use mathlib.Core.List.{List, [], _∷_}
@@ -22,7 +22,7 @@ use Rattle.typed.specs.declared.Count.the-variants.{Quarters, NoCount}
 unfoldable pub rowKind : List ℕ → Row → ℕ
 rowKind c r = pick (eqb (r .kind) 1) (kindOf (slice (r .hintStart) (r .hintEnd) c)) 0
 
--- 02, "A typed value is a single, a double, a whole number or raw. A list .. refuse[s]"
+-- S 10.2: a list has no value, and a string that of its hint
 unfoldable pub typedRow : List ℕ → Row → Typing
 typedRow c r = pick (eqb (r .kind) 2) Untyped (valueAt (rowKind c r) c (r .dataStart) (r .dataEnd))
 
@@ -46,8 +46,8 @@ three none q r = none
 abbrev pub rowAmount : List ℕ → Tree → ℕ → Option Float
 rowAmount c t k = amountIn (typedRow c (rowOf t k))
 
--- 02, "a shift line is a list of exactly three `f64` strings": a list of four nodes, itself counted, of which the next three are such
--- strings, so that they are its elements
+-- S 10.3, a list of exactly three `f64` strings: a list of four nodes, itself counted, of which the next three are such strings, so that
+-- they are its elements
 unfoldable pub hoursAt : List ℕ → Tree → ℕ → Option Line
 hoursAt c t k =
     pick (both (eqb (rowOf t k .kind) 2) (eqb (rowOf t k .count) 4))
@@ -67,11 +67,11 @@ abbrev pub keptIf : Option Line → Count → Option Line
 keptIf o (Quarters n) = o
 keptIf o NoCount = none
 
--- 02, "Each is 0 to 24 in whole quarters": a line is kept where there is a count
+-- S 10.3, in whole quarters: a line is kept where there is a count
 unfoldable pub lineAt : List ℕ → Tree → ℕ → Option Line
 lineAt c t k = keptIf (hoursAt c t k) (lineCount c t k)
 
--- ---- a list of lines
+-- ---- a list of lines (S 10.4)
 
 -- the node numbers of a list's elements from `at` on, up to `stop`; each counts its own nodes; f bounds them
 unfoldable pub elementsUpTo : Tree → ℕ → ℕ → ℕ → List ℕ

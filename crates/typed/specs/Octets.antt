@@ -1,4 +1,4 @@
--- Numbers as octets, the highest first (02, Ask 8: "big-endian").
+-- Numbers as octets, the highest first (S 10.1).
 use Prim.Native.Nat.{ℕ, zero, suc, _+_, _-_, _*_, _/_, _%_, _^_}
 use mathlib.Core.Bool.{Bool, true, false, not, _&&_}
 use mathlib.Core.List.{List, [], _∷_}
@@ -28,12 +28,12 @@ unfoldable pub octets : List ℕ → Bool
 octets [] = true
 octets (b ∷ l) = ltb b 256 && octets l
 
--- two's complement: where the highest bit is set, 256 ^ n less. 02, "zero being no octets"
+-- S 10.1, two's complement: where the highest bit is set, 256 ^ n less; zero is no octets
 unfoldable pub signed : List ℕ → ℤ
 signed [] = pos 0
 signed (b ∷ l) = pick (ltb b 128) (pos (be 0 (b ∷ l))) (minus (be 0 (b ∷ l)) (256 ^ length (b ∷ l)))
 
--- 02, "the shortest": no octet at the front only repeats the sign of the next, and none is a lone zero
+-- S 10.1, the shortest: no octet at the front only repeats the sign of the next, and none is a lone zero
 unfoldable pub shortest : List ℕ → Bool
 shortest [] = true
 shortest (b ∷ []) = not (eqb b 0)

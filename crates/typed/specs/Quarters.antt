@@ -1,4 +1,4 @@
--- Hours in whole quarters, from the bits of a double, over whole numbers (02, Ask 8).
+-- Hours in whole quarters, from the bits of a double, over whole numbers (S 10.7).
 use Prim.Native.Nat.{ℕ, zero, suc, _+_, _-_, _*_, _/_, _%_, _^_}
 use mathlib.Core.Bool.{Bool, _&&_}
 use mathlib.Core.Option.{Option, none, some}
@@ -15,7 +15,7 @@ use Rattle.typed.specs.declared.Total.{Total}
 unfoldable pub units : ℕ → ℕ
 units b = pick (eqb (b / 2 ^ 52 % 2 ^ 11) 0) (b % 2 ^ 52) ((2 ^ 52 + b % 2 ^ 52) * 2 ^ (b / 2 ^ 52 % 2 ^ 11 - 1))
 
--- 02, "Each is 0 to 24 in whole quarters, minus zero refused": the sign is clear, and the magnitude is at most 96 times 2 ^ -2
+-- S 10.3, 0 to 24 in whole quarters: the sign is clear, and the magnitude is at most 96 times 2 ^ -2
 unfoldable pub countOf : ℕ → Count
 countOf b = pick (ltb b (2 ^ 63) && eqb (units b % 2 ^ 1072) 0 && leb (units b / 2 ^ 1072) 96) (Quarters (units b / 2 ^ 1072)) NoCount
 
@@ -28,7 +28,7 @@ plus (Quarters a) (Quarters b) NoCount = NoCount
 plus (Quarters a) NoCount c = NoCount
 plus NoCount b c = NoCount
 
--- 02, "the exact count of quarters" of a line: none where it is no line
+-- S 10.3, the count of a line's quarters: none where it is no line
 unfoldable pub quartersOf : Line → Count
 quartersOf h = plus (counted (h .ordinary)) (counted (h .night)) (counted (h .holiday))
 
@@ -46,7 +46,7 @@ unfoldable pub quarterBits : ℕ → ℕ
 quarterBits zero = 0
 quarterBits (suc n) = bitsBy (suc n) (doublings 52 (suc n))
 
--- 02, "the double that is exactly a quarter of that count (plus zero for 0)"; that it is exactly that: `quarter-exact` (proofs/Exact)
+-- S 10.3, the double that is a quarter of the count; that it is exactly that: `quarter-exact` (proofs/Exact)
 unfoldable pub hoursOf : ℕ → Float
 hoursOf n = ofBits binary64 (quarterBits n)
 
@@ -57,6 +57,6 @@ abbrev pub totalFor : Count → Option Total
 totalFor (Quarters n) = some (totalBy n)
 totalFor NoCount = none
 
--- 02, "Its total"
+-- S 10.5: a line's total
 unfoldable pub totalOf : Line → Option Total
 totalOf h = totalFor (quartersOf h)

@@ -1,4 +1,4 @@
--- What the octets of a string stand for, by its hint (02, Ask 8).
+-- What the octets of a string stand for, by its hint (S 10.1).
 use Prim.Native.Nat.{ℕ, _*_, _%_}
 use mathlib.Core.Bool.{Bool, _&&_}
 use mathlib.Core.List.{List, [], _∷_}
@@ -17,22 +17,22 @@ use Rattle.typed.specs.declared.Typing.the-variants.{Is, Untyped}
 unfoldable pub finite : Format → ℕ → Bool
 finite f b = ltb (b % top f) (ones f * hid f)
 
--- a float of the format f, in k octets; 02, "a wrong length, .. NaN and infinity refuse"
+-- a float of the format f, in k octets; S 10.2: neither of a wrong length nor NaN nor an infinity
 unfoldable pub floatOf : Format → ℕ → (Float → Value) → List ℕ → Typing
 floatOf f k made o = pick (eqb (length o) k && finite f (be 0 o)) (Is (made (ofBits f (be 0 o)))) Untyped
 
--- 02, "`f32` is four octets and `f64` eight, IEEE 754 big-endian"
+-- S 10.1: `f32` has four octets and `f64` eight, big-endian
 abbrev pub singleOf : List ℕ → Typing
 singleOf = floatOf binary32 4 Single
 
 abbrev pub doubleOf : List ℕ → Typing
 doubleOf = floatOf binary64 8 Double
 
--- 02, "`int` is the shortest big-endian two's complement of at most eight octets"
+-- S 10.1: `int` is the shortest two's complement, of at most eight octets
 unfoldable pub wholeOf : List ℕ → Typing
 wholeOf o = pick (leb (length o) 8 && shortest o) (Is (Whole (signed o))) Untyped
 
--- the kind that a hint tells, as exact octets: 1 `f32`, 2 `f64`, 3 `int`; 02, "Any other hint, or none, is raw": 0
+-- S 10.1, the kind that a hint tells, as exact octets: 1 `f32`, 2 `f64`, 3 `int`; any other hint, or none, is raw: 0
 unfoldable pub kindOf : List ℕ → ℕ
 kindOf h =
     pick (equal h (102 ∷ 51 ∷ 50 ∷ [])) 1

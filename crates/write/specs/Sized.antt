@@ -1,4 +1,4 @@
--- Row 6 of what is written out.
+-- Row 6 of what is written out (S 8.2).
 use Prim.Native.Nat.{ℕ, _+_, _*_, _≤_}
 use mathlib.Core.Path.{_≡_}
 use mathlib.Core.Option.{some}

@@ -1,4 +1,4 @@
--- Form 3 lexeme by lexeme (01, "elements with one space between and none inside the parentheses' edges").
+-- Form 3 lexeme by lexeme (S 5.2): one space between elements, none inside a parenthesis's edge.
 use Prim.Native.Nat.{ℕ}
 use mathlib.Core.Bool.{Bool, true, false}
 use mathlib.Core.List.{List, [], _∷_, _++_}

@@ -38,7 +38,7 @@ impl<T: Copy + From<u8>> Lent<T> {
     }
 }
 
-/// A lent canonical form and the length said of it. Document 01 calls it a
+/// A lent canonical form and the length said of it. S 1.1: a
 /// sheet.
 #[derive(Clone, Debug, PartialEq, Eq)]
 pub struct Canonical {

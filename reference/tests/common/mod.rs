@@ -11,9 +11,9 @@ pub const OCTET: u8 = 0xa5;
 /// What a lent number holds before an entry runs.
 pub const NUMBER: u32 = 0xdead_beef;
 
-/// The list that document 01 works with.
+/// The list of S 16.1.
 pub const LIST: &[u8] = b"(3:abc[1:x]0:)";
-/// Its records, as document 01 prints them.
+/// Its records, as S 16.1 has them.
 pub const LIST_RECORDS: [[u32; RECORD]; 3] = [
     [2, 0, 14, 3, 0, 0, 1, 13, 0],
     [0, 1, 6, 1, 0, 0, 3, 6, 0],

@@ -1,5 +1,5 @@
-//! What the tests share. Expected values are document 01's, or worked out from
-//! it by hand.
+//! What the tests share. Expected values are those of docs/SPECIFICATION.md,
+//! which "S 16.1" cites, or worked out from it by hand.
 #![allow(dead_code)] // Each test file uses a part of it.
 
 #[cfg(target_os = "linux")]
@@ -12,9 +12,9 @@ pub const OCTET: u8 = 0xa5;
 /// What a lent number holds before an entry runs.
 pub const NUMBER: u32 = 0xdead_beef;
 
-/// The list that document 01 works with.
+/// The list of S 16.1.
 pub const LIST: &[u8] = b"(3:abc[1:x]0:)";
-/// Its table, as documents 01 and 02 print it.
+/// Its table, as S 16.1 has it.
 pub const LIST_TABLE: [u32; 27] = [
     2, 0, 14, 3, 0, 0, 1, 13, 0, //
     0, 1, 6, 1, 0, 0, 3, 6, 0, //
@@ -71,7 +71,7 @@ impl Sheet {
         self
     }
 
-    /// Document 01's list with room to spare.
+    /// The list of S 16.1 with room to spare.
     pub fn list() -> Sheet {
         Sheet::exact(LIST, &LIST_TABLE).spare(40, 43)
     }

@@ -1,9 +1,9 @@
-//! The S-expressions that stand in documents 000, 001 and 002, in the form
-//! each of them is meant to be in.
+//! The S-expressions that stand in RFC 9804, in Rivest's draft of 1997 and in
+//! Petit-Huguenin's formal model of 2024, in the form each is meant to be in.
 
 use super::{Known, BAD};
 
-/// The texts, in the order of the RFC (002), then what only 001 and 000 have.
+/// The texts, in the order of the RFC, then what only the other two have.
 pub const TEXTS: &[Known] = &[
     // 1, 2
     (
@@ -142,11 +142,11 @@ pub const TEXTS: &[Known] = &[
     (3, b"(\"abc\" \"de\")", Ok(b"(3:abc2:de)")),
     (3, b"[gif] #61626364#", Ok(b"[3:gif]4:abcd")),
     (3, b"(abc [d]ef (g))", Ok(b"(3:abc[1:d]2:ef(1:g))")),
-    // Only in 001 and 000. Braces are of the basic form alone.
+    // Only in the other two. Braces are of the basic form alone.
     (3, b"{MzphYmM=}", BAD),
     (2, b"{MzphYmM=}", Ok(b"3:abc")),
     (1, b"4:::::", Ok(b"4:::::")),
-    // The page's tab after the continued line makes this one bad; 000 has it
+    // The page's tab after the continued line makes this one bad; the model has it
     // without, and a page that indents by spaces is taken with them.
     (3, b"\"This has\\\n\tone.\"", BAD),
     (3, b"\"This has\\\none.\"", Ok(b"12:This hasone.")),

@@ -1,9 +1,9 @@
-//! The short texts of document 01, "Sheets to try" and the rules before it.
+//! The short texts of S 16, and of the rules of S 3.
 //! Those of exact sizes are in `fixed::sizes`.
 
 use super::{Known, BAD};
 
-/// The list that document 01 returns to again and again.
+/// The list of S 16.1.
 pub const LIST: &[u8] = b"(3:abc[1:x]0:)";
 
 /// The texts.

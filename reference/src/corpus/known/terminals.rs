@@ -1,12 +1,12 @@
-//! Texts of form 4, each answer worked out by hand from request 13 and from
-//! source document 001.
+//! Texts of form 4, each answer worked out by hand from S 3.3 and from
+//! Rivest's draft of 1997.
 
 use super::{Known, BAD};
 use crate::limits::BAD_FORM;
 
 /// Braces wherever a value may stand, and nowhere else.
 pub const TEXTS: &[Known] = &[
-    // The request's own, 001's, and one of RFC 9804.
+    // That of S 16.7, which the draft has too, and one of RFC 9804.
     (4, b"{MzphYmM=}", Ok(b"3:abc")),
     (4, b"{KDE6YTE6YjE\n6Yyk= }", Ok(b"(1:a1:b1:c)")),
     // It decodes with an octet 0 after the tree.
