@@ -1,12 +1,7 @@
 // The library's entries: nothing else is a user's business. Each answers and ends whatever it is given, and each promise is an
-// equation with one definition, of crate model or, of what requests brought, of spools, typed, extracts, batch or pieces: it
-// settles the answer and every lent octet and number afterwards.
-mod batching; // batching.rt: sheets written back to back
-mod corrections; // corrections.rt: elements put into lists, and nodes removed
-mod foremen; // foremen.rt: extracts
+// equation with one definition: it settles the answer and every lent octet and number afterwards. Entries that requests brought
+// stand with their promises in the crates that they are passed on from.
 mod piecing; // piecing.rt: texts in pieces
-mod spooling; // spooling.rt: a spool of sheets
-mod typing; // typing.rt: values with a type, and hours
 
 ghost use mathlib.Core.Path.{_≡_};
 ghost use Rattle.model.specs.Answers.{reading, replacing, writing, comparing, hintPart, dataPart, hintShown, dataShown};
@@ -16,25 +11,23 @@ use answers::Comparing;
 use answers::Place;
 use answers::Reading;
 use answers::Writing;
-pub use batching::split;
-pub use corrections::insert;
-pub use corrections::remove;
-pub use foremen::extract;
-pub use foremen::extract_own;
+pub use batch::split;
+pub use editor::insert;
+pub use editor::remove;
+pub use extract::extract;
+pub use extract::extract_own;
+pub use hours::total;
 pub use piecing::pieces_end;
 pub use piecing::pieces_feed;
 pub use piecing::pieces_start;
-pub use spooling::spool_add;
-pub use spooling::spool_add_commits;
-pub use spooling::spool_add_start;
-pub use spooling::spool_add_step;
-pub use spooling::spool_open;
-pub use spooling::spool_shown;
-pub use typing::line;
-pub use typing::put_value;
-pub use typing::total;
-pub use typing::value;
-pub use typing::week;
+pub use shifts::line;
+pub use shifts::value;
+pub use shifts::week;
+pub use spool::add as spool_add;
+pub use spool::open as spool_open;
+pub use spool::shown as spool_shown;
+pub use spool::start as spool_add_start;
+pub use values::put_value;
 
 // S 8.1: a text of the form named (1 canonical, 2 basic, 3 advanced, 4 advanced with trees in braces) into canonical octets and the node
 // table, nine numbers to a node. In a refusal both lent buffers hold what they held; in an acceptance what lies past the octets and the

@@ -103,7 +103,7 @@ pub extern "C" fn etg_spool_add_step(state: &mut [usize; 4], area: &mut [u8], sh
     ensures { λ r. ⌜ stepped r (now (state .exit)) (now (area .exit)) ≡ steppedOf (stepping (stateIn (now (state .entry))) (now (area .entry)) (now (sheet .entry))) ⌝ }
 {
     let before = state_in(state);
-    let after = etglavino::spool_add_step(before, area, sheet);
+    let after = before.step(area, sheet);
     hand_state(after, state);
     yes(after.done)
 }
@@ -113,7 +113,7 @@ pub extern "C" fn etg_spool_add_commits(state: &[usize; 4], area: &[u8], sheet: 
     ensures { λ r. ⌜ r ≡ flag (committing (stateIn (now (state .entry))) (now (area .entry)) (now (sheet .entry))) ⌝ }
 {
     let adding = state_in(state);
-    yes(etglavino::spool_add_commits(adding, area, sheet))
+    yes(adding.commits(area, sheet))
 }
 
 #[no_mangle]
