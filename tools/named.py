@@ -38,7 +38,16 @@ def declared():
 
 
 def functions():
-    return {name for text in sources(".rt") for name in re.findall(r"\bfn ([a-z0-9_]+)", text)}
+    """Every name of a function, one under which it is passed on too.
+
+    >>> {'read', 'spool_open'} <= functions()
+    True
+    """
+    found = set()
+    for text in sources(".rt"):
+        found.update(re.findall(r"\bfn ([a-z0-9_]+)", text))
+        found.update(re.findall(r"^pub use [\w:]+ as (\w+);", text, re.M))
+    return found
 
 
 def edit(crate, name):

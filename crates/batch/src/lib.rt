@@ -3,8 +3,8 @@ ghost use mathlib.Core.Path.{_≡_};
 ghost use Rattle.batch.specs.Runs.{firstSheet};
 use canonical::Item;
 
-// How many octets of a run are its first sheet, of any size and depth; 0 where none begins. Only these octets are looked at, and of a
-// string's data none.
+// S 12.3: how many octets of a run are its first sheet, of any size and depth; 0 where none begins. Only these octets are looked at,
+// and of a string's data none.
 pub fn split(run: &[u8]) -> usize
     ensures { λ r. ⌜ r ≡ firstSheet (now (run .entry)) ⌝ }
 {

@@ -131,7 +131,7 @@ pub fn replace(
     change(form, text, canonical, table, length, nodes, asked)
 }
 
-// The tree of a text becomes element k of a list.
+// S 8.7: the tree of a text of the form named becomes element k, from 0, of the list that a node is, where k is at most its element count.
 pub fn insert(
     form: u32,
     text: &[u8],
@@ -148,7 +148,7 @@ pub fn insert(
     change(form, text, canonical, table, length, nodes, asked)
 }
 
-// A node is removed, with all that is in it.
+// S 8.8: a node, which is any but node 0, is removed with all that is in it.
 pub fn remove(
     canonical: &mut [u8],
     table: &mut [u32],

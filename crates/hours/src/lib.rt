@@ -91,7 +91,7 @@ pub fn total_by(n: u32) -> Total
     }
 }
 
-// The total of a line that the caller made up.
+// S 10.5: the total of a line that the caller made up.
 pub fn total(line: Line) -> Totalling
     ensures { λ r. ⌜ totalled r ≡ totalling line ⌝ }
 {

@@ -87,7 +87,7 @@ fn put_raw(out: &mut [u8], src: &[u8], start: usize, end: usize) -> Writing
     Writing::Accepted { length: k }
 }
 
-// The octets of a value at the front of `out`, a raw one's from `src`. In a refusal the output holds what it held; in an
+// S 10.2: the octets of a value at the front of `out`, a raw one's from `src`. In a refusal the output holds what it held; in an
 // acceptance what lies past the octets written stays.
 pub fn put_value(value: Value, src: &[u8], out: &mut [u8]) -> Writing
     ensures { λ r. ⌜ output r (now (out .exit)) ≡ putting value (now (src .entry)) (now (out .entry)) ⌝ }
