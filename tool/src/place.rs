@@ -1,22 +1,36 @@
 //! Where a text went wrong, for people.
 
+use etglavino::{Form, Refusal};
+
 /// Octets shown before the place, and from it on.
 const BEFORE: usize = 50;
 const AFTER: usize = 20;
 
-/// A place in words and shown. Where it is the text's length, nothing that is there
-/// is wrong, and more should follow.
+/// Where a refused text went wrong, if that is told: of canonical text, and of
+/// basic text that does not begin with a brace.
+pub fn of(refusal: Refusal, form: Form, text: &[u8]) -> Option<usize> {
+    let bare = form == Form::Basic && text.first() != Some(&b'{');
+    let told = refusal.number() == 3 && (form == Form::Canonical || bare);
+    told.then_some(refusal.place())
+}
+
+/// A place in words and shown.
 pub fn told(source: &[u8], place: usize) -> String {
-    let words = match place == source.len() {
+    format!("{}\n{}", words(source, place), shown(source, place))
+}
+
+/// A place in words. Where it is the text's length, nothing that is there is
+/// wrong, and more should follow.
+pub fn words(source: &[u8], place: usize) -> String {
+    match place == source.len() {
         true => format!("cut short after {place} octets"),
         false => format!("from octet {place} on"),
-    };
-    format!("{words}\n{}", shown(source, place))
+    }
 }
 
 /// The line of a place, or what is near of it, with a caret under the place.
 /// Octets that can't be printed are spelled.
-fn shown(source: &[u8], place: usize) -> String {
+pub fn shown(source: &[u8], place: usize) -> String {
     let (before, after) = source.split_at(place.min(source.len()));
     let start = before.iter().rposition(|octet| *octet == b'\n');
     let near = before.len().saturating_sub(BEFORE);

@@ -44,13 +44,11 @@ impl Problem {
         }
     }
 
-    /// A text that was refused. Its place is told of canonical text, and of basic
-    /// text that does not begin with a brace.
+    /// A text that was refused, with its place where that is told.
     pub fn text(name: String, refusal: Refusal, form: Form, text: &[u8]) -> Problem {
-        let bare = form == Form::Basic && text.first() != Some(&b'{');
-        match refusal.number() == 3 && (form == Form::Canonical || bare) {
-            true => Problem::Syntax(name, refusal, place::told(text, refusal.place())),
-            false => Problem::Refused(name, refusal),
+        match place::of(refusal, form, text) {
+            Some(place) => Problem::Syntax(name, refusal, place::told(text, place)),
+            None => Problem::Refused(name, refusal),
         }
     }
 

@@ -36,7 +36,7 @@ fn run(given: &Given) -> Result<(), Problem> {
     let to = given.form("-s", Form::Canonical)?;
     let to = given.form("--to", to)?;
     let taken = files::take(given, given.at(0))?;
-    deliver(given, &files::text(&taken.name, &taken.sheet, to)?)
+    deliver(given, &files::text(&taken.source.name, &taken.sheet, to)?)
 }
 
 /// Octets to the file of `--output`, or to standard output.
