@@ -15,8 +15,8 @@ const MOST: usize = 64;
 /// How often the bar is drawn.
 const BEAT: Duration = Duration::from_millis(100);
 
-/// Has `judge` look at each file; tells each problem in the files' order, and
-/// what came of all if there are several.
+/// Has `judge` look at each file; tells each problem in the files' order, and if
+/// there are several in one line each, with what came of all.
 pub fn each(
     files: &[OsString],
     threads: Option<usize>,
@@ -26,7 +26,10 @@ pub fn each(
     let answers = answers(files, threads.min(files.len()).min(MOST), &judge);
     let (mut refused, mut unread) = (0, 0);
     for problem in answers.iter().filter_map(|answer| answer.as_ref().err()) {
-        problem.tell();
+        match files.len() {
+            1 => problem.tell(),
+            _ => problem.tell_in_a_line(),
+        }
         match problem.status() {
             1 => refused += 1,
             _ => unread += 1,

@@ -6,6 +6,7 @@ skipped, and say so."""
 
 import base64
 import hashlib
+import html
 import html.parser
 import os
 import re
@@ -120,23 +121,25 @@ class Page(Case):
         self.assertEqual((self.folder / "lines").read_bytes(), b"old")
 
     def test_the_page_of_a_refused_text(self) -> None:
-        for source, words, before, mark, after in (
-            (b"3:abcX", "from octet 5 on", "3:abc", "X", ""),
-            (b"(4:a\nb\n\xff\x00)", "from octet 7 on", "(4:a\\x0a\nb\\x0a\n", r"\xff", r"\x00)"),
-            (b"1:a\n\n", "from octet 3 on", "1:a", r"\x0a", "\n\\x0a\n"),
-            (b"(3:ab", "cut short after 5 octets", "(3:ab", "", ""),
-            (b"", "cut short after 0 octets", "", "", ""),
+        for form, source, words, before, mark, after in (
+            ("advanced", b"(shift\n <b>ann)", "from octet 8 on", "(shift\\x0a\n ", "<", "b>ann)"),
+            ("terminal", b"(a {KCk} {KCkp})", "from octet 13 on", "(a {KCk} {KCk", "p", "})"),
+            ("canonical", b"3:abcX", "from octet 5 on", "3:abc", "X", ""),
+            ("canonical", b"(4:a\nb\n\xff\x00)", "from octet 7 on", "(4:a\\x0a\nb\\x0a\n", r"\xff", r"\x00)"),
+            ("canonical", b"1:a\n\n", "from octet 3 on", "1:a", r"\x0a", "\n\\x0a\n"),
+            ("canonical", b"(3:ab", "cut short after 5 octets", "(3:ab", "", ""),
+            ("canonical", b"", "cut short after 0 octets", "", "", ""),
         ):
-            page = self.refused(source, "--from", "canonical")
+            page = self.refused(source, "--from", form)
             reader = Reader()
             reader.feed(page)
             self.assertEqual(reader.inside, [])
             self.assertIn(f"refused 3: the source is not in the form&#39;s language, <a href=\"#wrong\">{words}</a>.", page)
-            self.assertIn("as canonical text", page)
+            self.assertIn(f"{len(source)} octets, read as {form} text.", page)
             self.assertTrue(reader.text.endswith(before + mark + after), reader.text)
             self.assertEqual(reader.marked, mark)
             (behind,) = re.findall(r"<mark.*?</mark>(.*?)</pre>", page, re.S)
-            self.assertEqual(re.sub("<.*?>", "", behind), after)
+            self.assertEqual(html.unescape(re.sub("<.*?>", "", behind)), after)
 
     def test_a_refused_text_stays_text(self) -> None:
         reader = Reader()
