@@ -11,7 +11,8 @@ pub const COMMAND: Command = Command {
     about: "say which files are refused, and why",
     details: "\
 Nothing is said of good files. Several are read in parallel, with a line for each that
-is refused and a summary at the end. The status is 1 if one is refused, and 2 if one can't be read.",
+is refused and a summary at the end. The status is 1 if one is refused, and 2 if one
+can't be read.",
     flags: &[FROM, THREADS],
     run,
 };
