@@ -200,6 +200,42 @@ class Process(Case):
         ):
             self.fails(2, b"etglavino: ", *arguments)
 
+    def test_every_command_that_reads(self) -> None:
+        self.file("empty", b"")
+        self.file("large", b"a".ljust(40_000))
+        (self.folder / "folder").mkdir()
+        before = self.names()
+        answers = (
+            ("empty", 1, SYNTAX + b"cut short after 0 octets\n"),
+            ("large", 1, b"refused 2: "),
+            ("folder", 2, b"Is a directory"),
+            ("missing", 2, b"No such file"),
+        )
+        for arguments in (
+            ["convert"],
+            ["check"],
+            ["show"],
+            ["show", "--html"],
+            ["table"],
+            ["replace", "0", "a"],
+            ["insert", "0", "0", "a"],
+            ["remove", "1"],
+            ["extract"],
+            ["hours"],
+            ["spool", "add", "desk"],
+        ):
+            for name, status, said in answers:
+                self.fails(status, name.encode() + b": " + said, *arguments, name)
+                self.assertEqual(self.names(), before)
+        self.file("list", LIST)
+        for name, status, said in answers:
+            self.fails(status, name.encode() + b": " + said, "same", "list", name)
+            self.fails(status, name.encode() + b": " + said, "same", name, "list")
+        for name, _, said in answers[2:]:
+            for arguments in (["split", name], ["spool", "list", name], ["spool", "get", name, "0"], ["spool", "check", name]):
+                self.fails(2, name.encode() + b": " + said, *arguments)
+        self.fails(1, b"large, sheet 0: " + SYNTAX + b"from octet 0 on", "split", "large")
+
     def test_help(self) -> None:
         _, whole, _ = self.run_tool("--help")
         names = [line[2:14].strip() for line in whole.decode().splitlines() if line.startswith("  ")]
