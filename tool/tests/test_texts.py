@@ -26,6 +26,7 @@ class Convert(Case):
         for source in FORMS.values():
             self.gives(LIST, "convert", source=source)
             self.gives(LIST_ADVANCED, "convert", "-s", "advanced", source=source)
+            self.gives(LIST_ADVANCED, "convert", "--syntax=advanced", source=source)
         # Nothing may stand outside the braces, and brackets and braces don't mix.
         for source in (LIST_BASIC + b"\n", b" " + LIST_BASIC, b"{", b"({MzphYmM=})"):
             self.fails(1, SYNTAX, "convert", source=source)
