@@ -2,8 +2,8 @@
 # make install PREFIX=/usr/local [DESTDIR=/somewhere]: these, the header, etglavino.pc,
 # the man page and bash's completion. make uninstall takes the same and removes them.
 #
-# The proved archive is taken as it is in target/staticlib, and has `rt` make it where
-# it is missing.
+# The proved archive is taken as it is in target/staticlib; `rt` makes it where it is
+# missing, or older than the crates.
 PREFIX ?= /usr/local
 DESTDIR ?=
 CARGO ?= cargo
@@ -32,7 +32,7 @@ library: $(archive) $(object)
 command: $(proved)
 	$(CARGO) build --quiet --release --offline --manifest-path tool/Cargo.toml
 
-$(proved):
+$(proved): crates.txt $(shell find crates -name '*.rt' -o -name '*.antt')
 	rt staticlib etglavino_c
 
 $(made)/text.o: c/text.c include/etglavino.h

@@ -10,7 +10,7 @@ _etglavino() {
             mapfile -t COMPREPLY < <(compgen -W 'canonical basic advanced terminal' -- "$word")
             return
             ;;
-        --to | -s)
+        --to | --syntax | -s)
             mapfile -t COMPREPLY < <(compgen -W 'canonical basic advanced' -- "$word")
             return
             ;;
@@ -25,7 +25,8 @@ _etglavino() {
         return
     fi
     case ${COMP_WORDS[1]} in
-        convert | extract) flags='--from --to --output' ;;
+        convert) flags='--from --to --syntax --output' ;;
+        extract) flags='--from --to --output' ;;
         check) flags='--from --threads' ;;
         show) flags='--from --paths --html --output' ;;
         table) flags='--from' ;;

@@ -1,6 +1,6 @@
 """Loads the library: the shared object that a wheel carries; or the archive,
-which is built by `rt` where it is missing and made a shared object by a C
-compiler."""
+made a shared object by a C compiler. In the repository `rt` builds the archive
+where it is missing, or older than what it is made of."""
 
 from __future__ import annotations
 
@@ -9,10 +9,13 @@ import functools
 import hashlib
 import os
 import subprocess
+import sys
 import tempfile
 from pathlib import Path
+from typing import Iterator
 
 ARCHIVE = "libetglavino_c.a"
+RT = ("rt", "staticlib", "etglavino_c")
 ROOT = Path(__file__).resolve().parents[2]
 BUNDLED = Path(__file__).resolve().with_name("libetglavino.so")
 """What a wheel carries."""
@@ -38,11 +41,43 @@ def load() -> ctypes.CDLL:
 def _archive() -> Path:
     named = os.environ.get("ETGLAVINO_LIB")
     archive = Path(named or ROOT / "target" / "staticlib") / ARCHIVE
-    if not named and not archive.is_file():
-        _run(["rt", "staticlib", "etglavino_c"], "install the Rattle kit")
+    if not named and (ROOT / "crates" / "etglavino_c").is_dir():
+        if not archive.is_file():
+            _build("there is no archive yet")
+        elif max(_changed()) > archive.stat().st_mtime_ns:
+            _build("the archive is older than the crates")
     if not archive.is_file():
         raise LibraryMissing(f"there is no {archive}")
     return archive
+
+
+def _changed() -> Iterator[int]:
+    """When each file that the archive is made of was changed."""
+    yield (ROOT / "crates.txt").stat().st_mtime_ns
+    for folder, _, names in os.walk(ROOT / "crates"):
+        for name in names:
+            if name.endswith((".rt", ".antt")):
+                yield os.stat(os.path.join(folder, name)).st_mtime_ns
+
+
+def _build(why: str) -> None:
+    """Has `rt` build the archive. It may take minutes: what it says is shown as
+    it comes, on standard error."""
+    shown = " ".join(RT)
+    print(f"etglavino: {why}: `{shown}` builds it", file=sys.stderr, flush=True)
+    try:
+        rt = subprocess.Popen(RT, cwd=ROOT, stdout=subprocess.PIPE, stderr=subprocess.STDOUT, text=True)
+    except OSError as error:
+        advice = f"install the Rattle kit, or set ETGLAVINO_LIB to the folder that has {ARCHIVE}"
+        raise LibraryMissing(f"cannot run `rt`: {error}; {advice}") from error
+    said = []
+    with rt:
+        assert rt.stdout is not None
+        for line in rt.stdout:
+            print(line, end="", file=sys.stderr, flush=True)
+            said.append(line)
+    if rt.returncode != 0:
+        raise LibraryMissing(f"`{shown}` failed: {''.join(said[-20:]).strip()}")
 
 
 def _shared_object(archive: Path) -> Path:
@@ -57,19 +92,18 @@ def _shared_object(archive: Path) -> Path:
         with tempfile.TemporaryDirectory(dir=folder) as aside:
             made = Path(aside) / shared.name
             whole = ["-Wl,--whole-archive", str(archive), "-Wl,--no-whole-archive"]
-            compiler = os.environ.get("CC", "cc")
-            _run([compiler, "-shared", "-o", str(made), *whole], "install a C compiler")
+            _compile(["-shared", "-o", str(made), *whole])
             made.replace(shared)
     return shared
 
 
-def _run(command: list[str], advice: str) -> None:
+def _compile(arguments: list[str]) -> None:
+    command = [os.environ.get("CC", "cc"), *arguments]
     try:
         done = subprocess.run(command, cwd=ROOT, capture_output=True, text=True, check=False)
     except OSError as error:
-        otherwise = f"or set ETGLAVINO_LIB to the folder that has {ARCHIVE}"
-        also = otherwise if command[0] == "rt" else "or set CC to one"
-        raise LibraryMissing(f"cannot run `{command[0]}`: {error}; {advice}, {also}") from error
+        advice = "install a C compiler, or set CC to one"
+        raise LibraryMissing(f"cannot run `{command[0]}`: {error}; {advice}") from error
     if done.returncode != 0:
         said = (done.stdout + done.stderr).strip()
         raise LibraryMissing(f"`{' '.join(command)}` failed: {said}")

@@ -7,7 +7,7 @@ use std::os::unix::fs::{fchown, MetadataExt};
 use std::path::{Path, PathBuf};
 use std::process;
 
-use etglavino::{Form, OwnedSheet, MAX_SOURCE};
+use etglavino::{Form, OwnedSheet, Refusal, MAX_SOURCE};
 
 use crate::args::Given;
 use crate::problem::Problem;
@@ -45,27 +45,47 @@ fn read_most(file: Option<&OsStr>, most: u64) -> Result<Vec<u8>, Problem> {
     }
 }
 
-/// A file's text: its octets, the form that it was read in, its sheet, and how
-/// the file is called.
-pub struct Taken {
-    pub source: Vec<u8>,
+/// A file's text: its octets, the form that it is read in, and how the file is
+/// called.
+pub struct Source {
+    pub octets: Vec<u8>,
     pub form: Form,
-    pub sheet: OwnedSheet,
     pub name: String,
+}
+
+impl Source {
+    /// A file's text, in the form that `--from` names.
+    pub fn of(given: &Given, file: Option<&OsStr>) -> Result<Source, Problem> {
+        let octets = read(file)?;
+        Ok(Source {
+            form: given.form_of("--from", &octets)?,
+            name: name(file),
+            octets,
+        })
+    }
+
+    pub fn sheet(&self) -> Result<OwnedSheet, Refusal> {
+        OwnedSheet::of_text(self.form, &self.octets)
+    }
+
+    /// What is said where it was refused.
+    pub fn refused(&self, why: Refusal) -> Problem {
+        Problem::text(self.name.clone(), why, self.form, &self.octets)
+    }
+}
+
+/// A text with its sheet.
+pub struct Taken {
+    pub source: Source,
+    pub sheet: OwnedSheet,
 }
 
 /// Takes a file's text, in the form that `--from` names.
 pub fn take(given: &Given, file: Option<&OsStr>) -> Result<Taken, Problem> {
-    let source = read(file)?;
-    let form = given.form_of("--from", &source)?;
-    match OwnedSheet::of_text(form, &source) {
-        Ok(sheet) => Ok(Taken {
-            source,
-            form,
-            sheet,
-            name: name(file),
-        }),
-        Err(refusal) => Err(Problem::text(name(file), refusal, form, &source)),
+    let source = Source::of(given, file)?;
+    match source.sheet() {
+        Ok(sheet) => Ok(Taken { source, sheet }),
+        Err(why) => Err(source.refused(why)),
     }
 }
 

@@ -18,9 +18,9 @@ pub enum Problem {
     Output(io::Error),
     /// The library refused something, by its name.
     Refused(String, Refusal),
-    /// The library refused a text, by its name, and told where: in words, and the
-    /// line with a caret.
-    Syntax(String, Refusal, String),
+    /// The library refused a text, by its name, and this is where: in words, and
+    /// the line with a caret.
+    Syntax(String, Refusal, [String; 2]),
     /// All has been told already, and this is the status.
     Told(u8),
 }
@@ -35,22 +35,30 @@ impl Problem {
         }
     }
 
-    /// Says it on standard error. Who closes the pipe knows that it is closed.
+    /// Says it on standard error, with the line of a place. Who closes the pipe
+    /// knows that it is closed.
     pub fn tell(&self) {
         match self {
             Problem::Told(_) => (),
             Problem::Output(error) if error.kind() == ErrorKind::BrokenPipe => (),
+            Problem::Syntax(_, _, [_, shown]) => say(&format!("etglavino: {self}\n{shown}")),
             _ => say(&format!("etglavino: {self}")),
         }
     }
 
-    /// A text that was refused. Its place is told of canonical text, and of basic
-    /// text that does not begin with a brace.
+    /// Says it in one line.
+    pub fn tell_in_a_line(&self) {
+        say(&format!("etglavino: {self}"));
+    }
+
+    /// A text that was refused, with its place where that is told.
     pub fn text(name: String, refusal: Refusal, form: Form, text: &[u8]) -> Problem {
-        let bare = form == Form::Basic && text.first() != Some(&b'{');
-        match refusal.number() == 3 && (form == Form::Canonical || bare) {
-            true => Problem::Syntax(name, refusal, place::told(text, refusal.place())),
-            false => Problem::Refused(name, refusal),
+        match place::of(refusal, form, text) {
+            Some(place) => {
+                let told = [place::words(text, place), place::shown(text, place)];
+                Problem::Syntax(name, refusal, told)
+            }
+            None => Problem::Refused(name, refusal),
         }
     }
 
@@ -71,7 +79,7 @@ impl fmt::Display for Problem {
             Problem::File(name, error) => write!(f, "{name}: {error}"),
             Problem::Output(error) => write!(f, "standard output: {error}"),
             Problem::Refused(name, refusal) => write!(f, "{name}: {refusal}"),
-            Problem::Syntax(name, refusal, told) => write!(f, "{name}: {refusal}, {told}"),
+            Problem::Syntax(name, refusal, [words, _]) => write!(f, "{name}: {refusal}, {words}"),
             Problem::Told(status) => write!(f, "status {status}"),
         }
     }

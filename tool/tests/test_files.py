@@ -168,6 +168,14 @@ class Spool(Case):
         self.file("open", b"(")
         self.fails(1, b"open: " + SYNTAX, "spool", "add", "desk", "list", "open")
         self.assertEqual(self.names(), ["list", "open"])
+        answer = self.run_tool("spool", "add", "desk", "open", "list", "missing", "open")
+        self.assertEqual(answer[:2], (2, b""))
+        said = answer[2].splitlines()
+        line = b"etglavino: open: " + SYNTAX + b"cut short after 1 octet"
+        self.assertEqual((said[0], said[2]), (line, line))
+        self.assertTrue(said[1].startswith(b"etglavino: missing: No such file"), said)
+        self.assertEqual(said[3:], [b"4 files: 1 good, 2 refused, 1 not read"])
+        self.assertEqual(self.names(), ["list", "open"])
 
     def test_wrong_use(self) -> None:
         self.file("list", LIST)
@@ -199,6 +207,42 @@ class Process(Case):
             ["convert", b"--\xff"],
         ):
             self.fails(2, b"etglavino: ", *arguments)
+
+    def test_every_command_that_reads(self) -> None:
+        self.file("empty", b"")
+        self.file("large", b"a".ljust(40_000))
+        (self.folder / "folder").mkdir()
+        before = self.names()
+        answers = (
+            ("empty", 1, SYNTAX + b"cut short after 0 octets\n"),
+            ("large", 1, b"refused 2: "),
+            ("folder", 2, b"Is a directory"),
+            ("missing", 2, b"No such file"),
+        )
+        for arguments in (
+            ["convert"],
+            ["check"],
+            ["show"],
+            ["show", "--html"],
+            ["table"],
+            ["replace", "0", "a"],
+            ["insert", "0", "0", "a"],
+            ["remove", "1"],
+            ["extract"],
+            ["hours"],
+            ["spool", "add", "desk"],
+        ):
+            for name, status, said in answers:
+                self.fails(status, name.encode() + b": " + said, *arguments, name)
+                self.assertEqual(self.names(), before)
+        self.file("list", LIST)
+        for name, status, said in answers:
+            self.fails(status, name.encode() + b": " + said, "same", "list", name)
+            self.fails(status, name.encode() + b": " + said, "same", name, "list")
+        for name, _, said in answers[2:]:
+            for arguments in (["split", name], ["spool", "list", name], ["spool", "get", name, "0"], ["spool", "check", name]):
+                self.fails(2, name.encode() + b": " + said, *arguments)
+        self.fails(1, b"large, sheet 0: " + SYNTAX + b"from octet 0 on", "split", "large")
 
     def test_help(self) -> None:
         _, whole, _ = self.run_tool("--help")
@@ -250,12 +294,12 @@ class Process(Case):
         _, said = run.communicate(timeout=20)
         self.assertEqual(said, b"2 files: 2 good, 0 refused, 0 not read\n")
 
-    def bar(self, seconds: float) -> bytes:
-        """What a terminal sees of a check that takes so long."""
+    def bar(self, seconds: float, *command: str) -> bytes:
+        """What a terminal sees of a command on two files that takes so long."""
         slow = self.folder / "slow"
         os.mkfifo(slow)
         ours, theirs = pty.openpty()
-        run = subprocess.Popen([TOOL, "check", "slow", "slow2"], cwd=self.folder, stderr=theirs)
+        run = subprocess.Popen([TOOL, *command, "slow", "slow2"], cwd=self.folder, stderr=theirs)
         os.close(theirs)
 
         def write() -> None:
@@ -276,10 +320,11 @@ class Process(Case):
 
     def test_a_bar_for_whoever_waits(self) -> None:
         self.file("slow2", b"()")
-        self.assertNotIn(b"#", self.bar(0.1))
-        seen = self.bar(1.4)
-        self.assertIn(b"] 1 of 2", seen)
-        self.assertIn(b"#" * 40 + b"] 2 of 2", seen)
+        for command in (["check"], ["spool", "add", "desk"]):
+            self.assertNotIn(b"#", self.bar(0.1, *command))
+            seen = self.bar(1.4, *command)
+            self.assertIn(b"] 1 of 2", seen)
+            self.assertIn(b"#" * 40 + b"] 2 of 2", seen)
 
 
 if __name__ == "__main__":

@@ -61,8 +61,9 @@ class Man(Case):
         for name, flags in self.commands():
             entry = re.search(rf"^\.TP\n{name}\b(.*)$", text, re.M)
             self.assertIsNotNone(entry, name)
+            whole = re.search(rf"^\.TP\n{name}\b(?:.*\n)+?(?=\.TP|\.PP|\.SH)", text, re.M)
             for flag in flags:
-                self.assertIn(flag, entry.group() + " --help")
+                self.assertIn(flag, whole.group() + " --help")
 
     def test_the_page_is_well_made(self) -> None:
         try:

@@ -26,6 +26,7 @@ class Convert(Case):
         for source in FORMS.values():
             self.gives(LIST, "convert", source=source)
             self.gives(LIST_ADVANCED, "convert", "-s", "advanced", source=source)
+            self.gives(LIST_ADVANCED, "convert", "--syntax=advanced", source=source)
         # Nothing may stand outside the braces, and brackets and braces don't mix.
         for source in (LIST_BASIC + b"\n", b" " + LIST_BASIC, b"{", b"({MzphYmM=})"):
             self.fails(1, SYNTAX, "convert", source=source)
@@ -51,18 +52,20 @@ class Convert(Case):
         self.fails(1, b"standard input: " + SYNTAX, "convert")
 
     def test_the_place_of_what_is_wrong(self) -> None:
-        sentence = b"etglavino: standard input: " + SYNTAX.rstrip(b"\n")
-        for words, source, lines in (
-            (b"from octet 5 on", b"3:abcX", b"  3:abcX\n       ^\n"),
-            (b"from octet 1 on", b"03:", b"  03:\n   ^\n"),
-            (b"cut short after 5 octets", b"(3:ab", b"  (3:ab\n       ^\n"),
-            (b"from octet 0 on", b"\xff", b"  \\xff\n  ^\n"),
+        sentence = b"etglavino: standard input: " + SYNTAX
+        for form, words, source, lines in (
+            ("canonical", b"from octet 5 on", b"3:abcX", b"  3:abcX\n       ^\n"),
+            ("canonical", b"from octet 1 on", b"03:", b"  03:\n   ^\n"),
+            ("canonical", b"cut short after 5 octets", b"(3:ab", b"  (3:ab\n       ^\n"),
+            ("canonical", b"from octet 0 on", b"\xff", b"  \\xff\n  ^\n"),
+            ("basic", b"from octet 5 on", b"3:abcX", b"  3:abcX\n       ^\n"),
+            ("basic", b"from octet 3 on", b"{KC}", b"  {KC}\n     ^\n"),
+            ("advanced", b"from octet 9 on", b"(shift\n  ]ann)", b"    ]ann)\n    ^\n"),
+            ("advanced", b"cut short after 8 octets", b"(a\n(b c\n", b"  (b c\\x0a\n          ^\n"),
+            ("terminal", b"from octet 2 on", b"({})", b"  ({})\n    ^\n"),
         ):
-            answer = self.run_tool("convert", "--from", "canonical", source=source)
-            self.assertEqual(answer, (1, b"", sentence + b", " + words + b"\n" + lines))
-            self.assertEqual(self.run_tool("convert", "--from", "basic", source=source), answer)
-        # Of other texts no place is told.
-        self.fails(1, sentence + b"\n", "convert", source=b"3:abcX")
+            answer = self.run_tool("convert", "--from", form, source=source)
+            self.assertEqual(answer, (1, b"", sentence + words + b"\n" + lines))
 
     def test_sizes(self) -> None:
         longest = b"a".ljust(32_768)
@@ -94,7 +97,7 @@ class Check(Case):
         for threads in ("1", "2", "7"):
             status, out, said = self.run_tool("check", "--threads", threads, *names)
             self.assertEqual((status, out), (1, b""))
-            lines = [b"etglavino: %s: " % name.encode() + SYNTAX for name in names[::3]]
+            lines = [b"etglavino: %s: %scut short after 1 octet\n" % (name.encode(), SYNTAX) for name in names[::3]]
             self.assertEqual(said, b"".join(lines) + b"40 files: 26 good, 14 refused, 0 not read\n")
 
     def test_what_cannot_be_read(self) -> None:
@@ -110,7 +113,7 @@ class Check(Case):
         self.gives(b"", "check", "--from", "any", "basic")
         self.gives(b"", "check", "--from", "basic", "basic")
         for form in ("advanced", "canonical"):
-            self.fails(1, SYNTAX.rstrip(b"\n"), "check", "--from", form, "basic")
+            self.fails(1, SYNTAX, "check", "--from", form, "basic")
         self.fails(2, b"none of canonical, basic, advanced and terminal", "check", "--from", "xml", "basic")
 
 
@@ -174,6 +177,11 @@ class Split(Case):
     def test_refusals(self) -> None:
         self.fails(1, b"standard input, sheet 1: " + SYNTAX, "split", source=LIST + b"(")
         self.fails(1, b"standard input, sheet 0: refused 4: ", "split", source=b"(" * 200 + b")" * 200)
+        # However much stands behind it, and what is too long whether it ends or not.
+        wrong = b"sheet 1: " + SYNTAX + b"from octet 2 on\n  (3a(3:abc[1:x]0:)(3:ab\n    ^\n"
+        self.fails(1, wrong, "split", source=LIST + b"(3a" + LIST * 5000)
+        for long in (b"40000:" + b"a" * 40_000, b"40000:" + b"a" * 39_000):
+            self.fails(1, b"sheet 1: refused 2: ", "split", source=LIST + long)
 
 
 class Extract(Case):

@@ -15,7 +15,8 @@ LIST_BASIC = b"{KDM6YWJjWzE6eF0wOik=}"
 LIST_ADVANCED = b'(abc [x]"")\n'
 LIST_TABLE = b"2 0 14 3 0 0 1 13 0\n0 1 6 1 0 0 3 6 0\n1 6 13 1 9 10 13 13 0\n"
 
-SYNTAX = b"refused 3: the source is not in the form's language\n"
+SYNTAX = b"refused 3: the source is not in the form's language, "
+"""Behind it stands where, in words."""
 
 
 class Case(unittest.TestCase):

@@ -67,7 +67,10 @@ impl<'a> Night<'a> {
         let (taken, workers) = (sheets.len(), hours.len());
         let quarters: u32 = hours.values().map(|(_, quarters)| quarters).sum();
         let paid = f64::from(quarters) / 4.0;
-        println!("{taken} taken, {refused} refused, {long} with a line that is too long");
+        println!("{taken} taken, {long} of them with a line that is too long");
+        for (number, count) in &refused {
+            println!("{count} refused with {number}");
+        }
         println!("{paid} hours of {workers} workers, {shown} octets for foremen");
         self.tell();
         Ok(())
@@ -124,7 +127,7 @@ impl<'a> Night<'a> {
     }
 
     /// The sheets of all spools again, which are those that went in.
-    fn opened(&self, taken: &[(usize, OwnedSheet)]) -> Result<Vec<(usize, OwnedSheet)>, String> {
+    fn opened(&self, taken: &[(usize, OwnedSheet)]) -> Result<Taken, String> {
         let mut sheets = Vec::new();
         for factory in 0..self.factories {
             let path = self.file(factory, "spool");
@@ -198,10 +201,13 @@ impl<'a> Night<'a> {
     }
 }
 
+/// Sheets with their factories.
+type Taken = Vec<(usize, OwnedSheet)>;
+
 /// Reads every text in its form, a canonical one as the line brings it. What is
-/// damaged is refused as it was made to be.
-fn take(made: &[Vec<Made>]) -> Result<(Vec<(usize, OwnedSheet)>, usize), String> {
-    let (mut taken, mut refused) = (Vec::new(), 0);
+/// damaged is refused as it was made to be, and counted by number.
+fn take(made: &[Vec<Made>]) -> Result<(Taken, BTreeMap<u32, usize>), String> {
+    let (mut taken, mut refused) = (Vec::new(), BTreeMap::new());
     for (factory, made) in made.iter().enumerate() {
         let mut terminal = Terminal::new(factory as u64);
         for (number, made) in made.iter().enumerate() {
@@ -221,7 +227,7 @@ fn take(made: &[Vec<Made>]) -> Result<(Vec<(usize, OwnedSheet)>, usize), String>
             )?;
             match answer {
                 Ok(sheet) => taken.push((factory, sheet)),
-                Err(_) => refused += 1,
+                Err(refusal) => *refused.entry(refusal.number()).or_default() += 1,
             }
         }
     }

@@ -10,8 +10,9 @@ pub const COMMAND: Command = Command {
     plain: (1, usize::MAX),
     about: "say which files are refused, and why",
     details: "\
-Nothing is said of good files. Several are read in parallel, with a summary at the
-end. The status is 1 if one is refused, and 2 if one can't be read.",
+Nothing is said of good files. Several are read in parallel, with a line for each that
+is refused and a summary at the end. The status is 1 if one is refused, and 2 if one
+can't be read.",
     flags: &[FROM, THREADS],
     run,
 };

@@ -23,9 +23,14 @@ feed; in the other forms nothing stands behind the tree.",
             about: "the form of what is written: canonical (the default), basic or advanced",
         },
         Flag {
-            name: "-s",
+            name: "--syntax",
             value: Some("FORM"),
             about: "the same, as sexp-conv has it",
+        },
+        Flag {
+            name: "-s",
+            value: Some("FORM"),
+            about: "the same, in short",
         },
         OUTPUT,
     ],
@@ -34,9 +39,10 @@ feed; in the other forms nothing stands behind the tree.",
 
 fn run(given: &Given) -> Result<(), Problem> {
     let to = given.form("-s", Form::Canonical)?;
+    let to = given.form("--syntax", to)?;
     let to = given.form("--to", to)?;
     let taken = files::take(given, given.at(0))?;
-    deliver(given, &files::text(&taken.name, &taken.sheet, to)?)
+    deliver(given, &files::text(&taken.source.name, &taken.sheet, to)?)
 }
 
 /// Octets to the file of `--output`, or to standard output.

@@ -32,15 +32,15 @@ pub fn edit(
     change: impl FnOnce(&mut OwnedSheet) -> Result<(), Refusal>,
 ) -> Result<(), Problem> {
     let mut taken = files::take(given, file)?;
-    let to = given.form("--to", taken.form)?;
+    let to = given.form("--to", taken.source.form)?;
     change(&mut taken.sheet).map_err(|why| match why.number() {
         2 | 3 => Problem::text("TEXT".into(), why, text.0, text.1),
-        _ => Problem::Refused(taken.name.clone(), why),
+        _ => Problem::Refused(taken.source.name.clone(), why),
     })?;
-    let text = files::text(&taken.name, &taken.sheet, to)?;
+    let text = files::text(&taken.source.name, &taken.sheet, to)?;
     match file {
         Some(path) if path != "-" && !given.has("--output") => {
-            files::replace(path, &text, Some(&taken.source))
+            files::replace(path, &text, Some(&taken.source.octets))
         }
         _ => deliver(given, &text),
     }

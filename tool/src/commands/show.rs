@@ -1,11 +1,12 @@
 //! The tree, a node a line.
 
-use etglavino::{Form, Kind, Node, OwnedSheet, Value};
+use etglavino::{Form, Kind, Node, OwnedSheet, Refusal, Value};
 
 use super::convert::deliver;
 use crate::args::{Command, Flag, Given, FROM, OUTPUT};
+use crate::files::{self, Source};
 use crate::problem::Problem;
-use crate::{files, html, nodes};
+use crate::{html, nodes};
 
 pub const COMMAND: Command = Command {
     name: "show",
@@ -16,7 +17,8 @@ pub const COMMAND: Command = Command {
 A string is shown in its advanced spelling, the hint before it; behind it stands its
 value if the hint is f32, f64 or int. A shift line is shown with its hours, a list of
 lines with their sum. A page needs no network; pointing at a node marks its octets,
-and the other way round.",
+and the other way round. With --html and --output a refused text has a page too: what
+is wrong, and the text with the place marked.",
     flags: &[
         FROM,
         Flag {
@@ -35,12 +37,30 @@ and the other way round.",
 };
 
 fn run(given: &Given) -> Result<(), Problem> {
-    let sheet = files::take(given, given.at(0))?.sheet;
-    let out = match given.has("--html") {
-        true => html::page(&sheet, &files::name(given.at(0))),
-        false => tree(&sheet, given.has("--paths")),
+    let source = Source::of(given, given.at(0))?;
+    let html = given.has("--html");
+    let out = match source.sheet() {
+        Ok(sheet) if html => html::page(&sheet, &source.name),
+        Ok(sheet) => tree(&sheet, given.has("--paths")),
+        Err(why) if html => return refused(given, &source, why),
+        Err(why) => return Err(source.refused(why)),
     };
     deliver(given, out.as_bytes())
+}
+
+/// The page of a refused text goes to the file of `--output`, and never to
+/// standard output. What is said and the status are those of every refusal, but
+/// where the file can't be written.
+fn refused(given: &Given, source: &Source, why: Refusal) -> Result<(), Problem> {
+    let told = source.refused(why);
+    match given.value("--output") {
+        Some(path) if path != "-" => {
+            told.tell();
+            files::replace(path, html::refused(source, why).as_bytes(), None)?;
+            Err(Problem::Told(told.status()))
+        }
+        _ => Err(told),
+    }
 }
 
 fn tree(sheet: &OwnedSheet, paths: bool) -> String {

@@ -1,6 +1,6 @@
 //! Sheets written back to back, one by one.
 
-use etglavino::{Form, OwnedSheet};
+use etglavino::{Form, OwnedSheet, Refusal, MAX_SOURCE};
 
 use super::convert::deliver;
 use crate::args::{Command, Flag, Given, OUTPUT};
@@ -39,12 +39,25 @@ fn run(given: &Given) -> Result<(), Problem> {
         else {
             break;
         };
-        let sheet = OwnedSheet::of_text(Form::Canonical, sheet);
-        let sheet = sheet.map_err(|refusal| Problem::Refused(name.clone(), refusal))?;
+        let sheet = read(sheet).map_err(|(refusal, text)| {
+            Problem::text(name.clone(), refusal, Form::Canonical, text)
+        })?;
         out.extend(files::text(&name, &sheet, to)?);
         if to == Form::Basic {
             out.push(b'\n');
         }
     }
     deliver(given, &out)
+}
+
+/// Reads a sheet, or what is none, however much stands behind it: it is too long
+/// only if it goes on right as far as a text may go.
+fn read(text: &[u8]) -> Result<OwnedSheet, (Refusal, &[u8])> {
+    let front = &text[..text.len().min(MAX_SOURCE)];
+    match OwnedSheet::of_text(Form::Canonical, front) {
+        Err(Refusal::Syntax { place }) if place == front.len() => {
+            OwnedSheet::of_text(Form::Canonical, text).map_err(|why| (why, text))
+        }
+        answer => answer.map_err(|why| (why, front)),
+    }
 }

@@ -22,8 +22,8 @@ pub const ADD: Command = Command {
     plain: (2, usize::MAX),
     about: "add sheets to a spool file, which is made where it is missing",
     details: "\
-If a file is refused, or there is no room for one (6), none is added; a larger --size
-makes room. When the command is done the sheets are on the disk; after a power cut
+If a file is refused, or there is no room for one (6), none is added; several have a
+line for each that is refused. A larger --size makes room. When the command is done the sheets are on the disk; after a power cut
 the spool has the old sheets, or those and the first of the new ones.",
     flags: &[
         FROM,
@@ -76,11 +76,9 @@ pub const CHECK: Command = Command {
 fn add(given: &Given) -> Result<(), Problem> {
     let size = given.count("--size")?;
     let (path, new) = (&given.plain[0], &given.plain[1..]);
-    let sheets: Result<Vec<_>, _> = new
-        .iter()
-        .map(|file| Ok(files::take(given, Some(file))?.sheet))
-        .collect();
-    let (sheets, name) = (sheets?, path.to_string_lossy());
+    given.form_of("--from", b"")?;
+    let sheets = many::take(new, None, |file| Ok(files::take(given, Some(file))?.sheet))?;
+    let name = path.to_string_lossy();
     let failed = |error| Problem::spool(&name, error);
     let refused = |(file, refusal): (&OsString, Refusal)| {
         let adding = format!("{name}, adding {}", files::name(Some(file)));
@@ -97,9 +95,13 @@ fn add(given: &Given) -> Result<(), Problem> {
         rehearsed(&[], size, new, &sheets).map_err(refused)?;
         SpoolFile::create(path, size).map_err(failed)?
     };
-    sheets
-        .iter()
-        .try_for_each(|sheet| spool.add(sheet.canonical()).map_err(failed))
+    let mut bar = many::Bar::of(sheets.len());
+    for (number, sheet) in sheets.iter().enumerate() {
+        spool.add(sheet.canonical()).map_err(failed)?;
+        bar.show(number + 1);
+    }
+    bar.end();
+    Ok(())
 }
 
 /// Adds all sheets to a copy of the area, grown to at least `size` octets: none is

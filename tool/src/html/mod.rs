@@ -1,10 +1,15 @@
-//! A sheet as one page that needs nothing else: tree and octets side by side,
-//! each node marked in both where one is pointed at.
+//! One page that needs nothing else: of a sheet its tree and its octets side by
+//! side, each node marked in both where one is pointed at; of a refused text what
+//! is wrong, and its octets with the place marked.
+
+mod refused;
 
 use etglavino::{Kind, Node, OwnedSheet};
 
 use crate::commands::show::{meaning, spelled};
 use crate::nodes;
+
+pub use refused::refused;
 
 const STYLE: &str = include_str!("page.css");
 const SCRIPT: &str = include_str!("page.js");
@@ -16,19 +21,35 @@ const POLICY: &str = "default-src 'none'; style-src 'unsafe-inline'; \
 
 /// The page of a sheet, with a title.
 pub fn page(sheet: &OwnedSheet, title: &str) -> String {
-    let (title, extent) = (escaped(title), sheet.extent());
+    let extent = sheet.extent();
     let rows: String = sheet.nodes().map(row).collect();
     let octets = octets(sheet.root(), sheet.canonical());
+    let about = format!(
+        "{} octets, {} nodes. <span id=\"place\"></span>",
+        extent.length, extent.nodes,
+    );
+    let main = format!(
+        "<section id=\"tree\"><h2>Nodes</h2>\n{rows}</section>\n\
+         <section id=\"octets\"><h2>Canonical form</h2>\n<pre>{octets}</pre></section>",
+    );
+    framed(
+        title,
+        &about,
+        &main,
+        &format!("<script>{SCRIPT}</script>\n"),
+    )
+}
+
+/// A page around what stands in it. The title is text, the rest is not.
+fn framed(title: &str, about: &str, main: &str, script: &str) -> String {
+    let title = escaped(title);
     format!(
         "<!DOCTYPE html>\n<html lang=\"en\">\n<head>\n<meta charset=\"utf-8\">\n\
          <meta http-equiv=\"Content-Security-Policy\" content=\"{POLICY}\">\n\
          <meta name=\"viewport\" content=\"width=device-width\">\n\
          <title>{title}</title>\n<style>\n{STYLE}</style>\n</head>\n<body>\n\
-         <header><h1>{title}</h1>{} octets, {} nodes. <span id=\"place\"></span></header>\n\
-         <main>\n<section id=\"tree\"><h2>Nodes</h2>\n{rows}</section>\n\
-         <section id=\"octets\"><h2>Canonical form</h2>\n<pre>{octets}</pre></section>\n</main>\n\
-         <script>{SCRIPT}</script>\n</body>\n</html>\n",
-        extent.length, extent.nodes,
+         <header><h1>{title}</h1>{about}</header>\n\
+         <main>\n{main}\n</main>\n{script}</body>\n</html>\n",
     )
 }
 
