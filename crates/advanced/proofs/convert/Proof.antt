@@ -2,11 +2,28 @@ use Prim.Native.Nat.{_-_}
 use lib.ListN.{length}
 use Rattle.advanced.proofs.Converting.{Converting, convert-none, convert-inside, convert-long, convert-low, convert-notes, convert-stacks, convert-numbers, convert-more, convert-whole, convert-short}
 use Rattle.advanced.proofs.Stepping.{one-room, one-less, open-on, close-none, close-leaving, close-on, node-spare, node-none, node-from, node-fits, node-less, node-keepable, node-on}
+use Rattle.advanced.proofs.Hints.{spare-room, node-plain}
 use Rattle.advanced.proofs.Holding.{held-refused, held-less, held-deep, held-many, held-long, held-end, held-on}
+use Rattle.advanced.specs.Nodes.{Nodes}
+use mathlib.Core.Logic.{⊎-elim}
 use native.Mathlib.Omega.{arith}
 use borrow.Author.Needs.{needs}
 use Rattle.advanced.proofs.convert.Statement.{statement}
 use Rattle.advanced.proofs.convert.Tie as tie
+use Rattle.advanced.proofs.convert.Reads as reads
+use Rattle.advanced.proofs.convert.Lts as lts
+use Rattle.advanced.proofs.braces.opens.Reads as opens-reads
+use Rattle.advanced.proofs.braces.tree_at.Reads as tree-at-reads
+use Rattle.advanced.proofs.hinted.Reads as hinted-reads
+use Rattle.advanced.proofs.simple.Reads as simple-reads
+use Rattle.advanced.proofs.wrap.Reads as wrap-reads
+use Rattle.scan.proofs.skip_at.Reads as skip-at-reads
+use Rattle.sheets.proofs.notes.enter.Reads as enter-reads
+use Rattle.sheets.proofs.notes.keep_string.Reads as keep-string-reads
+use Rattle.sheets.proofs.notes.leave.Reads as leave-reads
+use Rattle.sheets.proofs.notes.up_of.Reads as up-of-reads
+use Rattle.walk.proofs.closed.Reads as closed-reads
+use Rattle.walk.proofs.larger.Reads as larger-reads
 
 abbrev Inv-loop : tie.InvT-loop
 Inv-loop classes letters braces src out₀ notes₀ starts₀ numbers₀ at₀ o₀ opened₀ deepest₀ seen₀ size₀ out notes starts numbers at o opened deepest seen size =
@@ -108,52 +125,83 @@ same-length-10 c = search (convert-notes, arith)
 returns-5 : tie.Need-returns-5 Inv-loop μ-loop
 returns-5 c = search (held-refused, arith)
 
-node-requires : tie.Need-node-requires Inv-loop μ-loop
-node-requires c κs = (search needs, (search needs, (search needs, search (node-spare, arith), search needs, search needs)))
+hinted-requires : tie.Need-hinted-requires Inv-loop μ-loop
+hinted-requires c κs = (search needs, (search needs, (search needs, search (node-spare, arith), search needs)))
+
+simple-requires : tie.Need-simple-requires Inv-loop μ-loop
+simple-requires c κs = (search needs, (search needs, search (spare-room, node-spare, arith)))
+
+-- where a string with a hint and one without meet
+abbrev Joined : Type 0
+Joined =
+    lts.Joined8
+    (skip-at-reads.Asked, skip-at-reads.Learnt, closed-reads.Asked, closed-reads.Learnt, enter-reads.Asked, enter-reads.Learnt, wrap-reads.Asked, wrap-reads.Learnt, larger-reads.Asked, larger-reads.Learnt, leave-reads.Asked, leave-reads.Learnt, opens-reads.Asked, opens-reads.Learnt, tree-at-reads.Asked, tree-at-reads.Learnt, hinted-reads.Asked, hinted-reads.Learnt, simple-reads.Asked, simple-reads.Learnt, up-of-reads.Asked, up-of-reads.Learnt, keep-string-reads.Asked, keep-string-reads.Learnt)
+    reads.Pre reads.Post Inv-loop μ-loop
+
+-- either way a string stands there
+strung : (j : Joined) → Nodes (j .before .before .before .before .before .before .before .before .before .before .before .before .before .before .args .src .now) (j .before .before .before .before .before .before .before .before .before .skip-at .result)
+    (j .before .before .before .before .before .before .before .before .before .before .loop .o) (j .before .before .before .before .before .before .before .before .before .before .loop .out) (j .if8 .out) (j .if8 .mid) (j .if8 .end) (j .if8 .next)
+strung j =
+    ⊎-elim
+    (λ w. rw (w .7, w .8, w .9, w .10) (w .4 .ensures))
+    (λ w. rw (w .6, w .7, w .8, w .9) (node-plain _ _ _ _ (search needs) (search (node-spare, arith)) (search needs) (search needs) (w .0 .left) _ _ _ (w .3 .ensures)))
+    (j .if8 .came)
+
+same-length-11 : tie.Need-same-length-11 Inv-loop μ-loop
+same-length-11 c = ⊎-elim (λ w. rw (w .7) (search (convert-long, arith))) (λ w. rw (w .6) (search (convert-long, arith))) (c .before .if8 .came)
 
 same-length-12 : tie.Need-same-length-12 Inv-loop μ-loop
 same-length-12 c = search (convert-notes, arith)
 
 returns-6 : tie.Need-returns-6 Inv-loop μ-loop
-returns-6 c = search (node-none, arith)
+returns-6 c =
+    let past = c .before .before in
+    let here = past .before .before .before .before .before in
+    let start = here .before .before in
+    node-none _ _ _ _ _ _ _ _ _ _ _ _ _ _ (start .before .before .loop .inv) _ (start .before .skip-at .ensures) _ (start .closed .ensures) (here .before .if1 .left) (here .if3 .left) _ (past .before .opens .ensures) (past .if7 .left) _ _ _ _ (strung (c .before)) (c .if9 .taken) _
 
 up-of-requires : tie.Need-up-of-requires Inv-loop μ-loop
 up-of-requires c κs = search (convert-numbers, arith)
 
 keep-string-requires : tie.Need-keep-string-requires Inv-loop μ-loop
 keep-string-requires c κs =
-    let made = c .before .before .before .before .before .before in
-    let past = made .before .before .before .before in
+    let met = c .before .before .before .before in
+    let past = met .before in
     let here = past .before .before .before .before .before in
     let start = here .before .before in
-    node-keepable _ _ _ _ _ _ _ _ _ _ _ _ _ _ (start .before .before .loop .inv) _ (start .before .skip-at .ensures) _ (start .closed .ensures) (here .before .if1 .left) (here .if3 .left) _ (past .before .opens .ensures) (past .if7 .left) _ _ _ _ (made .node .ensures) (c .before .before .before .if8 .left) (c .before .up-of .result) (c .before .up-of .ensures)
+    node-keepable _ _ _ _ _ _ _ _ _ _ _ _ _ _ (start .before .before .loop .inv) _ (start .before .skip-at .ensures) _ (start .closed .ensures) (here .before .if1 .left) (here .if3 .left) _ (past .before .opens .ensures) (past .if7 .left) _ _ _ _ (strung met) (c .before .before .before .if9 .left) (c .before .up-of .result) (c .before .up-of .ensures)
 
 sub-size : tie.Need-sub-size Inv-loop μ-loop
 sub-size c =
-    let made = c .before .before .before .before .before .before .before .before .before in
-    let past = made .before .before .before .before in
+    let met = c .before .before .before .before .before .before .before in
+    let past = met .before in
     let here = past .before .before .before .before .before in
     let start = here .before .before in
-    node-from _ _ _ _ _ _ _ _ _ _ _ _ _ _ (start .before .before .loop .inv) _ (start .before .skip-at .ensures) _ (start .closed .ensures) (here .before .if1 .left) (here .if3 .left) _ (past .before .opens .ensures) (past .if7 .left) _ _ _ _ (made .node .ensures) (c .before .before .before .before .before .before .if8 .left)
+    node-from _ _ _ _ _ _ _ _ _ _ _ _ _ _ (start .before .before .loop .inv) _ (start .before .skip-at .ensures) _ (start .closed .ensures) (here .before .if1 .left) (here .if3 .left) _ (past .before .opens .ensures) (past .if7 .left) _ _ _ _ (strung met) (c .before .before .before .before .before .before .if9 .left)
 
 add-size-4 : tie.Need-add-size-4 Inv-loop μ-loop
 add-size-4 c =
-    let made = c .before .before .before .before .before .before .before .before .before in
-    let past = made .before .before .before .before in
+    let met = c .before .before .before .before .before .before .before in
+    let past = met .before in
     let here = past .before .before .before .before .before in
     let start = here .before .before in
-    node-fits _ _ _ _ _ _ _ _ _ _ _ _ _ _ (start .before .before .loop .inv) _ (start .before .skip-at .ensures) _ (start .closed .ensures) (here .before .if1 .left) (here .if3 .left) _ (past .before .opens .ensures) (past .if7 .left) _ _ _ _ (made .node .ensures) (c .before .before .before .before .before .before .if8 .left)
+    node-fits _ _ _ _ _ _ _ _ _ _ _ _ _ _ (start .before .before .loop .inv) _ (start .before .skip-at .ensures) _ (start .closed .ensures) (here .before .if1 .left) (here .if3 .left) _ (past .before .opens .ensures) (past .if7 .left) _ _ _ _ (strung met) (c .before .before .before .before .before .before .if9 .left)
 
 loop-less-4 : tie.Need-loop-less-4 Inv-loop μ-loop
-loop-less-4 c = search (node-less, arith)
+loop-less-4 c =
+    let met = c .before .before .before .before .before .before .before .before in
+    let past = met .before in
+    let here = past .before .before .before .before .before in
+    let start = here .before .before in
+    node-less _ _ _ _ _ _ _ _ _ _ _ _ _ _ (start .before .before .loop .inv) _ (start .before .skip-at .ensures) _ (start .closed .ensures) (here .before .if1 .left) (here .if3 .left) _ (past .before .opens .ensures) (past .if7 .left) _ _ _ _ (strung met) (c .before .before .before .before .before .before .before .if9 .left)
 
 loop-again-4 : tie.Need-loop-again-4 Inv-loop μ-loop
 loop-again-4 c =
-    let made = c .before .before .before .before .before .before .before .before .before .before in
-    let past = made .before .before .before .before in
+    let met = c .before .before .before .before .before .before .before .before in
+    let past = met .before in
     let here = past .before .before .before .before .before in
     let start = here .before .before in
-    node-on _ _ _ _ _ _ _ _ _ _ _ _ _ _ (start .before .before .loop .inv) _ (start .before .skip-at .ensures) _ (start .closed .ensures) (here .before .if1 .left) (here .if3 .left) _ (past .before .opens .ensures) (past .if7 .left) _ _ _ _ (made .node .ensures) (c .before .before .before .before .before .before .before .if8 .left) _ (c .wrap4 .ensures) (c .before .before .before .before .before .up-of .result) (c .before .before .before .before .before .up-of .ensures) _ (c .before .before .before .keep-string .ensures)
+    node-on _ _ _ _ _ _ _ _ _ _ _ _ _ _ (start .before .before .loop .inv) _ (start .before .skip-at .ensures) _ (start .closed .ensures) (here .before .if1 .left) (here .if3 .left) _ (past .before .opens .ensures) (past .if7 .left) _ _ _ _ (strung met) (c .before .before .before .before .before .before .before .if9 .left) _ (c .wrap4 .ensures) (c .before .before .before .before .before .up-of .result) (c .before .before .before .before .before .up-of .ensures) _ (c .before .before .before .keep-string .ensures)
 
 pub convert-spec : {M : Type 1} → statement M
 convert-spec =
@@ -212,8 +260,9 @@ convert-spec =
     (λ c. search needs)
     same-length-10
     returns-5
-    node-requires
-    (λ c. search needs)
+    hinted-requires
+    simple-requires
+    same-length-11
     same-length-12
     returns-6
     up-of-requires
