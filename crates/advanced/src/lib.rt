@@ -300,7 +300,6 @@ pub fn convert(
     let mut starts: [usize; limits::DEPTH] = [0; limits::DEPTH];
     let mut numbers: [usize; limits::DEPTH] = [0; limits::DEPTH];
     let mut at: usize = 0;
-    let mut o: usize = 0;
     let mut opened: usize = 0;
     let mut deepest: usize = 0;
     let mut seen: usize = 0;
@@ -321,10 +320,10 @@ pub fn convert(
             return Extent::Refused { place: 0 };
         }
         let b = src[i];
+        let o = wrap(size);
         if b == 40 {
             out[o] = 40;
             enter(&mut starts, &mut numbers, opened, o, seen);
-            o = wrap(o + 1);
             size += 1;
             opened += 1;
             deepest = walk::larger(deepest, opened);
@@ -339,7 +338,6 @@ pub fn convert(
             opened -= 1;
             leave(notes, &starts, &numbers, opened, seen, o);
             out[o] = 41;
-            o = wrap(o + 1);
             size += 1;
             at = i + 1;
             continue;
@@ -355,7 +353,6 @@ pub fn convert(
                     deepest = walk::larger(deepest, opened + depth);
                     seen += nodes;
                     size += len;
-                    o = wrap(o + len);
                     at = next;
                     continue;
                 }
@@ -379,7 +376,6 @@ pub fn convert(
         keep_string(notes, seen, o, mid, end, up);
         seen += 1;
         size += end - o;
-        o = wrap(end);
         at = next;
     }
 }
