@@ -30,15 +30,15 @@
  *
  * Stack that a call takes at most, in octets (x86-64), besides what the C
  * library's memset and memcpy take:
- *   etg_read                 120,824
- *   etg_read_records         134,040
+ *   etg_read                 120,840
+ *   etg_read_records         134,056
  *   etg_write                 35,112
- *   etg_replace              120,632
- *   etg_replace_records      134,552
- *   etg_insert               120,632
- *   etg_insert_records       134,552
- *   etg_remove               120,648
- *   etg_remove_records       134,552
+ *   etg_replace              120,648
+ *   etg_replace_records      134,568
+ *   etg_insert               120,648
+ *   etg_insert_records       134,568
+ *   etg_remove               120,664
+ *   etg_remove_records       134,568
  *   etg_same                   2,408
  *   etg_hint                  67,896
  *   etg_hint_records          81,976
@@ -57,10 +57,10 @@
  *   etg_total                     72
  *   etg_week                  67,848
  *   etg_week_records          67,832
- *   etg_extract              136,616
- *   etg_extract_own          136,616
- *   etg_extract_records      136,600
- *   etg_extract_own_records  136,616
+ *   etg_extract              136,632
+ *   etg_extract_own          136,632
+ *   etg_extract_records      136,616
+ *   etg_extract_own_records  136,632
  *   etg_split                    184
  *   etg_pieces_start               8
  *   etg_pieces_feed              328

@@ -11,7 +11,7 @@ use Rattle.base.proofs.Cases.{picked, unpicked, none-some}
 use Rattle.model.specs.Grammar.{rules}
 use Rattle.model.specs.Decode.{lexemes, decode₃}
 use Rattle.model.specs.Lexemes.{Lexeme}
-use Rattle.model.specs.Limits.{maxSource, maxCanonical, maxDepth}
+use Rattle.model.specs.Limits.{maxCanonical, maxDepth}
 use Rattle.model.specs.Tree.{Tree, canon}
 use Rattle.model.proofs.Nesting.{unnest}
 use Rattle.model.proofs.LexemeLoop.{lexemes-end}
@@ -35,12 +35,10 @@ pub record Coming (β : Bool) (src notes₀ starts nodeNos notes : List ℕ) (at
   pub lexes : lexemes rules β (drop at src) ≡ some to-come
   pub kept : Kept (sets notes₀ 0 (noted t)) starts nodeNos notes len opened deepest seen t to-come
 
-pub record Converting (β : Bool) (src out₀ notes₀ out starts nodeNos notes : List ℕ) (at len at-out o d n : ℕ) : Type 0 where
+pub record Converting (β : Bool) (src out₀ notes₀ out starts nodeNos notes : List ℕ) (at len o d n : ℕ) : Type 0 where
   pub inside : at ≤ length src
   pub lent : Lent (length src) (length out₀)
   pub long : length out ≡ length out₀
-  pub low : at-out ≤ maxCanonical
-  pub treble : at-out ≤ 3 * at
   pub few : (o ≤ at) × (d ≤ at) × (n ≤ at) × (len ≤ 3 * at)
   pub level : o ≤ d
   pub passed : List Lexeme
@@ -48,7 +46,6 @@ pub record Converting (β : Bool) (src out₀ notes₀ out starts nodeNos notes 
   pub same : walking (lexemes rules β src) begin ≡ walking (lexemes rules β (drop at src)) (count o d n)
   pub size : length (octetsOfLexemes passed) ≡ len
   -- nothing was overwritten yet
-  pub place : len ≤ maxCanonical → at-out ≡ len
   pub front : len ≤ maxCanonical → Front (octetsOfLexemes passed) 0 out₀ out len
   -- the notes
   pub notesLong : length notes ≡ length notes₀
@@ -56,22 +53,19 @@ pub record Converting (β : Bool) (src out₀ notes₀ out starts nodeNos notes 
   pub coming : β ≡ false → (g : Sheetable (decode₃ rules β src) (length notes₀)) → Coming β src notes₀ starts nodeNos notes at len o d n (g .tree)
 
 pub convert-none : (β : Bool) (src out notes starts nodeNos : List ℕ) → Lent (length src) (length out) → length starts ≡ maxDepth → length nodeNos ≡ maxDepth
-    → Converting β src out notes out starts nodeNos notes 0 0 0 0 0 0
+    → Converting β src out notes out starts nodeNos notes 0 0 0 0 0
 unfolding octetsOfLexemes
 convert-none β src out notes starts nodeNos k p q =
     record {
       inside = omega arith;
       lent = k;
       long = refl;
-      low = omega arith;
-      treble = omega arith;
       few = (omega arith, omega arith, omega arith, omega arith);
       level = omega arith;
       passed = [];
       all = prefixed-none (lexemes rules β src);
       same = refl;
       size = refl;
-      place = λ _. refl;
       front = λ _. front-none out 0 (omega arith);
       notesLong = refl;
       stacked = stacked-none starts nodeNos p q (maxCanonical + 1);
@@ -85,15 +79,12 @@ refusal β src out notes notes′ e =
     let z : decode₃ rules β src ≡ none = undecoded (lexemes rules β src) e in
     record { measures = z; fails = λ p f. let y : 0 ≡ p = cc in sym y; octets = λ t x h. none-some (sym z ∙ x); kept = λ _ g. none-some (sym z ∙ g .is) }
 
-module _ (β : Bool) (src out₀ notes₀ out starts nodeNos notes : List ℕ) (at len r o d n : ℕ) (w : Converting β src out₀ notes₀ out starts nodeNos notes at len r o d n) where
+module _ (β : Bool) (src out₀ notes₀ out starts nodeNos notes : List ℕ) (at len o d n : ℕ) (w : Converting β src out₀ notes₀ out starts nodeNos notes at len o d n) where
   pub convert-inside : at ≤ length src
   convert-inside = w .inside
 
   pub convert-long : length out ≡ length out₀
   convert-long = w .long
-
-  pub convert-low : r ≤ maxSource
-  convert-low = omega (arith, w .low)
 
   pub convert-notes : length notes ≡ length notes₀
   convert-notes = w .notesLong

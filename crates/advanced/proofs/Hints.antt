@@ -134,11 +134,14 @@ module _ (src : List ℕ) (at pos : ℕ) (out : List ℕ) (j : ℕ) (u : Skipped
         }
 
 -- ---- a string
-module _ (src : List ℕ) (at pos : ℕ) (out : List ℕ) (h : at < length src) (t : Spare src at pos (length out)) (a : getD src at 0 ≡ 40 → ⊥) (b : getD src at 0 ≡ 41 → ⊥) where
+module _ (src : List ℕ) (at pos : ℕ) (out : List ℕ) (h : at < length src) (t : Spare src at pos (length out)) where
   module _ (c : getD src at 0 ≡ 91) (out₁ : List ℕ) (e from : ℕ) (s : HintSpells src at pos out out₁ e from) where
     bracketed : lexeme rules (drop at src) ≡ hintOf (drop (at + 1) src)
     unfolding lexeme
-    bracketed = ap (lexeme rules) (one-here src at h) ∙ unpicked _ _ (ne-eqb _ _ a) ∙ unpicked _ _ (ne-eqb _ _ b) ∙ picked _ _ (eq-eqb _ _ c)
+    bracketed =
+        let a : getD src at 0 ≡ 40 → ⊥ = λ z. omega (arith, z, c) in
+        let b : getD src at 0 ≡ 41 → ⊥ = λ z. omega (arith, z, c) in
+        ap (lexeme rules) (one-here src at h) ∙ unpicked _ _ (ne-eqb _ _ a) ∙ unpicked _ _ (ne-eqb _ _ b) ∙ picked _ _ (eq-eqb _ _ c)
 
     pub node-unhinted : from ≡ 0 → (d : List ℕ) (m q : ℕ) → Nodes src at pos out d m q 0
     node-unhinted z d m q = record { none = λ _. bracketed ∙ s .none z; some = λ y. absurd (y refl) }
@@ -175,7 +178,7 @@ module _ (src : List ℕ) (at pos : ℕ) (out : List ℕ) (h : at < length src) 
                 };
           }
 
-  module _ (c : getD src at 0 ≡ 91 → ⊥) (out₁ : List ℕ) (q next : ℕ) (w : Spells src (simple rules (drop at src)) at pos out out₁ q next) where
+  module _ (a : getD src at 0 ≡ 40 → ⊥) (b : getD src at 0 ≡ 41 → ⊥) (c : getD src at 0 ≡ 91 → ⊥) (out₁ : List ℕ) (q next : ℕ) (w : Spells src (simple rules (drop at src)) at pos out out₁ q next) where
     plain : lexeme rules (drop at src) ≡ bind (simple rules (drop at src)) (λ d k. got (atom d) k)
     unfolding lexeme
     plain =

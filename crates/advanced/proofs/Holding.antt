@@ -41,8 +41,8 @@ use Rattle.advanced.specs.Converted.{Converts, Wrapped}
 use Rattle.advanced.proofs.Passed.{prefixed, octets-both, prefixed-tree, held-of}
 use Rattle.advanced.proofs.Converting.{Converting, refusal}
 
-module _ (β : Bool) (src out₀ notes₀ out starts nodeNos notes : List ℕ) (at len r o d n : ℕ) (w : Converting β src out₀ notes₀ out starts nodeNos notes at len r o d n)
-    (i : ℕ) (p : Skipped src at i) (q : Bool) (x : q ≡ shutBy o n) (f : q ≡ false) (h : i < length src) where
+module _ (β : Bool) (src out₀ notes₀ out starts nodeNos notes : List ℕ) (at len o d n : ℕ) (w : Converting β src out₀ notes₀ out starts nodeNos notes at len o d n)
+    (i : ℕ) (p : Skipped src at i) (q : Bool) (x : q ≡ shutBy o n) (f : q ≡ false) (h : i < length src) (r : ℕ) (goes : Wrapped len r) where
   not-shut : shut (count o d n) ≡ false
   not-shut = sym x ∙ f
 
@@ -84,22 +84,17 @@ module _ (β : Bool) (src out₀ notes₀ out starts nodeNos notes : List ℕ) (
         pub held-long : Fits w64 (len + k)
         held-long = omega (arith, w .few, w .lent .short, w .inside, at-tree .few, at-tree .within, p .from)
 
-        pub held-end : Fits w64 (r + k)
-        held-end = omega (arith, w .low, w .lent .short, at-tree .few, at-tree .within)
-
         passes-tree : lexemes rules β (drop at src) ≡ unnesting (at-tree .tree) (lexemes rules β (drop next src))
         passes-tree = held-lexemes rules-apart β (pair .0) (drop at src) (drop (i + 1) src) (drop next src) (at-tree .tree) here (held-of (at-tree .reads))
 
-        pub held-on : (d′ : ℕ) → d′ ≡ max d (o + m) → (r′ : ℕ) → Wrapped (r + k) r′ → Converting β src out₀ notes₀ out₁ starts nodeNos notes next (len + k) r′ o d′ (n + c)
-        held-on d′ g r′ u =
+        pub held-on : (d′ : ℕ) → d′ ≡ max d (o + m) → Converting β src out₀ notes₀ out₁ starts nodeNos notes next (len + k) o d′ (n + c)
+        held-on d′ g =
             let z : octetsOfLexemes (w .passed ++ unnest (at-tree .tree) []) ≡ octetsOfLexemes (w .passed) ++ canon (at-tree .tree) =
             octets-both (w .passed) (unnest (at-tree .tree) []) ∙ ap (λ (x : List ℕ). octetsOfLexemes (w .passed) ++ x) (unnest-canon (at-tree .tree)) in
             record {
               inside = at-tree .within;
               lent = w .lent;
               long = at-tree .front .long ∙ w .long;
-              low = u .low;
-              treble = omega (arith, u .less, w .treble, p .from, at-tree .few);
               few = (omega (arith, w .few, p .from, at-tree .few), omega (arith, w .few, p .from, at-tree .few, small, g), omega (arith, w .few, p .from, at-tree .few, small), omega (arith, w .few, p .from, at-tree .few));
               level = omega (arith, w .level, g);
               passed = w .passed ++ unnest (at-tree .tree) [];
@@ -108,9 +103,8 @@ module _ (β : Bool) (src out₀ notes₀ out starts nodeNos notes : List ℕ) (
                   ∙ walking-tree (at-tree .tree) (lexemes rules β (drop next src)) (count o d n) not-shut (w .level)
                   ∙ ap₂ (λ (x y : ℕ). walking (lexemes rules β (drop next src)) (count o x y)) (sym (g ∙ ap (λ (x : ℕ). max d (o + x)) (at-tree .deepest))) (ap (λ (x : ℕ). n + x) (sym (at-tree .counted)));
               size = ap length z ∙ length-append (octetsOfLexemes (w .passed)) (canon (at-tree .tree)) ∙ omega (arith, w .size, at-tree .long);
-              place = λ m. omega (arith, w .place (omega arith), u .on (omega (arith, w .place (omega arith))));
               front = λ m.
-                  let f : r ≡ len = w .place (omega arith) in
+                  let f : r ≡ len = goes .on (omega arith) in
                   subst (λ (x : List ℕ). Front x 0 out₀ out₁ (len + k)) (sym z)
                   (front-both (octetsOfLexemes (w .passed)) (canon (at-tree .tree)) 0 len (len + k) out₀ out out₁ (w .front (omega arith)) (subst (λ (x : ℕ). Front (canon (at-tree .tree)) x out out₁ (x + k)) f (at-tree .front)));
               notesLong = w .notesLong;

@@ -249,9 +249,9 @@ fn hint(
     close_hint(classes, src, next, out, e, end)
 }
 
-// A string, with its hint where it has one; the place after it, or 0. Where its hint ends in `out`, brackets and all, goes to `mid`: 0
-// where it has none.
-fn node(
+// A string with its hint, from the hint's bracket on; the place after it, or 0. Where its hint ends in `out`, brackets and all, goes to
+// `mid`.
+fn hinted(
     classes: &[u8; 256],
     letters: &[u8; 256],
     src: &[u8],
@@ -263,19 +263,15 @@ fn node(
 ) -> usize
     requires { ⌜ Classed (now classes) ⌝ }
     requires { ⌜ Lettered (now letters) ⌝ }
-    requires { ⌜ (at < length (now src)) × Spare (now src) at pos (length (now out)) × (getD (now src) at 0 ≡ 40 → ⊥) × (getD (now src) at 0 ≡ 41 → ⊥) ⌝ }
+    requires { ⌜ (at < length (now src)) × Spare (now src) at pos (length (now out)) × (getD (now src) at 0 ≡ 91) ⌝ }
     ensures { λ r. ⌜ Nodes (now (src .entry)) at pos (now (out .entry)) (now (out .exit)) (now (mid .exit)) (now (end .exit)) r ⌝ }
 {
-    if src[at] == 91 {
-        let from = hint(classes, letters, src, at, out, pos, mid);
-        if from == 0 {
-            return 0;
-        }
-        let behind = *mid;
-        return simple(classes, letters, src, from, out, behind, end);
+    let from = hint(classes, letters, src, at, out, pos, mid);
+    if from == 0 {
+        return 0;
     }
-    *mid = 0;
-    simple(classes, letters, src, at, out, pos, end)
+    let behind = *mid;
+    simple(classes, letters, src, from, out, behind, end)
 }
 
 // Where writing goes on: at the front again once more octets are written than a sheet may have.
@@ -304,7 +300,6 @@ pub fn convert(
     let mut starts: [usize; limits::DEPTH] = [0; limits::DEPTH];
     let mut numbers: [usize; limits::DEPTH] = [0; limits::DEPTH];
     let mut at: usize = 0;
-    let mut o: usize = 0;
     let mut opened: usize = 0;
     let mut deepest: usize = 0;
     let mut seen: usize = 0;
@@ -325,10 +320,10 @@ pub fn convert(
             return Extent::Refused { place: 0 };
         }
         let b = src[i];
+        let o = wrap(size);
         if b == 40 {
             out[o] = 40;
             enter(&mut starts, &mut numbers, opened, o, seen);
-            o = wrap(o + 1);
             size += 1;
             opened += 1;
             deepest = walk::larger(deepest, opened);
@@ -343,7 +338,6 @@ pub fn convert(
             opened -= 1;
             leave(notes, &starts, &numbers, opened, seen, o);
             out[o] = 41;
-            o = wrap(o + 1);
             size += 1;
             at = i + 1;
             continue;
@@ -359,7 +353,6 @@ pub fn convert(
                     deepest = walk::larger(deepest, opened + depth);
                     seen += nodes;
                     size += len;
-                    o = wrap(o + len);
                     at = next;
                     continue;
                 }
@@ -370,7 +363,12 @@ pub fn convert(
         }
         let mut mid: usize = 0;
         let mut end: usize = 0;
-        let next = node(classes, letters, src, i, out, o, &mut mid, &mut end);
+        // A call through another function would store the text's place and length again for each string.
+        let next = if b == 91 {
+            hinted(classes, letters, src, i, out, o, &mut mid, &mut end)
+        } else {
+            simple(classes, letters, src, i, out, o, &mut end)
+        };
         if next == 0 {
             return Extent::Refused { place: 0 };
         }
@@ -378,7 +376,6 @@ pub fn convert(
         keep_string(notes, seen, o, mid, end, up);
         seen += 1;
         size += end - o;
-        o = wrap(end);
         at = next;
     }
 }

@@ -11,8 +11,8 @@ use Rattle.base.proofs.Cases.{none-some}
 use Rattle.base.proofs.Stores.{sets-all}
 use Rattle.model.specs.Automaton.{place}
 use Rattle.model.specs.Decode.{decode₁}
-use Rattle.model.specs.Limits.{maxSource, maxCanonical}
-use Rattle.model.specs.Tree.{Tree, canon, nodes}
+use Rattle.model.specs.Limits.{maxSource, maxCanonical, maxDepth}
+use Rattle.model.specs.Tree.{Tree, canon, nodes, depth}
 use Rattle.model.proofs.Canonical.{canon-sound, canon-complete}
 use Rattle.walk.specs.Extent.{Wholly, Measures}
 use Rattle.walk.specs.declared.Extent.{Extent}
@@ -22,6 +22,7 @@ use Rattle.blocks.specs.Fronts.{Front}
 use Rattle.blocks.proofs.Laws.{front-wrote}
 use Rattle.advanced.specs.Converted.{Converts, Enough, thrice, largest, Lent}
 use Rattle.sheets.specs.Notes.{noted, Noted}
+use Rattle.sheets.specs.Told.{Holds}
 use Rattle.sheets.proofs.Keeping.{noted-length}
 use Rattle.sheets.proofs.Held.{note-holds}
 use Rattle.sheets.proofs.Noting.{whole-refused}
@@ -47,11 +48,6 @@ module _ (o : Option Tree) (part scratch notes notes′ : List ℕ) (r : Extent)
             subst (λ (x : List ℕ). take (length x) scratch ≡ x) p (f (omega (arith, ap length p)));
         noted = λ t z h d k. note-holds part notes notes′ r v short (record { tree = t; is = sym e ∙ z; deep = d; fits = k });
       }
-
--- where a place is told, nothing is meant
-measured-none : (o : Option Tree) (r : Extent) → Measures o r → (q : ℕ) → r ≡ Refused q → o ≡ none
-unfolding Measures
-measured-none o r m q e = subst (Measures o) e m
 
 -- nothing is meant
 pub taken-none : (o : Option Tree) (p : ℕ) (scratch notes notes′ : List ℕ) → o ≡ none → Taken o p scratch notes notes′ (Refused p)
@@ -101,15 +97,16 @@ module _ (β : Bool) (o : Option Tree) (scratch notes notes′ : List ℕ) (x : 
     unfolding Measures
     whole = subst (Measures o) e (c .measures)
 
-    pub terminal-long : maxCanonical < len → Taken o 0 scratch notes notes′ (Whole len n d)
+    -- sizes and octets are those that converting told: only the notes are left to show
+    told : (notes₂ : List ℕ) → ((t : Tree) → o ≡ some t → length (canon t) ≤ maxCanonical → depth t ≤ maxDepth → nodes t ≤ length notes → Holds notes₂ (nodes t) t) → Taken o 0 scratch notes notes₂ (Whole len n d)
     unfolding Measures
-    terminal-long h =
-        record {
-          measures = whole;
-          fails = λ q f. whole-refused f;
-          octets = c .octets;
-          noted = λ t z k e f. let q : t ≡ whole .tree = cc (z, whole .is) in absurd (omega (arith, whole .long, ap (λ (x : Tree). length (canon x)) q));
-        }
+    told notes₂ g = record { measures = whole; fails = λ q f. whole-refused f; octets = c .octets; noted = g }
+
+    pub terminal-unbraced : β ≡ false → Taken o 0 scratch notes notes′ (Whole len n d)
+    terminal-unbraced b = told notes′ (converted β o scratch notes notes′ x c b .noted)
+
+    pub terminal-long : maxCanonical < len → Taken o 0 scratch notes notes′ (Whole len n d)
+    terminal-long h = told notes′ (λ t z k e f. let q : t ≡ whole .tree = cc (z, whole .is) in absurd (omega (arith, whole .long, ap (λ (x : Tree). length (canon x)) q)))
 
     module _ (h : len ≤ maxCanonical) where
       front-is : take len scratch ≡ canon (whole .tree)
@@ -124,10 +121,7 @@ module _ (β : Bool) (o : Option Tree) (scratch notes notes′ : List ℕ) (x : 
       pub terminal-short : length (take len scratch) ≤ maxSource
       terminal-short = omega (arith, terminal-part)
 
-      pub terminal-noted : length notes′ ≡ length notes → (notes₂ : List ℕ) (r : Extent) → Noted (take len scratch) notes′ notes₂ r → Taken o 0 scratch notes notes₂ r
+      pub terminal-noted : length notes′ ≡ length notes → (notes₂ : List ℕ) (r : Extent) → Noted (take len scratch) notes′ notes₂ r → Taken o 0 scratch notes notes₂ (Whole len n d)
       terminal-noted k notes₂ r v =
           let e : o ≡ decode₁ (take len scratch) = whole .is ∙ sym (ap decode₁ front-is ∙ canon-complete (whole .tree)) in
-          let m : Measures o r = subst (λ (y : Option Tree). Measures y r) (sym e) (v .measures) in
-          let n : (q : ℕ) → r ≡ Refused q → q ≡ 0 = λ q f. none-some (sym (measured-none o r m q f) ∙ whole .is) in
-          let t : Taken o 0 scratch notes′ notes₂ r = through o (take len scratch) scratch notes′ notes₂ r v terminal-short e 0 r m n (λ _. ap (λ (k : ℕ). take k scratch) (sym terminal-part)) in
-          record { measures = t .measures; fails = t .fails; octets = t .octets; noted = λ u z x y w. t .noted u z x y (omega arith) }
+          told notes₂ (λ t z x y w. note-holds (take len scratch) notes′ notes₂ r v terminal-short (record { tree = t; is = sym e ∙ z; deep = y; fits = omega arith }))

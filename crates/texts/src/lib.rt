@@ -120,26 +120,22 @@ fn take_advanced(
     requires { ⌜ Lent (length (now text)) (length (now scratch)) ⌝ }
     ensures { λ r. ⌜ Taken (decode₃ rules braces (now (text .entry))) 0 (now (scratch .exit)) (now (notes .entry)) (now (notes .exit)) r ⌝ }
 {
-    let found = advanced::convert(classes, letters, braces, text, scratch, notes);
-    if braces {
-        match found {
-            Extent::Whole { len, nodes, depth } => {
-                if len > limits::CANONICAL {
-                    return Extent::Whole {
-                        len: len,
-                        nodes: nodes,
-                        depth: depth,
-                    };
+    match advanced::convert(classes, letters, braces, text, scratch, notes) {
+        Extent::Whole { len, nodes, depth } => {
+            if braces {
+                if len <= limits::CANONICAL {
+                    let part = &scratch[..len];
+                    sheets::note(part, notes);
                 }
-                let part = &scratch[..len];
-                return sheets::note(part, notes);
             }
-            Extent::Refused { place: _ } => {
-                return Extent::Refused { place: 0 };
+            Extent::Whole {
+                len: len,
+                nodes: nodes,
+                depth: depth,
             }
         }
+        Extent::Refused { place: _ } => Extent::Refused { place: 0 },
     }
-    found
 }
 
 // The canonical octets of a text at the front of scratch, the sizes of the tree that it means, and the tree's notes as far as they
