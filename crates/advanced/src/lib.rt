@@ -44,6 +44,8 @@ fn decode(
     requires { ⌜ (at < length (now src)) × Spacious (now src) (at + 1) pos (length (now out)) ⌝ }
     ensures { λ r. ⌜ Decodes (now (src .entry)) (marked rules (getD (now (src .entry)) at 0) (drop (at + 1) (now (src .entry)))) at pos (now (out .entry)) (now (out .exit)) (now (count .exit)) r ⌝ }
 {
+    // Lent again, a slice goes on in registers.
+    let src = &*src;
     let b = src[at];
     if b == 34 {
         return marks::quotes(classes, src, at + 1, out, pos, count);
@@ -184,6 +186,7 @@ pub fn simple(
     requires { ⌜ Room (now src) at pos (length (now out)) ⌝ }
     ensures { λ r. ⌜ Spells (now (src .entry)) (simple rules (drop at (now (src .entry)))) at pos (now (out .entry)) (now (out .exit)) (now (end .exit)) r ⌝ }
 {
+    let src = &*src;
     if at >= src.len() {
         return 0;
     }

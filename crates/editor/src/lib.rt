@@ -10,7 +10,6 @@ ghost use mathlib.Core.Option.{some};
 ghost use Prim.Native.Nat.{_*_, _≤_};
 ghost use lib.ListN.{length};
 ghost use Rattle.model.specs.Tree.{list, nil};
-ghost use Rattle.octets.specs.Classes.{Classed, Lettered};
 ghost use Rattle.texts.specs.Texts.{Takeable};
 ghost use Rattle.plan.specs.Asked.{texted};
 ghost use Rattle.plan.specs.Planned.{Known};
@@ -76,8 +75,6 @@ fn place(
 
 // By a text that rows 1 and 2 don't apply to, in the local space lent. Of the text's notes only the first is asked for.
 fn change_in(
-    classes: &[u8; 256],
-    letters: &[u8; 256],
     form: u32,
     text: &[u8],
     canonical: &mut [u8],
@@ -89,8 +86,6 @@ fn change_in(
     asked: Asked,
     scratch: &mut [u8],
 ) -> Reading
-    requires { ⌜ Classed (now classes) ⌝ }
-    requires { ⌜ Lettered (now letters) ⌝ }
     requires { ⌜ Takeable form (length (now text)) (length (now scratch)) ⌝ }
     requires { ⌜ Known (now canonical) old held records (now notes) own ⌝ }
     requires { ⌜ Noteable held (2 * length (now text)) (length (now notes)) ⌝ }
@@ -98,7 +93,7 @@ fn change_in(
     ensures { λ r. ⌜ GivesMeant asked form (now (text .entry)) (now (canonical .entry)) old held records own (now (canonical .exit)) (now (notes .exit)) r ⌝ }
 {
     let mut one: [usize; 1] = [0; 1];
-    match texts::take(classes, letters, form, text, scratch, &mut one) {
+    match texts::take(form, text, scratch, &mut one) {
         Extent::Whole { len, nodes, depth } => {
             let sizes = Sizes { len, nodes, depth };
             place(
@@ -139,51 +134,13 @@ fn text_by(
     if row > 0 {
         return refused(row);
     }
-    let classes = octets::classes();
-    let letters = octets::letters();
     if text.len() <= limits::SHORT {
-        return tiers::change_short(
-            &classes,
-            &letters,
-            form,
-            text,
-            canonical,
-            notes,
-            own,
-            records,
-            old,
-            held,
-            asked,
-        );
+        return tiers::change_short(form, text, canonical, notes, own, records, old, held, asked);
     }
     if text.len() <= limits::MIDDLE {
-        return tiers::change_middle(
-            &classes,
-            &letters,
-            form,
-            text,
-            canonical,
-            notes,
-            own,
-            records,
-            old,
-            held,
-            asked,
-        );
+        return tiers::change_middle(form, text, canonical, notes, own, records, old, held, asked);
     }
-    tiers::change_long(
-        &classes,
-        &letters,
-        form,
-        text,
-        canonical,
-        notes,
-        own,
-        records,
-        old,
-        held,
-        asked,
-    )
+    tiers::change_long(form, text, canonical, notes, own, records, old, held, asked)
 }
 
 // By nothing: what stood there goes.

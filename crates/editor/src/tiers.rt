@@ -4,7 +4,6 @@ ghost use mathlib.Core.Bool.{true};
 ghost use Prim.Native.Nat.{_*_};
 ghost use lib.ListN.{length};
 ghost use Rattle.model.specs.Limits.{maxSource};
-ghost use Rattle.octets.specs.Classes.{Classed, Lettered};
 ghost use Rattle.texts.specs.Texts.{Formed};
 ghost use Rattle.plan.specs.Asked.{texted};
 ghost use Rattle.plan.specs.Planned.{Known};
@@ -14,8 +13,6 @@ use answers::Reading;
 use plan::Asked;
 
 pub fn change_short(
-    classes: &[u8; 256],
-    letters: &[u8; 256],
     form: u32,
     text: &[u8],
     canonical: &mut [u8],
@@ -26,8 +23,6 @@ pub fn change_short(
     held: usize,
     asked: Asked,
 ) -> Reading
-    requires { ⌜ Classed (now classes) ⌝ }
-    requires { ⌜ Lettered (now letters) ⌝ }
     requires { ⌜ Formed form (length (now text)) 128 ⌝ }
     requires { ⌜ Known (now canonical) old held records (now notes) own ⌝ }
     requires { ⌜ Noteable held (2 * length (now text)) (length (now notes)) ⌝ }
@@ -36,8 +31,6 @@ pub fn change_short(
 {
     let mut scratch: [u8; limits::SHORT_SCRATCH] = [0; limits::SHORT_SCRATCH];
     change_in(
-        classes,
-        letters,
         form,
         text,
         canonical,
@@ -52,8 +45,6 @@ pub fn change_short(
 }
 
 pub fn change_middle(
-    classes: &[u8; 256],
-    letters: &[u8; 256],
     form: u32,
     text: &[u8],
     canonical: &mut [u8],
@@ -64,8 +55,6 @@ pub fn change_middle(
     held: usize,
     asked: Asked,
 ) -> Reading
-    requires { ⌜ Classed (now classes) ⌝ }
-    requires { ⌜ Lettered (now letters) ⌝ }
     requires { ⌜ Formed form (length (now text)) 1024 ⌝ }
     requires { ⌜ Known (now canonical) old held records (now notes) own ⌝ }
     requires { ⌜ Noteable held (2 * length (now text)) (length (now notes)) ⌝ }
@@ -74,8 +63,6 @@ pub fn change_middle(
 {
     let mut scratch: [u8; limits::MIDDLE_SCRATCH] = [0; limits::MIDDLE_SCRATCH];
     change_in(
-        classes,
-        letters,
         form,
         text,
         canonical,
@@ -90,8 +77,6 @@ pub fn change_middle(
 }
 
 pub fn change_long(
-    classes: &[u8; 256],
-    letters: &[u8; 256],
     form: u32,
     text: &[u8],
     canonical: &mut [u8],
@@ -102,8 +87,6 @@ pub fn change_long(
     held: usize,
     asked: Asked,
 ) -> Reading
-    requires { ⌜ Classed (now classes) ⌝ }
-    requires { ⌜ Lettered (now letters) ⌝ }
     requires { ⌜ Formed form (length (now text)) maxSource ⌝ }
     requires { ⌜ Known (now canonical) old held records (now notes) own ⌝ }
     requires { ⌜ Noteable held (2 * length (now text)) (length (now notes)) ⌝ }
@@ -112,8 +95,6 @@ pub fn change_long(
 {
     let mut scratch: [u8; limits::LONG_SCRATCH] = [0; limits::LONG_SCRATCH];
     change_in(
-        classes,
-        letters,
         form,
         text,
         canonical,

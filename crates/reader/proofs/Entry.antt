@@ -1,4 +1,4 @@
--- The entry: rows 1 and 2, and then what the text's tree gives, in local space of one of three sizes.
+-- The entry: rows 1 and 2, and then what the text's tree gives, in local space of one of several sizes.
 use Prim.Native.Nat.{ℕ, _+_, _*_, _≤_, _<_}
 use native.Mathlib.Omega.{arith}
 use mathlib.Core.Path.{_≡_, sym, ap, _∙_}

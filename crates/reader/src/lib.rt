@@ -7,7 +7,6 @@ ghost use lib.ListN.{length};
 ghost use Rattle.model.specs.Decode.{decode};
 ghost use Rattle.model.specs.Answers.{placeOf, reading};
 ghost use Rattle.answers.specs.Cases.{outcome};
-ghost use Rattle.octets.specs.Classes.{Classed, Lettered};
 ghost use Rattle.reader.specs.Stored.{roomVerdict, readTree, Noteable, Spaced, Puts};
 use answers::Reading;
 use answers::refused;
@@ -35,8 +34,6 @@ pub fn room(len: usize, nodes: usize, depth: usize, octets: usize, records: usiz
 
 // All but the table, for which so many records are lent: the text judged and its octets put. The notes tell the table.
 pub fn put(
-    classes: &[u8; 256],
-    letters: &[u8; 256],
     form: u32,
     source: &[u8],
     canonical: &mut [u8],
@@ -44,12 +41,10 @@ pub fn put(
     scratch: &mut [u8],
     notes: &mut [usize],
 ) -> Reading
-    requires { ⌜ Classed (now classes) ⌝ }
-    requires { ⌜ Lettered (now letters) ⌝ }
     requires { ⌜ Spaced form (length (now source)) (length (now scratch)) (length (now notes)) ⌝ }
     ensures { λ r. ⌜ Puts (readTree (decode form (now (source .entry))) (placeOf form (now (source .entry))) (now (canonical .entry))) (now (canonical .exit)) records (now (notes .exit)) r ⌝ }
 {
-    match texts::take(classes, letters, form, source, scratch, notes) {
+    match texts::take(form, source, scratch, notes) {
         Extent::Whole { len, nodes, depth } => {
             let row = room(len, nodes, depth, canonical.len(), records);
             if row > 0 {
@@ -64,8 +59,6 @@ pub fn put(
 
 // A text that rows 1 and 2 don't apply to, in the local space lent.
 fn read_in(
-    classes: &[u8; 256],
-    letters: &[u8; 256],
     form: u32,
     source: &[u8],
     canonical: &mut [u8],
@@ -73,22 +66,11 @@ fn read_in(
     scratch: &mut [u8],
     notes: &mut [usize],
 ) -> Reading
-    requires { ⌜ Classed (now classes) ⌝ }
-    requires { ⌜ Lettered (now letters) ⌝ }
     requires { ⌜ Spaced form (length (now source)) (length (now scratch)) (length (now notes)) ⌝ }
     ensures { λ r. ⌜ outcome r (now (canonical .exit)) (now (table .exit)) ≡ readTree (decode form (now (source .entry))) (placeOf form (now (source .entry))) (now (canonical .entry)) (now (table .entry)) ⌝ }
 {
     let records = table.len() / limits::WIDTH;
-    match put(
-        classes,
-        letters,
-        form,
-        source,
-        canonical,
-        records,
-        scratch,
-        notes,
-    ) {
+    match put(form, source, canonical, records, scratch, notes) {
         Reading::Accepted { length, nodes } => {
             sheets::fill(notes, nodes, table);
             Reading::Accepted { length, nodes }
@@ -103,6 +85,8 @@ fn read_in(
 pub fn read(form: u32, source: &[u8], canonical: &mut [u8], table: &mut [u32]) -> Reading
     ensures { λ r. ⌜ outcome r (now (canonical .exit)) (now (table .exit)) ≡ reading form (now (source .entry)) (now (canonical .entry)) (now (table .entry)) ⌝ }
 {
+    // Lent again, a slice goes on in registers.
+    let source = &*source;
     let row = texts::row(form, source.len());
     if row > 0 {
         return refused(row);
@@ -112,15 +96,16 @@ pub fn read(form: u32, source: &[u8], canonical: &mut [u8], table: &mut [u32]) -
     if texts::bare(form, source) {
         return read(1, source, canonical, table);
     }
-    let classes = octets::classes();
-    let letters = octets::letters();
+    if source.len() <= tiers::BRIEF {
+        return tiers::read_brief(form, source, canonical, table);
+    }
     if source.len() <= limits::SHORT {
-        return tiers::read_short(&classes, &letters, form, source, canonical, table);
+        return tiers::read_short(form, source, canonical, table);
     }
     if source.len() <= limits::MIDDLE {
-        return tiers::read_middle(&classes, &letters, form, source, canonical, table);
+        return tiers::read_middle(form, source, canonical, table);
     }
-    tiers::read_long(&classes, &letters, form, source, canonical, table)
+    tiers::read_long(form, source, canonical, table)
 }
 
 // The same but for the table, for which so many records are lent: the notes tell it.
@@ -138,13 +123,11 @@ pub fn read_notes(
     if row > 0 {
         return refused(row);
     }
-    let classes = octets::classes();
-    let letters = octets::letters();
     if source.len() <= limits::SHORT {
-        return tiers::put_short(&classes, &letters, form, source, canonical, records, notes);
+        return tiers::put_short(form, source, canonical, records, notes);
     }
     if source.len() <= limits::MIDDLE {
-        return tiers::put_middle(&classes, &letters, form, source, canonical, records, notes);
+        return tiers::put_middle(form, source, canonical, records, notes);
     }
-    tiers::put_long(&classes, &letters, form, source, canonical, records, notes)
+    tiers::put_long(form, source, canonical, records, notes)
 }

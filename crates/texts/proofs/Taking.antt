@@ -64,11 +64,15 @@ module _ (text scratch : List ℕ) (g : Lent (length text) (length scratch)) whe
   pub canonical-room : (0 + length text ≤ length text) × (0 + length text ≤ length scratch)
   canonical-room = (omega arith, omega (arith, lent-room (length text) (length scratch) g))
 
-  pub canonical-copied : (scratch′ : List ℕ) (p : ℕ) → Wrote (take (length text) (drop 0 text)) 0 scratch scratch′ p → (notes notes′ : List ℕ) (r : Extent) → Noted text notes notes′ r → Taken (decode₁ text) (place text) scratch′ notes notes′ r
-  canonical-copied scratch′ p w notes notes′ r v =
-      let q : Wrote text 0 scratch scratch′ p = subst (λ (x : List ℕ). Wrote x 0 scratch scratch′ p) (take-length text) w in
-      let f : Front text 0 scratch scratch′ p = front-wrote text 0 p scratch scratch′ q (canonical-room .1) in
-      through (decode₁ text) text scratch′ notes notes′ r v (g .short) refl (place text) r (v .measures) (v .fails) (λ _. let z : length text ≡ p = omega (arith, f .place) in rw z (f .same))
+  module _ (scratch′ : List ℕ) (p : ℕ) (w : Wrote (take (length text) (drop 0 text)) 0 scratch scratch′ p) (notes notes′ : List ℕ) (r : Extent) (v : Noted text notes notes′ r) where
+    copied : Taken (decode₁ text) (place text) scratch′ notes notes′ r
+    copied =
+        let q : Wrote text 0 scratch scratch′ p = subst (λ (x : List ℕ). Wrote x 0 scratch scratch′ p) (take-length text) w in
+        let f : Front text 0 scratch scratch′ p = front-wrote text 0 p scratch scratch′ q (canonical-room .1) in
+        through (decode₁ text) text scratch′ notes notes′ r v (g .short) refl (place text) r (v .measures) (v .fails) (λ _. let z : length text ≡ p = omega (arith, f .place) in rw z (f .same))
+
+    pub canonical-copied : (r′ : Extent) → r ≡ r′ → Taken (decode₁ text) (place text) scratch′ notes notes′ r′
+    canonical-copied r′ e = subst (Taken (decode₁ text) (place text) scratch′ notes notes′) e copied
 
 -- ---- advanced text
 pub converted : (β : Bool) (o : Option Tree) (scratch notes notes′ : List ℕ) (r : Extent) → Converts β o scratch notes notes′ r → β ≡ false → Taken o 0 scratch notes notes′ r

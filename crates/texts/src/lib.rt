@@ -8,7 +8,7 @@ ghost use Rattle.model.specs.Automaton.{place};
 ghost use Rattle.model.specs.Decode.{decode₁, decode₂, decode₃, decode};
 ghost use Rattle.octets.specs.Classes.{Classed, Lettered};
 ghost use Rattle.advanced.specs.Converted.{Lent};
-ghost use Rattle.texts.specs.Texts.{textVerdict, Takeable, Braced, Opens, Bare, Taken};
+ghost use Rattle.texts.specs.Texts.{textVerdict, Takeable, Braced, Opens, Bare, Literal, Taken};
 use walk::Extent;
 
 // Row 1 or 2, of a form and a text's length; 0 where neither applies.
@@ -56,6 +56,19 @@ pub fn bare(form: u32, text: &[u8]) -> bool
     true
 }
 
+// Whether a text is its own canonical octets: canonical text, and basic text outside braces.
+fn literal(form: u32, text: &[u8]) -> bool
+    ensures { λ r. ⌜ Literal form (now (text .entry)) r ⌝ }
+{
+    if form >= 3 {
+        return false;
+    }
+    if braced(form, text) {
+        return false;
+    }
+    true
+}
+
 // Canonical text is its own octets.
 fn take_canonical(text: &[u8], scratch: &mut [u8], notes: &mut [usize]) -> Extent
     requires { ⌜ Lent (length (now text)) (length (now scratch)) ⌝ }
@@ -66,7 +79,19 @@ fn take_canonical(text: &[u8], scratch: &mut [u8], notes: &mut [usize]) -> Exten
         return sheets::note(text, notes);
     }
     scan::copy(text, 0, len, scratch, 0);
-    sheets::note(text, notes)
+    // Taken apart, so that what `note` stored by single numbers is not loaded by pairs, for which the processor would wait.
+    match sheets::note(text, notes) {
+        Extent::Whole {
+            len: octets,
+            nodes,
+            depth,
+        } => Extent::Whole {
+            len: octets,
+            nodes,
+            depth,
+        },
+        Extent::Refused { place } => Extent::Refused { place },
+    }
 }
 
 // Base-64 in braces: what it decodes to is canonical text. No place is told of it.
@@ -139,25 +164,21 @@ fn take_advanced(
 }
 
 // The canonical octets of a text at the front of scratch, the sizes of the tree that it means, and the tree's notes as far as they
-// have room. No limit of depth, nodes or octets decides whether the text is one.
-pub fn take(
-    classes: &[u8; 256],
-    letters: &[u8; 256],
-    form: u32,
-    text: &[u8],
-    scratch: &mut [u8],
-    notes: &mut [usize],
-) -> Extent
-    requires { ⌜ Classed (now classes) ⌝ }
-    requires { ⌜ Lettered (now letters) ⌝ }
+// have room. No limit of depth, nodes or octets decides whether the text is one. The lists of classes and letters are built for texts
+// that ask for them alone.
+pub fn take(form: u32, text: &[u8], scratch: &mut [u8], notes: &mut [usize]) -> Extent
     requires { ⌜ Takeable form (length (now text)) (length (now scratch)) ⌝ }
     ensures { λ r. ⌜ Taken (decode form (now (text .entry))) (placeOf form (now (text .entry))) (now (scratch .exit)) (now (notes .entry)) (now (notes .exit)) r ⌝ }
 {
+    // Lent again, a slice goes on in registers.
+    let text = &*text;
+    if literal(form, text) {
+        return take_canonical(text, scratch, notes);
+    }
+    let classes = octets::classes();
+    let letters = octets::letters();
     if form >= 3 {
-        return take_advanced(classes, letters, form == 4, text, scratch, notes);
+        return take_advanced(&classes, &letters, form == 4, text, scratch, notes);
     }
-    if braced(form, text) {
-        return take_braced(classes, letters, text, scratch, notes);
-    }
-    take_canonical(text, scratch, notes)
+    take_braced(&classes, &letters, text, scratch, notes)
 }

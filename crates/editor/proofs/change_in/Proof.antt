@@ -10,7 +10,7 @@ place-requires c κs =
     let taken = told .before .before .before .before .before in
     let entry = taken .before .before .before .before .before .before .before in
     let args = entry .args in (
-      change-placeable _ _ _ (entry .pre .1 .1 .0) (args .canonical .now) (args .old) (args .held) (args .records) (args .own) (args .asked) _ _ _ _ (taken .take .ensures) _ _ _ (told .len .given .1) (entry .pre .1 .1 .1 .1 .1) (search needs),
+      change-placeable _ _ _ (entry .pre .0) (args .canonical .now) (args .old) (args .held) (args .records) (args .own) (args .asked) _ _ _ _ (taken .take .ensures) _ _ _ (told .len .given .1) (entry .pre .1 .1 .1) (search needs),
       (search needs, search (change-noteable, arith)),
     )
 
@@ -20,7 +20,7 @@ returns c =
     let told = placed .before .before .before .before .before in
     let taken = told .before .before .before .before .before in
     let entry = taken .before .before .before .before .before .before .before in
-    change-placed _ _ _ (entry .pre .1 .1 .0) _ _ _ _ _ _ _ _ _ _ (taken .take .ensures) _ _ _ (told .len .given .1) (entry .pre .1 .1 .1 .1 .1) _ _ _ (placed .place .ensures)
+    change-placed _ _ _ (entry .pre .0) _ _ _ _ _ _ _ _ _ _ (taken .take .ensures) _ _ _ (told .len .given .1) (entry .pre .1 .1 .1) _ _ _ (placed .place .ensures)
 
 returns-2 : tie.Need-returns-2
 returns-2 c = search (change-none, arith)

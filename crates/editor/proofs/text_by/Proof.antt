@@ -9,19 +9,19 @@ returns : tie.Need-returns
 returns c = search (change-refused, arith)
 
 change-short-requires : tie.Need-change-short-requires
-change-short-requires c κs = (search needs, (search needs, (search (formed, arith), (search needs, (search needs, search needs)))))
+change-short-requires c κs = (search (formed, arith), (search needs, (search needs, search needs)))
 
 returns-2 : tie.Need-returns-2
 returns-2 c = search (change-taken, arith)
 
 change-middle-requires : tie.Need-change-middle-requires
-change-middle-requires c κs = (search needs, (search needs, (search (formed, arith), (search needs, (search needs, search needs)))))
+change-middle-requires c κs = (search (formed, arith), (search needs, (search needs, search needs)))
 
 returns-3 : tie.Need-returns-3
 returns-3 c = search (change-taken, arith)
 
 change-long-requires : tie.Need-change-long-requires
-change-long-requires c κs = (search needs, (search needs, (search (formed-long, arith), (search needs, (search needs, search needs)))))
+change-long-requires c κs = (search (formed-long, arith), (search needs, (search needs, search needs)))
 
 returns-4 : tie.Need-returns-4
 returns-4 c = search (change-taken, arith)
@@ -33,8 +33,6 @@ text-by-spec =
     (λ c κs. search needs)
     (λ c κs. search needs)
     returns
-    (λ c κs. search needs)
-    (λ c κs. search needs)
     change-short-requires
     (λ c. search needs)
     (λ c. search needs)

@@ -10,8 +10,7 @@ use Rattle.reader.proofs.read.Reads as read
 use Rattle.reader.proofs.read.Kinds as read-kinds
 use Rattle.reader.proofs.+read.Lts-read as read-lts
 use Rattle.answers.proofs.refused.Reads as refused-reads
-use Rattle.octets.proofs.classes.Reads as classes-reads
-use Rattle.octets.proofs.letters.Reads as letters-reads
+use Rattle.reader.proofs.tiers.read_brief.Reads as read-brief-reads
 use Rattle.reader.proofs.tiers.read_long.Reads as read-long-reads
 use Rattle.reader.proofs.tiers.read_middle.Reads as read-middle-reads
 use Rattle.reader.proofs.tiers.read_short.Reads as read-short-reads
@@ -39,10 +38,8 @@ pub +read-spec : {M : Type 1} → statement M
   bare-reads.Learnt,
   read-below t,
   read.Post,
-  classes-reads.Asked,
-  classes-reads.Learnt,
-  letters-reads.Asked,
-  letters-reads.Learnt,
+  read-brief-reads.Asked,
+  read-brief-reads.Learnt,
   read-short-reads.Asked,
   read-short-reads.Learnt,
   read-middle-reads.Asked,
@@ -60,17 +57,19 @@ pub +read-spec : {M : Type 1} → statement M
     (λ c. search needs)
     (λ c. search needs)
     (λ c. search (read-bare, arith))
-    (λ c κs. search needs)
-    (λ c κs. search needs)
-    (λ c κs. (search needs, (search needs, search (formed, arith))))
+    (λ c κs. search (formed, arith))
     (λ c. search needs)
     (λ c. search needs)
     (λ c. search (read-taken, arith))
-    (λ c κs. (search needs, (search needs, search (formed, arith))))
+    (λ c κs. search (formed, arith))
     (λ c. search needs)
     (λ c. search needs)
     (λ c. search (read-taken, arith))
-    (λ c κs. (search needs, (search needs, search (formed-long, arith))))
+    (λ c κs. search (formed, arith))
+    (λ c. search needs)
+    (λ c. search needs)
+    (λ c. search (read-taken, arith))
+    (λ c κs. search (formed-long, arith))
     (λ c. search needs)
     (λ c. search needs)
     (λ c. search (read-taken, arith))

@@ -9,19 +9,19 @@ returns : tie.Need-returns
 returns c = search (notes-refused, arith)
 
 put-short-requires : tie.Need-put-short-requires
-put-short-requires c κs = (search needs, (search needs, (search (formed, arith), search needs)))
+put-short-requires c κs = (search (formed, arith), search needs)
 
 returns-2 : tie.Need-returns-2
 returns-2 c = search (notes-taken, arith)
 
 put-middle-requires : tie.Need-put-middle-requires
-put-middle-requires c κs = (search needs, (search needs, (search (formed, arith), search needs)))
+put-middle-requires c κs = (search (formed, arith), search needs)
 
 returns-3 : tie.Need-returns-3
 returns-3 c = search (notes-taken, arith)
 
 put-long-requires : tie.Need-put-long-requires
-put-long-requires c κs = (search needs, (search needs, (search (formed-long, arith), search needs)))
+put-long-requires c κs = (search (formed-long, arith), search needs)
 
 returns-4 : tie.Need-returns-4
 returns-4 c = search (notes-taken, arith)
@@ -33,8 +33,6 @@ read-notes-spec =
     (λ c κs. search needs)
     (λ c κs. search needs)
     returns
-    (λ c κs. search needs)
-    (λ c κs. search needs)
     put-short-requires
     (λ c. search needs)
     (λ c. search needs)

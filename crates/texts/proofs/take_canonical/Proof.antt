@@ -13,6 +13,9 @@ copy-requires c κs = search (canonical-room, arith)
 returns-2 : tie.Need-returns-2
 returns-2 c = search (canonical-copied, arith)
 
+returns-3 : tie.Need-returns-3
+returns-3 c = search (canonical-copied, arith)
+
 pub take-canonical-spec : {M : Type 1} → statement M
 take-canonical-spec =
     tie.close
@@ -24,4 +27,9 @@ take-canonical-spec =
     (λ c κs. search needs)
     (λ c. search needs)
     (λ c. search needs)
-    returns-2)
+    (λ c. search needs)
+    (λ c. search needs)
+    returns-2
+    (λ c. search needs)
+    (λ c. search needs)
+    returns-3)

@@ -4,7 +4,7 @@ use Rattle.editor.proofs.tiers.change_long.Statement.{statement}
 use Rattle.editor.proofs.tiers.change_long.Tie as tie
 
 change-in-requires : tie.Need-change-in-requires
-change-in-requires c κs = (search needs, (search needs, (long-takes _ _ _ (search needs) (search needs) (search needs), (search needs, (search needs, search needs)))))
+change-in-requires c κs = (long-takes _ _ _ (search needs) (search needs) (search needs), (search needs, (search needs, search needs)))
 
 pub change-long-spec : {M : Type 1} → statement M
 change-long-spec =

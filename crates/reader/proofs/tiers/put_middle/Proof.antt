@@ -5,7 +5,7 @@ use Rattle.reader.proofs.tiers.put_middle.Statement.{statement}
 use Rattle.reader.proofs.tiers.put_middle.Tie as tie
 
 put-requires : tie.Need-put-requires
-put-requires c κs = (search needs, (search needs, noted-spaced _ _ _ _ 1024 (search needs) (omega arith) (search needs) (search needs) (search needs)))
+put-requires c κs = noted-spaced _ _ _ _ 1024 (search needs) (omega arith) (search needs) (search needs) (search needs)
 
 pub put-middle-spec : {M : Type 1} → statement M
 put-middle-spec = tie.close (tie.spec (λ c. search needs) put-requires (λ c. search needs) (λ c. search needs) (λ c. search needs))
