@@ -13,7 +13,7 @@ pub fn extract(sheet: &[u8], length: usize, canonical: &mut [u8], records: &mut 
     ensures { λ r. ⌜ outcome r (now (canonical .exit)) (numbers (now (records .exit))) ≡ extracting (now (sheet .entry)) length (now (canonical .entry)) (numbers (now (records .entry))) ⌝ }
 {
     let mut notes: [usize; limits::NODES] = [0; limits::NODES];
-    let r = extract::extract_notes(sheet, length, canonical, &mut notes, records.len());
+    let r = extract::extract_full(sheet, length, canonical, &mut notes, records.len());
     tell(records, &notes, r, 0);
     r
 }
@@ -32,7 +32,7 @@ pub fn extract_own(
     let mut notes: [usize; limits::NODES] = [0; limits::NODES];
     let noted = lookup::note_sheet(sheet, length, &mut notes, rows.len(), nodes);
     let own = holds(rows, &notes, noted, nodes);
-    let r = extract::give(
+    let r = extract::give_full(
         sheet,
         length,
         &mut notes,

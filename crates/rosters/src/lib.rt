@@ -22,7 +22,7 @@ pub fn value(
     let mut notes: [usize; limits::NODES] = [0; limits::NODES];
     let noted = lookup::note_sheet(canonical, length, &mut notes, records.len(), nodes);
     let own = records::holds(records, &notes, noted, nodes);
-    shifts::value_by(canonical, &notes, nodes, node, own)
+    shifts::value_full(canonical, &notes, nodes, node, own)
 }
 
 // A node's line with its total.
@@ -38,7 +38,7 @@ pub fn line(
     let mut notes: [usize; limits::NODES] = [0; limits::NODES];
     let noted = lookup::note_sheet(canonical, length, &mut notes, records.len(), nodes);
     let own = records::holds(records, &notes, noted, nodes);
-    shifts::line_by(canonical, &notes, nodes, node, own)
+    shifts::line_full(canonical, &notes, nodes, node, own)
 }
 
 // The sum of a list of lines.
@@ -54,5 +54,5 @@ pub fn week(
     let mut notes: [usize; limits::NODES] = [0; limits::NODES];
     let noted = lookup::note_sheet(canonical, length, &mut notes, records.len(), nodes);
     let own = records::holds(records, &notes, noted, nodes);
-    shifts::week_by(canonical, &notes, nodes, node, own)
+    shifts::week_full(canonical, &notes, nodes, node, own)
 }

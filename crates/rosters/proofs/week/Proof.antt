@@ -1,4 +1,4 @@
--- `rosters::week` meets its contract: a walk of its MIR, by hand, of three calls, as `records::place` has it. The notes are lent as `&mut` to `lookup::note_sheet`, and as `&` to `records::holds` and to `shifts::week_by`.
+-- `rosters::week` meets its contract: a walk of its MIR, by hand, of three calls, as `records::place` has it. The notes are lent as `&mut` to `lookup::note_sheet`, and as `&` to `records::holds` and to `shifts::week_full`.
 -- All that the proof knows of the three is that each meets its contract.
 use mathlib.Core.Path.{_≡_, refl, ap}
 use Prim.Native.Nat.{ℕ, _<_, _^_}
@@ -67,10 +67,10 @@ use Rattle.typed.specs.declared.Summing.{Summing}
 use Rattle.typed.proofs.Summing as P
 use Rattle.typed.proofs.Summing.Laws as P′
 use Rattle.shifts.specs.Known.{KnownIf, Sums}
-use Rattle.shifts.proofs.week_by as core
-use Rattle.shifts.proofs.week_by.Symbol as core-def
-use Rattle.shifts.proofs.week_by.Symbol.{name as #core}
-use Rattle.shifts.proofs.week_by.Met as core-thm
+use Rattle.shifts.proofs.week_full as core
+use Rattle.shifts.proofs.week_full.Symbol as core-def
+use Rattle.shifts.proofs.week_full.Symbol.{name as #core}
+use Rattle.shifts.proofs.week_full.Met as core-thm
 use Rattle.rosters.proofs.week.Key.{name as #entry}
 use Rattle.rosters.proofs.week as entry
 use Rattle.rosters.proofs.week.Statement as stated
@@ -151,7 +151,7 @@ module _ {M : Type 1} (𝓤 : URA M) (H : Heap 𝓤) (A : Atoms 𝓤) (W : Given
   abbrev Told : List ℕ → Bool → Summing → Type 0
   Told f′ own r = Sums (can .now) f′ nodes node own r
 
-  -- the same of `shifts::week_by`
+  -- the same of `shifts::week_full`
   module _ (l ν : ℕ) (ε : GName) (f′ : List ℕ) (own : Bool) where
     abbrev to-core : Core 𝓤 H A mem run .Ghost
     to-core = (((κ₀, (ν ∷ [], tt)), (q₀, (fullShare, tt)), tt, (can, (at-local l ε f′, (nodes, (node, (own, tt))))), (sc ∷ [], (vptr l 0 ∷ [], (vint w64 nodes ∷ [], (vint w64 node ∷ [], (vbool own ∷ [], tt)))))), tt)
@@ -270,4 +270,4 @@ week-spec 𝓤 H 𝓜 𝓖 𝓡 =
     (meets 𝓤 H (𝓖 .A) (givenOf 𝓤 H 𝓜 𝓖) (𝓜 .mem) (𝓡 .run) (tablesOf 𝓤 H 𝓜 (tables 𝓤 H 𝓜 𝓡 code.env))
     (cited 𝓤 H (Noting 𝓤 H (𝓖 .A) (𝓜 .mem) (𝓡 .run)) 𝓜 𝓡 code.env #note-sheet noting-def.routine code.calls-lookup·noted·note-sheet (noting-thm.met 𝓤 H 𝓜 𝓖 𝓡))
     (cited 𝓤 H (Holding 𝓤 H (𝓖 .A) (𝓜 .mem) (𝓡 .run)) 𝓜 𝓡 code.env #holds holding-def.routine code.calls-records·holds (holding-thm.met 𝓤 H 𝓜 𝓖 𝓡))
-    (cited 𝓤 H (Core 𝓤 H (𝓖 .A) (𝓜 .mem) (𝓡 .run)) 𝓜 𝓡 code.env #core core-def.routine code.calls-shifts·week-by (core-thm.met 𝓤 H 𝓜 𝓖 𝓡)))
+    (cited 𝓤 H (Core 𝓤 H (𝓖 .A) (𝓜 .mem) (𝓡 .run)) 𝓜 𝓡 code.env #core core-def.routine code.calls-shifts·week-full (core-thm.met 𝓤 H 𝓜 𝓖 𝓡)))

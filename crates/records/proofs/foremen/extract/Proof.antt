@@ -1,6 +1,6 @@
--- `records::extract` meets its contract: a walk of its MIR, by hand, of two calls, as that of `records::read`. The notes are lent as `&mut` to `extract::extract_notes` and as `&` to `tell`, each for a lifetime that is made for the call, and comes back.
--- Sheet and records are passed on whole, so at exit only what they hold last is had of them. All that the proof knows of `extract::extract_notes` and `tell` is that each meets its contract.
---     reads, tells, leaves     the call of `extract::extract_notes` with what stands before it, the call of `tell`, and the end
+-- `records::extract` meets its contract: a walk of its MIR, by hand, of two calls, as that of `records::read`. The notes are lent as `&mut` to `extract::extract_full` and as `&` to `tell`, each for a lifetime that is made for the call, and comes back.
+-- Sheet and records are passed on whole, so at exit only what they hold last is had of them. All that the proof knows of `extract::extract_full` and `tell` is that each meets its contract.
+--     reads, tells, leaves     the call of `extract::extract_full` with what stands before it, the call of `tell`, and the end
 use mathlib.Core.Path.{_≡_, refl, _∙_, ap}
 use Prim.Native.Nat.{ℕ, _<_, _^_}
 use mathlib.Core.List.{[], _∷_, List}
@@ -59,10 +59,10 @@ use Rattle.records.proofs.Noted.{zeros, zeros-typed, zeroed, at-local, 
 use Rattle.records.proofs.Retelling.{Telling, to-tell, goes-tell, Told, TellLast}
 use Rattle.records.proofs.Tabling.{put-tells, put-told}
 use Rattle.records.proofs.Record as T
-use Rattle.extract.proofs.extract_notes as core
-use Rattle.extract.proofs.extract_notes.Symbol as core-def
-use Rattle.extract.proofs.extract_notes.Symbol.{name as #core}
-use Rattle.extract.proofs.extract_notes.Met as core-thm
+use Rattle.extract.proofs.extract_full as core
+use Rattle.extract.proofs.extract_full.Symbol as core-def
+use Rattle.extract.proofs.extract_full.Symbol.{name as #core}
+use Rattle.extract.proofs.extract_full.Met as core-thm
 use Rattle.records.proofs.tell.Symbol as tell-def
 use Rattle.records.proofs.tell.Symbol.{name as #tell}
 use Rattle.records.proofs.tell.Met as tell-thm
@@ -118,7 +118,7 @@ module _ {M : Type 1} (𝓤 : URA M) (H : Heap 𝓤) (A : Atoms 𝓤) (W : Given
   abbrev Post : Val → SProp 𝓤
   Post = walkOf 𝓤 H A entry.ended stayed (entry.clauses 𝓤 H A mem run) .post ((κs, (q₀, (q₁, (q₂, tt))), tt, a, vals), tt)
 
-  -- what `extract::extract_notes`'s triple binds outside, what it asks, and what it says
+  -- what `extract::extract_full`'s triple binds outside, what it asks, and what it says
   abbrev to-core : ℕ → ℕ → GName → Core 𝓤 H A mem run .Ghost
   to-core l ν ε = (((κ₀, (κ₁, (ν ∷ [], tt))), (q₀, (q₁, (fullShare, tt))), tt, (src, (len, (can, (at-local l ε zeros, (room, tt))))), (ss ∷ [], (vint w64 len ∷ [], (sc ∷ [], (vptr l 0 ∷ [], (vint w64 room ∷ [], tt)))))), tt)
 
@@ -232,5 +232,5 @@ extract-spec 𝓤 H 𝓜 𝓖 𝓡 =
     entered 𝓤 H (tripleOf 𝓤 H (𝓖 .A) entry.signature (entry.spec 𝓤 H (𝓖 .A) (𝓜 .mem) (𝓡 .run)))
     (tables 𝓤 H 𝓜 𝓡 code.env .C) (tables 𝓤 H 𝓜 𝓡 code.env .Λ) #entry code.function (code.unfolded 𝓤 H 𝓜 𝓡)
     (meets 𝓤 H (𝓖 .A) (givenOf 𝓤 H 𝓜 𝓖) (𝓜 .mem) (𝓡 .run) (tablesOf 𝓤 H 𝓜 (tables 𝓤 H 𝓜 𝓡 code.env))
-    (cited 𝓤 H (Core 𝓤 H (𝓖 .A) (𝓜 .mem) (𝓡 .run)) 𝓜 𝓡 code.env #core core-def.routine code.calls-extract·extract-notes (core-thm.met 𝓤 H 𝓜 𝓖 𝓡))
+    (cited 𝓤 H (Core 𝓤 H (𝓖 .A) (𝓜 .mem) (𝓡 .run)) 𝓜 𝓡 code.env #core core-def.routine code.calls-extract·extract-full (core-thm.met 𝓤 H 𝓜 𝓖 𝓡))
     (cited 𝓤 H (Telling 𝓤 H (𝓖 .A) (𝓜 .mem) (𝓡 .run)) 𝓜 𝓡 code.env #tell tell-def.routine code.calls-records·tell (tell-thm.met 𝓤 H 𝓜 𝓖 𝓡)))

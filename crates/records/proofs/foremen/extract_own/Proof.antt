@@ -1,4 +1,4 @@
--- `records::extract_own` meets its contract: a walk of its MIR, by hand, of four calls. The notes are lent as `&mut` to `lookup::note_sheet` and to `extract::give`, and as `&` to `holds` and to `tell`, each for a lifetime that is made for the call, and come back.
+-- `records::extract_own` meets its contract: a walk of its MIR, by hand, of four calls. The notes are lent as `&mut` to `lookup::note_sheet` and to `extract::give_full`, and as `&` to `holds` and to `tell`, each for a lifetime that is made for the call, and come back.
 -- All that the proof knows of the four is that each meets its contract.
 --     notes-it, compares, gives, tells, leaves     the calls, each with what stands before it, and the end
 use mathlib.Core.Path.{_≡_, refl, _∙_, ap}
@@ -72,10 +72,10 @@ use Rattle.lookup.proofs.noted.note_sheet.Met as noting-thm
 use Rattle.records.proofs.holds.Symbol as holding-def
 use Rattle.records.proofs.holds.Symbol.{name as #holds}
 use Rattle.records.proofs.holds.Met as holding-thm
-use Rattle.extract.proofs.give as give
-use Rattle.extract.proofs.give.Symbol as give-def
-use Rattle.extract.proofs.give.Symbol.{name as #give}
-use Rattle.extract.proofs.give.Met as give-thm
+use Rattle.extract.proofs.give_full as give
+use Rattle.extract.proofs.give_full.Symbol as give-def
+use Rattle.extract.proofs.give_full.Symbol.{name as #give}
+use Rattle.extract.proofs.give_full.Met as give-thm
 use Rattle.records.proofs.tell.Symbol as tell-def
 use Rattle.records.proofs.tell.Symbol.{name as #tell}
 use Rattle.records.proofs.tell.Met as tell-thm
@@ -164,7 +164,7 @@ module _ {M : Type 1} (𝓤 : URA M) (H : Heap 𝓤) (A : Atoms 𝓤) (W : Given
   abbrev NoteLast : ℕ → ℕ → GName → Bool → Item 𝓤
   NoteLast l ν ε b = some (λ (ws : Unit {0} × (Unit {0} × (List ℕ × (Unit {0} × (Unit {0} × Unit {0}))))). ‵ (lasts noting.ended (κ₀, (ν ∷ [], tt)) (src, (len, (at-local l ε zeros, (length (row .now), (nodes, tt))))) ws) ⊛ raw (fact 𝓤 (Said₁ b (ws .1 .1 .0))))
 
-  -- the same of `extract::give`
+  -- the same of `extract::give_full`
   abbrev Said₂ : List ℕ → Bool → Reading → List ℕ → List ℕ → Type 0
   Said₂ f′ own r c′ f″ = Gives (src .now) len f′ nodes own (can .now) c′ room f″ r
 
@@ -312,5 +312,5 @@ extract-own-spec 𝓤 H 𝓜 𝓖 𝓡 =
     (meets 𝓤 H (𝓖 .A) (givenOf 𝓤 H 𝓜 𝓖) (𝓜 .mem) (𝓡 .run) (tablesOf 𝓤 H 𝓜 (tables 𝓤 H 𝓜 𝓡 code.env))
     (cited 𝓤 H (Noting 𝓤 H (𝓖 .A) (𝓜 .mem) (𝓡 .run)) 𝓜 𝓡 code.env #note-sheet noting-def.routine code.calls-lookup·noted·note-sheet (noting-thm.met 𝓤 H 𝓜 𝓖 𝓡))
     (cited 𝓤 H (Holding 𝓤 H (𝓖 .A) (𝓜 .mem) (𝓡 .run)) 𝓜 𝓡 code.env #holds holding-def.routine code.calls-records·holds (holding-thm.met 𝓤 H 𝓜 𝓖 𝓡))
-    (cited 𝓤 H (Giving 𝓤 H (𝓖 .A) (𝓜 .mem) (𝓡 .run)) 𝓜 𝓡 code.env #give give-def.routine code.calls-extract·give (give-thm.met 𝓤 H 𝓜 𝓖 𝓡))
+    (cited 𝓤 H (Giving 𝓤 H (𝓖 .A) (𝓜 .mem) (𝓡 .run)) 𝓜 𝓡 code.env #give give-def.routine code.calls-extract·give-full (give-thm.met 𝓤 H 𝓜 𝓖 𝓡))
     (cited 𝓤 H (Telling 𝓤 H (𝓖 .A) (𝓜 .mem) (𝓡 .run)) 𝓜 𝓡 code.env #tell tell-def.routine code.calls-records·tell (tell-thm.met 𝓤 H 𝓜 𝓖 𝓡)))
