@@ -1,7 +1,6 @@
 // The extract of a sheet: every list whose first element is the unhinted `private` becomes `()`. What is shown is put together in local
 // space by the sheet's notes, and from there read in form 1, so that what the foreman lends is written once and never holds a hidden octet.
 mod cut; // cut.rt: the octets that are shown
-mod full; // full.rt: with room for every note
 mod tiers; // tiers.rt: local space, sized by the sheet
 
 ghost use mathlib.Core.Path.{_≡_};
@@ -15,8 +14,6 @@ ghost use Rattle.extracts.specs.Extracting.{extracting, extractingOwn};
 ghost use Rattle.extract.specs.Given.{Judges, Judged, Gives, Showable, ShowsExtract, Tellable, Tells};
 use answers::Reading;
 use answers::refused;
-pub use full::extract_full;
-pub use full::give_full;
 use walk::Extent;
 
 // The notes of the first octets, and how many they are; 0 where these are no sheet.

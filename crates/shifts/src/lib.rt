@@ -1,5 +1,4 @@
 // A node's value, a shift line and a list of lines, by the notes of a sheet; and the entries over a table of numbers.
-mod full; // full.rt: with room for every note
 mod lines; // lines.rt: lines, and lists of them
 mod numbers; // numbers.rt: the entries over a table of numbers
 mod strings; // strings.rt: a string's value
@@ -7,9 +6,6 @@ mod tiers; // tiers.rt: notes in local space
 
 ghost use mathlib.Core.Path.{_≡_};
 ghost use Rattle.shifts.specs.Known.{KnownIf, Values, HasLine, Sums};
-pub use full::line_full;
-pub use full::value_full;
-pub use full::week_full;
 use lines::Added;
 use lines::Found;
 pub use numbers::line;
