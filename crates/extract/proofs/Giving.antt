@@ -1,5 +1,5 @@
 -- An extract given: a sheet judged and noted, what is shown of it read, and the table filled.
-use Prim.Native.Nat.{ℕ, _*_, _/_, _≤_, _<_}
+use Prim.Native.Nat.{ℕ, _*_, _/_, _≤_, _<_, min}
 use native.Mathlib.Omega.{arith}
 use mathlib.Core.Path.{_≡_, refl, sym, ap, _∙_, subst}
 use mathlib.Core.Bool.{Bool, true, false, not}
@@ -7,35 +7,40 @@ use mathlib.Core.Option.{Option, none, some}
 use mathlib.Core.List.{List}
 use lib.ListN.{length, take}
 use lib.Seq.{length-sets, length-take-le, take-at}
-use lib.Dec.{ltb, eqb}
-use borrow.Author.Tests.{lt-ltb, lt-leb, eq-eqb}
-use Rattle.base.specs.Choice.{pick, both, isNone, chain, equal}
+use lib.Dec.{ltb}
+use borrow.Author.Tests.{lt-ltb}
+use Rattle.base.specs.Choice.{isNone}
 use Rattle.base.proofs.Cases.{none-some, some-same}
 use Rattle.base.proofs.Stores.{sets-all}
-use Rattle.model.specs.Answers.{Outcome, verdict, judged, the, unchanged, fitting, sheetTree, owns, ownTree, reading}
+use Rattle.model.specs.Answers.{Outcome, verdict, judged, the, unchanged, fitting, sheetTree, ownTree, reading}
 use Rattle.model.specs.Limits.{maxCanonical, maxDepth, mostNodes}
-use Rattle.model.specs.Table.{width, records, tableOf}
+use Rattle.model.specs.Table.{width, records}
+use Rattle.model.specs.Decode.{decode₁}
 use Rattle.model.specs.Tree.{Tree, plain, hinted, list, canon, nodes}
+use Rattle.model.proofs.Exact.{canon-sound}
+use Rattle.model.proofs.Laws.{nodes-within-half}
+use Rattle.walk.specs.Extent.{Wholly, Measures}
 use Rattle.walk.specs.declared.Extent.{Extent}
 use Rattle.walk.specs.declared.Extent.the-variants as extent
 use Rattle.scan.specs.Writes.{Wrote}
 use Rattle.sheets.specs.Notes.{Noted}
-use Rattle.sheets.specs.Told.{Holds, Fillable, Filled, Compared}
+use Rattle.sheets.specs.Told.{Holds, Fillable, Filled}
 use Rattle.answers.specs.Cases.{outcome, Refuses}
 use Rattle.answers.specs.declared.Refusal.{Refusal}
 use Rattle.answers.specs.declared.Reading.{Reading}
 use Rattle.answers.specs.declared.Reading.the-variants as reading
-use Rattle.reader.specs.Stored.{Accepting, Puts}
+use Rattle.reader.specs.Stored.{Noteable, halved, most, Accepting, Puts}
 use Rattle.reader.proofs.Storing.{puts-refused}
 use Rattle.lookup.specs.Noted as lookup
-use Rattle.lookup.proofs.Noting.{noted-whole}
+use Rattle.lookup.specs.Noted.{Owned}
+use Rattle.lookup.proofs.Noting.{noted-whole, owned-held}
 use Rattle.lookup.proofs.Sheets.{tree-of, none-of, Sheet, sheet-of, sheet-beyond, sheet-long, sheet-none, sheet-deep}
 use Rattle.extracts.specs.Extract.{extract}
 use Rattle.extracts.specs.Extracting.{extractOf, extracting, extractingOwn}
 use Rattle.extracts.proofs.Answered.{own-sheet}
 use Rattle.extracts.proofs.Sizes.{never-longer}
 use Rattle.extract.specs.Cut as cut
-use Rattle.extract.specs.Given.{Judges, Judged, Gives, Sheeted, ShowsExtract, Tellable, Tells}
+use Rattle.extract.specs.Given.{Judges, Judged, Gives, Sheeted, Showable, ShowsExtract, Tellable, Tells}
 
 -- ---- the table
 
@@ -92,10 +97,21 @@ module _ (c : List ℕ) (n : ℕ) (before notes : List ℕ) (r : Extent) (v : No
     pub note-deep : maxDepth < deep → Judges (sheetTree c n) c n notes 0 (ltb 0 0)
     note-deep h = unsheeted c n notes (sheet-deep c n lent r (v .measures) len count deep e h)
 
-    pub note-whole : n ≤ maxCanonical → deep ≤ maxDepth → mostNodes ≤ length before → Judges (sheetTree c n) c n notes count (ltb 0 count)
+    enough : Noteable n (length before) → lookup.Notes count (length before)
+    unfolding Measures
+    enough g =
+        let w : Wholly (decode₁ (take n c)) len count deep = subst (Measures (decode₁ (take n c))) e (v .measures) in
+        let l : length (canon (w .tree)) ≡ n = sym (ap length (canon-sound (take n c) (w .tree) (w .is))) ∙ length-take-le n c lent in
+        record { enough = by g (omega (arith, l, nodes-within-half (w .tree), w .counted)) }
+      where
+        by : Noteable n (length before) → 2 * count ≤ n → min count mostNodes ≤ length before
+        by (halved k) h = omega arith
+        by (most k) h = omega arith
+
+    pub note-whole : n ≤ maxCanonical → deep ≤ maxDepth → Noteable n (length before) → Judges (sheetTree c n) c n notes count (ltb 0 count)
     unfolding lookup.Sheeted isNone
     note-whole short shallow room =
-        let s : lookup.Sheet c n count count notes = noted-whole c n count count before notes r v lent len count deep e short (omega arith) refl shallow (record { enough = omega arith }) in
+        let s : lookup.Sheet c n count count notes = noted-whole c n count count before notes r v lent len count deep e short (omega arith) refl shallow (enough room) in
         record {
           tells = lt-ltb 0 count (omega (arith, counted (s .tree), s .held .counted)) ∙ sym (ap (λ (o : Option Tree). not (isNone o)) (s .is));
           sheeted = λ t f. f;
@@ -104,43 +120,18 @@ module _ (c : List ℕ) (n : ℕ) (before notes : List ℕ) (r : Extent) (v : No
 
 -- ---- with its table
 
-module _ (c : List ℕ) (n : ℕ) (table : List ℕ) (m : ℕ) (notes : List ℕ) where
-  abbrev own : Option Tree
-  own = ownTree c n table m
+owned-judges : (c : List ℕ) (n : ℕ) (table : List ℕ) (m : ℕ) (notes : List ℕ) (own : Bool) → Owned c n table m notes own → Judges (ownTree c n table m) c n notes m own
+owned-judges c n table m notes own o =
+    record { tells = o .tells; sheeted = λ t g. own-sheet c n table m t g; held = owned-held c n table m notes own o }
 
-  pub own-unnoted : (b : Bool) → lookup.Sheeted c n m (length table / width) notes b → b ≡ false → Judges (ownTree c n table m) c n notes m false
-  unfolding lookup.Sheeted isNone
-  own-unnoted b f y =
-      let f : lookup.Sheeted c n m (length table / width) notes false = subst (lookup.Sheeted c n m (length table / width) notes) y f in
-      let e : own ≡ none = f table refl in
-      record { tells = sym (ap (λ (o : Option Tree). not (isNone o)) e); sheeted = λ t g. own-sheet c n table m t g; held = λ t g. none-some (sym e ∙ g) }
+pub kept-notes : (n : ℕ) (before after : List ℕ) → Noteable n (length before) → length after ≡ length before → Noteable n (length after)
+kept-notes n before after g e = subst (Noteable n) (sym e) g
 
-  module _ (b : Bool) (s : lookup.Sheeted c n m (length table / width) notes b) (y : b ≡ true) where
-    noted : lookup.Sheet c n m (length table / width) notes
-    unfolding lookup.Sheeted
-    noted = subst (lookup.Sheeted c n m (length table / width) notes) y s
+pub note-judged : (c : List ℕ) (n : ℕ) (notes : List ℕ) (m : ℕ) → Judges (sheetTree c n) c n notes m (ltb 0 m) → Judged c n notes m (ltb 0 m)
+note-judged c n notes m j = record { found = sheetTree c n; judges = j }
 
-    pub own-room : Fillable notes m (length table)
-    own-room = record { tree = noted .tree; held = noted .held; fits = omega (arith, noted .lent) }
-
-    owns-is : own ≡ pick (both (eqb m (nodes (noted .tree))) (equal (take (width * m) table) (tableOf (noted .tree)))) (some (noted .tree)) none
-    unfolding ownTree chain owns
-    owns-is = ap (λ (o : Option Tree). chain o (owns table m)) (noted .is)
-
-    pub own-noted : (r : Bool) → Compared notes m table r → Judges (ownTree c n table m) c n notes m r
-    unfolding isNone
-    own-noted r d =
-        record {
-          tells = d .tells (noted .tree) (noted .held)
-              ∙ sym (ap (λ (o : Option Tree). not (isNone o)) (owns-is ∙ ap (λ (b : Bool). pick (both b (equal (take (width * m) table) (tableOf (noted .tree)))) (some (noted .tree)) none) (eq-eqb _ _ (noted .held .counted)))
-              ∙ told (equal (take (width * m) table) (tableOf (noted .tree))));
-          sheeted = λ t g. own-sheet c n table m t g;
-          held = λ t g. subst (Holds notes m) (some-same (λ (u : Tree). noted .tree ≡ u) (sym (noted .is) ∙ own-sheet c n table m t g) refl) (noted .held);
-        }
-      where
-        told : (b : Bool) → not (isNone (pick b (some (noted .tree)) none)) ≡ b
-        told true = refl
-        told false = refl
+pub owned-judged : (c : List ℕ) (n : ℕ) (table : List ℕ) (m : ℕ) (notes : List ℕ) (own : Bool) → Owned c n table m notes own → Judged c n notes m own
+owned-judged c n table m notes own o = record { found = ownTree c n table m; judges = owned-judges c n table m notes own o }
 
 -- ---- what is shown, read
 
@@ -150,35 +141,43 @@ puts-as f h canonical n notes e (reading.Accepted len count) p =
     record { tree = p .tree; held = p .held; recorded = p .recorded; few = p .few; is = λ table z. p .is table z ∙ e table }
 puts-as f h canonical n notes e (reading.Refused x) p = λ table z. p table z ∙ e table
 
-pub show-part : (sheet : List ℕ) (len : ℕ) (notes : List ℕ) (n : ℕ) → Sheeted sheet len notes n → len ≡ length (take len sheet)
-show-part sheet len notes n s = sym (length-take-le len sheet (sheet-of sheet len (s .tree) (s .is) .lent))
+-- fewer octets need no more notes
+fewer : (m n room : ℕ) → m ≤ n → Noteable n room → Noteable m room
+fewer m n room h (halved k) = halved (omega arith)
+fewer m n room h (most k) = most k
 
-module _ (sheet : List ℕ) (len : ℕ) (notes : List ℕ) (n : ℕ) (scratch : List ℕ) (g : Sheeted sheet len notes n × (maxCanonical ≤ length scratch)) where
+module _ (sheet : List ℕ) (len : ℕ) (notes : List ℕ) (n : ℕ) (scratch : List ℕ) (g : Showable sheet len notes n (length scratch)) where
   abbrev tree : Tree
-  tree = g .0 .tree
+  tree = g .sheeted .tree
 
   sheet-is : Sheet sheet len tree
-  sheet-is = sheet-of sheet len tree (g .0 .is)
+  sheet-is = sheet-of sheet len tree (g .sheeted .is)
+
+  pub show-part : len ≡ length (take len sheet)
+  show-part = sym (length-take-le len sheet (sheet-is .lent))
 
   pub show-cuttable : cut.Cuttable (take len sheet) notes n (length scratch)
   show-cuttable =
       record {
-        sheet = record { tree = tree; is = sheet-is .is; held = g .0 .held };
-        fits = omega (arith, length-take-le len sheet (sheet-is .lent), sheet-is .size, sheet-is .fitting .long, g .1);
+        sheet = record { tree = tree; is = sheet-is .is; held = g .sheeted .held };
+        fits = omega (arith, length-take-le len sheet (sheet-is .lent), sheet-is .size, g .fits);
       }
 
   module _ (scratch′ : List ℕ) (m : ℕ) (w : cut.Cuts (take len sheet) notes n scratch scratch′ m) where
     wrote : Wrote (canon (extract tree)) 0 scratch scratch′ m
-    wrote = w .wrote tree (sheet-is .is) (g .0 .held)
+    wrote = w .wrote tree (sheet-is .is) (g .sheeted .held)
 
     shown-fits : length (canon (extract tree)) ≤ length scratch
-    shown-fits = omega (arith, never-longer tree, sheet-is .fitting .long, g .1)
+    shown-fits = omega (arith, never-longer tree, sheet-is .size, g .fits)
 
     pub show-inside : m ≤ length scratch′
     show-inside = omega (arith, wrote .place, shown-fits, ap length (wrote .same), length-sets scratch 0 (canon (extract tree)))
 
     pub show-text : m ≡ length (take m scratch′)
     show-text = sym (length-take-le m scratch′ show-inside)
+
+    pub show-noteable : Noteable (length (take m scratch′)) (length notes)
+    show-noteable = fewer _ len _ (omega (arith, show-text, wrote .place, never-longer tree, sheet-is .size)) (g .noteable)
 
     text-is : take m scratch′ ≡ canon (extract tree)
     text-is =
@@ -193,7 +192,7 @@ module _ (sheet : List ℕ) (len : ℕ) (notes : List ℕ) (n : ℕ) (scratch : 
     show-read canonical canonical′ k notes′ r p =
         record {
           is = λ t e h.
-              subst (λ (u : Tree). Puts (extractOf (some u) canonical) canonical′ k notes′ r) (some-same (λ (u : Tree). tree ≡ u) (sym (g .0 .is) ∙ e) refl)
+              subst (λ (u : Tree). Puts (extractOf (some u) canonical) canonical′ k notes′ r) (some-same (λ (u : Tree). tree ≡ u) (sym (g .sheeted .is) ∙ e) refl)
               (puts-as _ _ canonical′ k notes′ (shown-answer canonical) r p);
         }
 
@@ -202,6 +201,13 @@ module _ (sheet : List ℕ) (len : ℕ) (notes : List ℕ) (n : ℕ) (scratch : 
 module _ (sheet : List ℕ) (len : ℕ) (before : List ℕ) (n : ℕ) (own : Bool) (g : Judged sheet len before n own) where
   pub give-sheeted : own ≡ true → Sheeted sheet len before n
   give-sheeted y = tree-of (g .found) (sym y ∙ g .judges .tells) (λ t e. record { tree = t; is = g .judges .sheeted t e; held = g .judges .held t e })
+
+module _ (sheet : List ℕ) (len : ℕ) (notes : List ℕ) (n room : ℕ) (s : Sheeted sheet len notes n) (g : Noteable len (length notes)) where
+  pub showable : len ≤ room → Showable sheet len notes n room
+  showable h = record { sheeted = s; fits = h; noteable = g }
+
+  pub showable-long : maxCanonical ≤ room → Showable sheet len notes n room
+  showable-long h = let l : Sheet sheet len (s .tree) = sheet-of sheet len (s .tree) (s .is) in showable (omega (arith, l .size, l .fitting .long))
 
 module _ (sheet : List ℕ) (len : ℕ) (before : List ℕ) (n : ℕ) (own : Bool) (canonical : List ℕ) (k : ℕ) where
   pub give-shown : own ≡ true → (canonical′ notes : List ℕ) (r : Reading) → ShowsExtract sheet len before n canonical canonical′ k notes r → Gives sheet len before n own canonical canonical′ k notes r
@@ -236,10 +242,10 @@ pub extract-done : (sheet : List ℕ) (len : ℕ) (canonical canonical′ notes 
     → Puts (extracting sheet len canonical) canonical′ (length table / width) notes r → Tells notes r table table′ → outcome r canonical′ table′ ≡ extracting sheet len canonical table
 extract-done sheet len canonical canonical′ notes table table′ r p f = f .is (extracting sheet len canonical) canonical′ p
 
-module _ (sheet : List ℕ) (len : ℕ) (rows : List ℕ) (m : ℕ) (before : List ℕ) (own : Bool) (j : Judges (ownTree sheet len rows m) sheet len before m own) (canonical canonical′ notes table : List ℕ) (r : Reading)
+module _ (sheet : List ℕ) (len : ℕ) (rows : List ℕ) (m : ℕ) (before : List ℕ) (own : Bool) (o : Owned sheet len rows m before own) (canonical canonical′ notes table : List ℕ) (r : Reading)
     (g : Gives sheet len before m own canonical canonical′ (length table / width) notes r) where
   puts : Puts (extractOf (ownTree sheet len rows m) canonical) canonical′ (length table / width) notes r
-  puts = g .is (ownTree sheet len rows m) j
+  puts = g .is (ownTree sheet len rows m) (owned-judges sheet len rows m before own o)
 
   pub own-tells : Tellable notes (length table) r
   own-tells = record { answer = extractOf (ownTree sheet len rows m) canonical; canonical = canonical′; puts = puts }

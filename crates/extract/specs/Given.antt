@@ -1,5 +1,5 @@
 -- An extract given by the notes of a sheet, and its table filled (S 11.2).
-use Prim.Native.Nat.{ℕ, _/_}
+use Prim.Native.Nat.{ℕ, _/_, _≤_}
 use mathlib.Core.Path.{_≡_}
 use mathlib.Core.Bool.{Bool, not}
 use mathlib.Core.Option.{Option, some}
@@ -12,7 +12,7 @@ use Rattle.model.specs.Tree.{Tree}
 use Rattle.sheets.specs.Told.{Holds}
 use Rattle.answers.specs.Cases.{outcome}
 use Rattle.answers.specs.declared.Reading.{Reading}
-use Rattle.reader.specs.Stored.{Puts}
+use Rattle.reader.specs.Stored.{Noteable, Puts}
 use Rattle.extracts.specs.Extracting.{extractOf}
 
 -- a truth value that tells whether there is a sheet, with its own table if one is lent; and where there is, the notes are its own
@@ -35,6 +35,12 @@ pub record Sheeted (sheet : List ℕ) (len : ℕ) (notes : List ℕ) (n : ℕ) :
   pub tree : Tree
   pub is : sheetTree sheet len ≡ some tree
   pub held : Holds notes n tree
+
+-- with room for so many octets, and notes for its extract
+pub record Showable (sheet : List ℕ) (len : ℕ) (notes : List ℕ) (n room : ℕ) : Type 0 where
+  pub sheeted : Sheeted sheet len notes n
+  pub fits : len ≤ room
+  pub noteable : Noteable len (length notes)
 
 -- its extract, but for the table
 pub record ShowsExtract (sheet : List ℕ) (len : ℕ) (before : List ℕ) (n : ℕ) (canonical canonical′ : List ℕ) (records : ℕ) (notes : List ℕ) (r : Reading) : Type 0 where

@@ -36,7 +36,7 @@ fn is_word(src: &[u8], start: usize, end: usize) -> bool
 }
 
 // Whether a node is a private list: its first element, the node after it, is the word without a hint.
-fn private(src: &[u8], notes: &[usize; limits::NODES], nodes: usize, node: usize) -> bool
+fn private(src: &[u8], notes: &[usize], nodes: usize, node: usize) -> bool
     requires { ⌜ Node (now src) (now notes) nodes node ⌝ }
     ensures { λ r. ⌜ Tells (now (src .entry)) (now (notes .entry)) nodes node r ⌝ }
 {
@@ -55,7 +55,7 @@ fn private(src: &[u8], notes: &[usize; limits::NODES], nodes: usize, node: usize
 }
 
 // The octets of the extract, from the front; their number. A private list's notes are hopped over, and its octets are not copied.
-pub fn cut(src: &[u8], notes: &[usize; limits::NODES], nodes: usize, out: &mut [u8]) -> usize
+pub fn cut(src: &[u8], notes: &[usize], nodes: usize, out: &mut [u8]) -> usize
     requires { ⌜ Cuttable (now src) (now notes) nodes (length (now out)) ⌝ }
     ensures { λ r. ⌜ Cuts (now (src .entry)) (now (notes .entry)) nodes (now (out .entry)) (now (out .exit)) r ⌝ }
 {

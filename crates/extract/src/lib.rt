@@ -1,23 +1,24 @@
 // The extract of a sheet: every list whose first element is the unhinted `private` becomes `()`. What is shown is put together in local
 // space by the sheet's notes, and from there read in form 1, so that what is lent for it is written once and never holds a hidden octet.
 mod cut; // cut.rt: the octets that are shown
+mod tiers; // tiers.rt: local space, sized by the sheet
 
 ghost use mathlib.Core.Path.{_≡_};
-ghost use Prim.Native.Nat.{_≤_};
 ghost use lib.ListN.{length};
 ghost use lib.Dec.{ltb};
-ghost use Rattle.model.specs.Answers.{sheetTree, ownTree};
-ghost use Rattle.model.specs.Limits.{maxCanonical};
+ghost use Rattle.model.specs.Answers.{sheetTree};
 ghost use Rattle.answers.specs.Cases.{outcome};
-ghost use Rattle.reader.specs.Stored.{Puts};
+ghost use Rattle.lookup.specs.Noted.{Notes};
+ghost use Rattle.reader.specs.Stored.{Noteable, Puts};
 ghost use Rattle.extracts.specs.Extracting.{extracting, extractingOwn};
-ghost use Rattle.extract.specs.Given.{Judges, Judged, Gives, Sheeted, ShowsExtract, Tellable, Tells};
+ghost use Rattle.extract.specs.Given.{Judges, Judged, Gives, Showable, ShowsExtract, Tellable, Tells};
 use answers::Reading;
 use answers::refused;
 use walk::Extent;
 
 // The notes of the first octets, and how many they are; 0 where these are no sheet.
-fn note(sheet: &[u8], octets: usize, notes: &mut [usize; limits::NODES]) -> usize
+fn note(sheet: &[u8], octets: usize, notes: &mut [usize]) -> usize
+    requires { ⌜ Noteable octets (length (now notes)) ⌝ }
     ensures { λ r. ⌜ Judges (sheetTree (now (sheet .entry)) octets) (now (sheet .entry)) octets (now (notes .exit)) r (ltb 0 r) ⌝ }
 {
     if octets > sheet.len() {
@@ -42,34 +43,17 @@ fn note(sheet: &[u8], octets: usize, notes: &mut [usize; limits::NODES]) -> usiz
     }
 }
 
-// The notes of the first octets: whether these are a sheet, and the first records its own table.
-fn note_own(
-    sheet: &[u8],
-    octets: usize,
-    rows: &[u32],
-    nodes: usize,
-    notes: &mut [usize; limits::NODES],
-) -> bool
-    ensures { λ r. ⌜ Judges (ownTree (now (sheet .entry)) octets (now (rows .entry)) nodes) (now (sheet .entry)) octets (now (notes .exit)) nodes r ⌝ }
-{
-    let records = rows.len() / limits::WIDTH;
-    if lookup::note_sheet(sheet, octets, notes, records, nodes) {
-        return sheets::holds(notes, nodes, rows);
-    }
-    false
-}
-
 // What is shown of a sheet, put together in the space lent and read; the notes become those of the extract.
 fn show(
     sheet: &[u8],
     octets: usize,
-    notes: &mut [usize; limits::NODES],
+    notes: &mut [usize],
     nodes: usize,
     canonical: &mut [u8],
     records: usize,
     scratch: &mut [u8],
 ) -> Reading
-    requires { ⌜ Sheeted (now sheet) octets (now notes) nodes × (maxCanonical ≤ length (now scratch)) ⌝ }
+    requires { ⌜ Showable (now sheet) octets (now notes) nodes (length (now scratch)) ⌝ }
     ensures { λ r. ⌜ ShowsExtract (now (sheet .entry)) octets (now (notes .entry)) nodes (now (canonical .entry)) (now (canonical .exit)) records (now (notes .exit)) r ⌝ }
 {
     let part = &sheet[..octets];
@@ -82,26 +66,24 @@ fn show(
 pub fn give(
     sheet: &[u8],
     octets: usize,
-    notes: &mut [usize; limits::NODES],
+    notes: &mut [usize],
     nodes: usize,
     own: bool,
     canonical: &mut [u8],
     records: usize,
 ) -> Reading
     requires { ⌜ Judged (now sheet) octets (now notes) nodes own ⌝ }
+    requires { ⌜ Noteable octets (length (now notes)) ⌝ }
     ensures { λ r. ⌜ Gives (now (sheet .entry)) octets (now (notes .entry)) nodes own (now (canonical .entry)) (now (canonical .exit)) records (now (notes .exit)) r ⌝ }
 {
     if own {
-        let mut scratch: [u8; limits::CANONICAL] = [0; limits::CANONICAL];
-        return show(
-            sheet,
-            octets,
-            notes,
-            nodes,
-            canonical,
-            records,
-            &mut scratch,
-        );
+        if octets <= limits::SHORT {
+            return tiers::show_short(sheet, octets, notes, nodes, canonical, records);
+        }
+        if octets <= limits::MIDDLE {
+            return tiers::show_middle(sheet, octets, notes, nodes, canonical, records);
+        }
+        return tiers::show_long(sheet, octets, notes, nodes, canonical, records);
     }
     refused(7)
 }
@@ -111,9 +93,10 @@ pub fn extract_notes(
     sheet: &[u8],
     octets: usize,
     canonical: &mut [u8],
-    notes: &mut [usize; limits::NODES],
+    notes: &mut [usize],
     records: usize,
 ) -> Reading
+    requires { ⌜ Noteable octets (length (now notes)) ⌝ }
     ensures { λ r. ⌜ Puts (extracting (now (sheet .entry)) octets (now (canonical .entry))) (now (canonical .exit)) records (now (notes .exit)) r ⌝ }
 {
     let nodes = note(sheet, octets, notes);
@@ -121,7 +104,7 @@ pub fn extract_notes(
 }
 
 // The table that notes tell, where the answer is an acceptance.
-fn fill(answer: Reading, notes: &[usize; limits::NODES], table: &mut [u32])
+fn fill(answer: Reading, notes: &[usize], table: &mut [u32])
     requires { ⌜ Tellable (now notes) (length (now table)) answer ⌝ }
     ensures { λ _. ⌜ Tells (now (notes .entry)) answer (now (table .entry)) (now (table .exit)) ⌝ }
 {
@@ -133,14 +116,56 @@ fn fill(answer: Reading, notes: &[usize; limits::NODES], table: &mut [u32])
     }
 }
 
-// The extract of a sheet, into a sheet and a table of its own (S 11.2).
+// The extract of a sheet into a sheet and a table of its own, by notes in the local space lent.
+fn extract_in(
+    sheet: &[u8],
+    octets: usize,
+    canonical: &mut [u8],
+    table: &mut [u32],
+    notes: &mut [usize],
+) -> Reading
+    requires { ⌜ Noteable octets (length (now notes)) ⌝ }
+    ensures { λ r. ⌜ outcome r (now (canonical .exit)) (now (table .exit)) ≡ extracting (now (sheet .entry)) octets (now (canonical .entry)) (now (table .entry)) ⌝ }
+{
+    let records = table.len() / limits::WIDTH;
+    let answer = extract_notes(sheet, octets, canonical, notes, records);
+    fill(answer, notes, table);
+    answer
+}
+
+// S 11.2: the extract of the sheet in the first `octets` of those lent, into canonical octets and a node table of its own: every list in it
+// whose first element is the unhinted `private` has become `()`. In a refusal both hold what they held; in an acceptance what lies past
+// the octets and the records stays. Neither ever holds an octet that is hidden.
 pub fn extract(sheet: &[u8], octets: usize, canonical: &mut [u8], table: &mut [u32]) -> Reading
     ensures { λ r. ⌜ outcome r (now (canonical .exit)) (now (table .exit)) ≡ extracting (now (sheet .entry)) octets (now (canonical .entry)) (now (table .entry)) ⌝ }
 {
-    let mut notes: [usize; limits::NODES] = [0; limits::NODES];
+    if octets <= limits::SHORT {
+        return tiers::extract_short(sheet, octets, canonical, table);
+    }
+    if octets <= limits::MIDDLE {
+        return tiers::extract_middle(sheet, octets, canonical, table);
+    }
+    tiers::extract_long(sheet, octets, canonical, table)
+}
+
+// The same, where the sheet's own table is lent, by notes in the local space lent.
+fn extract_own_in(
+    sheet: &[u8],
+    octets: usize,
+    rows: &[u32],
+    nodes: usize,
+    canonical: &mut [u8],
+    table: &mut [u32],
+    notes: &mut [usize],
+) -> Reading
+    requires { ⌜ Noteable octets (length (now notes)) ⌝ }
+    requires { ⌜ Notes nodes (length (now notes)) ⌝ }
+    ensures { λ r. ⌜ outcome r (now (canonical .exit)) (now (table .exit)) ≡ extractingOwn (now (sheet .entry)) octets (now (rows .entry)) nodes (now (canonical .entry)) (now (table .entry)) ⌝ }
+{
     let records = table.len() / limits::WIDTH;
-    let answer = extract_notes(sheet, octets, canonical, &mut notes, records);
-    fill(answer, &notes, table);
+    let own = lookup::own_notes(sheet, octets, rows, nodes, notes);
+    let answer = give(sheet, octets, notes, nodes, own, canonical, records);
+    fill(answer, notes, table);
     answer
 }
 
@@ -155,10 +180,15 @@ pub fn extract_own(
 ) -> Reading
     ensures { λ r. ⌜ outcome r (now (canonical .exit)) (now (table .exit)) ≡ extractingOwn (now (sheet .entry)) octets (now (rows .entry)) nodes (now (canonical .entry)) (now (table .entry)) ⌝ }
 {
-    let mut notes: [usize; limits::NODES] = [0; limits::NODES];
-    let records = table.len() / limits::WIDTH;
-    let own = note_own(sheet, octets, rows, nodes, &mut notes);
-    let answer = give(sheet, octets, &mut notes, nodes, own, canonical, records);
-    fill(answer, &notes, table);
-    answer
+    if octets <= limits::SHORT {
+        if nodes <= limits::SHORT_NOTES {
+            return tiers::own_short(sheet, octets, rows, nodes, canonical, table);
+        }
+    }
+    if octets <= limits::MIDDLE {
+        if nodes <= limits::MIDDLE_NOTES {
+            return tiers::own_middle(sheet, octets, rows, nodes, canonical, table);
+        }
+    }
+    tiers::own_long(sheet, octets, rows, nodes, canonical, table)
 }

@@ -31,7 +31,7 @@ use Rattle.answers.specs.Cases.{placed}
 use Rattle.answers.specs.declared.Place.{Place}
 use Rattle.answers.specs.declared.Place.the-variants.{Part, NoPart}
 use Rattle.lookup.specs.Noted.{Notes, Sheet, Sheeted, Owned, Owning, Readables, ShowsPlace}
-use Rattle.lookup.proofs.Sheets.{no-tree, tree-of, none-of, fitted, within, sheet-none, sheet-deep, Own, own-of, own-beyond, own-long, own-unlent}
+use Rattle.lookup.proofs.Sheets.{no-tree, tree-of, none-of, fitted, within, sheet-of, sheet-none, sheet-deep, Own, own-of, own-beyond, own-long, own-unlent}
 use Rattle.lookup.proofs.Shown.{table-at, hint-unowned, hint-beyond, hint-other, hint-found, data-unowned, data-beyond, data-found}
 
 -- ---- a sheet noted
@@ -128,6 +128,15 @@ module _ (c : List ℕ) (len count : ℕ) (notes table : List ℕ) (noted : Bool
   owned-none y =
       let g : (t : List ℕ) → records t ≡ length table / width → ownTree c len t count ≡ none = subst (Sheeted c len count (length table / width) notes) y s in
       record { tells = unowned (g table refl); sheet = λ z. differ z refl }
+
+-- a table's tree is the sheet that was noted
+pub owned-held : (c : List ℕ) (len : ℕ) (table : List ℕ) (count : ℕ) (notes : List ℕ) (own : Bool) → Owned c len table count notes own
+    → (t : Tree) → ownTree c len table count ≡ some t → Holds notes count t
+unfolding isNone
+owned-held c len table count notes own o t e =
+    let s : Sheet c len count (records table) notes = o .sheet (o .tells ∙ ap (λ (x : Option Tree). not (isNone x)) e) in
+    let d : decode₁ (take len c) ≡ some (s .tree) = sheet-of c len (s .tree) (s .is) .decoded in
+    subst (Holds notes count) (some-same (λ (u : Tree). s .tree ≡ u) (sym d ∙ own-of c len table count t e .sheet .decoded) refl) (s .held)
 
 -- ---- a node shown
 

@@ -18,7 +18,6 @@ use answers::Comparing;
 use answers::Place;
 use answers::refused_comparing;
 pub use noted::note_in;
-pub use noted::note_sheet;
 pub use noted::own_notes;
 pub use noted::place_by;
 use walk::Extent;

@@ -45,19 +45,6 @@ pub fn note_in(
     }
 }
 
-// The same, with room for every note.
-pub fn note_sheet(
-    canonical: &[u8],
-    length: usize,
-    notes: &mut [usize; limits::NODES],
-    records: usize,
-    nodes: usize,
-) -> bool
-    ensures { λ r. ⌜ Sheeted (now (canonical .entry)) length nodes records (now (notes .exit)) r ⌝ }
-{
-    note_in(canonical, length, notes, records, nodes)
-}
-
 // Whether the first `nodes` records are the table of the sheet of these octets (S 1.4: the sheet's own); where they are, these are its
 // notes.
 pub fn own_notes(

@@ -10,12 +10,12 @@ pub mod Again
 pub mod Local
 pub mod One
 pub mod ReadTier
+pub mod ExtractTier
+pub mod OwnTier
 pub mod PlaceTier
 pub mod ChangeTier
 pub mod Showing
 pub mod Placing
 pub mod Counting
 pub mod Retelling
-pub mod Holding
-pub mod SheetNoting
 pub mod Judging

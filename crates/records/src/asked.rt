@@ -9,7 +9,7 @@ ghost use Rattle.plan.specs.declared.Asked.the-variants.{Replace, Insert, Remov
 ghost use Rattle.editor.specs.Given.{Noteable};
 ghost use Rattle.records.specs.Numbers.{numbers};
 use crate::Record;
-use crate::holds_by;
+use crate::holds;
 use crate::tell_by;
 use answers::Reading;
 use plan::Asked;
@@ -56,7 +56,7 @@ pub fn change_in(
     ensures { λ r. ⌜ outcome r (now (canonical .exit)) (numbers (now (records .exit))) ≡ changing asked form (now (text .entry)) (now (canonical .entry)) (numbers (now (records .entry))) old held ⌝ }
 {
     let noted = lookup::note_in(canonical, old, notes, records.len(), held);
-    let own = holds_by(records, notes, noted, held);
+    let own = holds(records, notes, noted, held);
     let r = editor::change_by(
         form,
         text,

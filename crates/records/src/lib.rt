@@ -54,22 +54,6 @@ fn tell(records: &mut [Record], notes: &[usize; limits::NODES], r: Reading, old:
     }
 }
 
-// Whether the records in use are those that notes tell.
-pub fn holds(records: &[Record], notes: &[usize; limits::NODES], noted: bool, nodes: usize) -> bool
-    requires { ⌜ Comparable (now notes) noted nodes (size (now records)) ⌝ }
-    ensures { λ b. ⌜ b ≡ agreed (now (records .entry)) (now (notes .entry)) noted (looked noted nodes) ⌝ }
-{
-    let n = told::looked_at(noted, nodes);
-    let mut same = noted;
-    let mut k: usize = 0;
-    while k < n {
-        let r = records[k];
-        same = told::record_is(notes, k, r, same);
-        k += 1;
-    }
-    same
-}
-
 // The records that an answer touches become those that notes of any number tell.
 fn tell_by(records: &mut [Record], notes: &[usize], r: Reading, old: usize)
     requires { ⌜ Tells (now notes) r old (size (now records)) ⌝ }
@@ -84,8 +68,8 @@ fn tell_by(records: &mut [Record], notes: &[usize], r: Reading, old: usize)
     }
 }
 
-// Whether the records in use are those that notes of any number tell.
-fn holds_by(records: &[Record], notes: &[usize], noted: bool, nodes: usize) -> bool
+// Whether the records in use are those that notes tell.
+pub fn holds(records: &[Record], notes: &[usize], noted: bool, nodes: usize) -> bool
     requires { ⌜ Comparable (now notes) noted nodes (size (now records)) ⌝ }
     ensures { λ b. ⌜ b ≡ agreed (now (records .entry)) (now (notes .entry)) noted (looked noted nodes) ⌝ }
 {
@@ -186,7 +170,7 @@ fn place_in(
     ensures { λ r. ⌜ placed r ≡ partOf hinted (now (canonical .entry)) len (numbers (now (records .entry))) nodes node ⌝ }
 {
     let noted = lookup::note_in(canonical, len, notes, records.len(), nodes);
-    let own = holds_by(records, notes, noted, nodes);
+    let own = holds(records, notes, noted, nodes);
     lookup::place_by(notes, nodes, node, own, hinted)
 }
 

@@ -107,14 +107,6 @@ fn same_numbers(r: Record, row: sheets::Row, up: u32) -> bool
     r.parent == up
 }
 
-// The same, with room for every note.
-pub fn record_is(notes: &[usize; limits::NODES], i: usize, r: Record, before: bool) -> bool
-    requires { ⌜ Readable (now notes) i ⌝ }
-    ensures { λ b. ⌜ b ≡ agrees (now (notes .entry)) i r before ⌝ }
-{
-    record_agrees(notes, i, r, before)
-}
-
 // Whether record i is the one that its note tells, and those before are.
 pub fn record_agrees(notes: &[usize], i: usize, r: Record, before: bool) -> bool
     requires { ⌜ Readable (now notes) i ⌝ }

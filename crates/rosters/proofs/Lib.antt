@@ -1,1 +1,5 @@
 pub mod Knowing
+pub mod Asked
+pub mod InWalk
+pub mod LongWalk
+pub mod TierWalk

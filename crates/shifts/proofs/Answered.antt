@@ -1,27 +1,25 @@
 -- What is answered of a node: rows 7 and 8, and then by its tree.
-use Prim.Native.Nat.{ℕ, _/_, _*_, _≤_, _<_}
+use Prim.Native.Nat.{ℕ, _≤_, _<_}
 use native.Mathlib.Omega.{arith}
-use mathlib.Core.Path.{_≡_, refl, sym, ap, _∙_, subst}
-use mathlib.Core.Bool.{Bool, true, false, not}
+use mathlib.Core.Path.{_≡_, refl, sym, ap, _∙_}
+use mathlib.Core.Bool.{Bool, true, false}
 use mathlib.Core.Option.{Option, none, some}
 use mathlib.Core.List.{List, [], _∷_}
-use lib.ListN.{length}
-use lib.Dec.{leb, eqb}
-use borrow.Author.Tests.{le-leb, lt-leb, eq-eqb}
-use Rattle.base.specs.Choice.{pick, chain, isNone, equal, both}
-use Rattle.base.proofs.Cases.{differ, picked, unpicked, some-same, none-some}
-use Rattle.model.specs.Limits.{Accepted, mostNodes}
-use Rattle.model.specs.Answers.{Check, when, verdict, judged, the, sheetTree, owns, ownTree}
-use Rattle.model.specs.Table.{width, records, rowOf, tableOf}
-use Rattle.model.specs.Tree.{Tree, canon, nodes}
-use Rattle.sheets.specs.Told.{Holds, Fillable, Compared}
-use Rattle.lookup.specs.Noted.{Sheet, Sheeted, Owning}
+use borrow.Author.Tests.{le-leb, lt-leb}
+use Rattle.base.specs.Choice.{isNone}
+use Rattle.model.specs.Limits.{Accepted}
+use Rattle.model.specs.Answers.{Check, when, verdict, judged, the, ownTree}
+use Rattle.model.specs.Table.{records, rowOf}
+use Rattle.model.specs.Tree.{Tree}
+use Rattle.sheets.specs.Told.{Holds}
+use Rattle.lookup.specs.Noted.{Sheet, Owned, Owning}
+use Rattle.lookup.proofs.Noting.{owned-held}
 use Rattle.lookup.proofs.Sheets.{tree-of, none-of, sheet-of}
 use Rattle.lookup.proofs.Sheets as lookup
 use Rattle.typed.specs.Coding.{NotTyped, NotLine}
 use Rattle.typed.specs.Quarters.{quartersOf, totalBy, totalFor}
-use Rattle.typed.specs.Lines.{typedRow, hoursAt, quartersIn, keptIf, lineAt, lineCount, Sum, lines, bad, sumAt}
-use Rattle.typed.specs.Cases.{Valued, unvalued, valued, Lined, unlined, lined, Summed, unsummed, summed}
+use Rattle.typed.specs.Lines.{typedRow, hoursAt, quartersIn, keptIf, lineAt, lineCount, Sum, lines, sumAt}
+use Rattle.typed.specs.Cases.{unvalued, valued, unlined, lined, unsummed, summed}
 use Rattle.typed.specs.Asked.{nodeChecks, valueIn, nodeValue, valuing, nodeLine, lining, nodeSum, summedBy, summing}
 use Rattle.typed.specs.declared.Value.{Value}
 use Rattle.typed.specs.declared.Line.{Line}
@@ -40,7 +38,7 @@ use Rattle.shifts.specs.declared.lines.Found.{Found}
 use Rattle.shifts.specs.declared.lines.Found.the-variants.{Hours, NoHours}
 use Rattle.shifts.specs.declared.lines.Added.{Added}
 use Rattle.shifts.specs.declared.lines.Added.the-variants.{Lines, Bad}
-use Rattle.shifts.specs.Known.{Known, KnownAt, KnownIf, TypedAt, hoursOf, HoursAt, sumFor, SumAt, Values, HasLine, Sums, Owns}
+use Rattle.shifts.specs.Known.{KnownAt, KnownIf, TypedAt, hoursOf, HoursAt, sumFor, SumAt, Values, HasLine, Sums}
 
 pub in-sheet : (c notes : List ℕ) (count node : ℕ) (own : Bool) → KnownIf c notes count own → own ≡ true → node < count → KnownAt c notes count node
 in-sheet c notes count node own k y h = record { known = k .known y; inside = h }
@@ -216,61 +214,24 @@ module _ (c notes : List ℕ) (count node : ℕ) (own : Bool) where
 
 -- ---- over a table of numbers
 
-module _ (c : List ℕ) (len : ℕ) (table : List ℕ) (count : ℕ) (notes : List ℕ) where
-  no-known : KnownIf c notes count false
-  no-known = record { known = λ y. differ y refl }
+module _ (c : List ℕ) (len : ℕ) (table : List ℕ) (count : ℕ) (notes : List ℕ) (own : Bool) (o : Owned c len table count notes own) where
+  owning : Owning c len table count notes own
+  owning = record { tells = o .tells; held = owned-held c len table count notes own o }
 
-  pub unnoted : (noted : Bool) → Sheeted c len count (length table / width) notes noted → noted ≡ false → Owns c len table count notes false
-  unfolding Sheeted isNone
-  unnoted noted s y =
-      let e : ownTree c len table count ≡ none = subst (Sheeted c len count (length table / width) notes) y s table refl in
+  pub owned-known : KnownIf c notes count own
+  owned-known =
       record {
-        owning = record { tells = ap (λ (o : Option Tree). not (isNone o)) (sym e); held = λ t f. none-some (sym e ∙ f) };
-        known = no-known;
+        known = λ y.
+            let s : Sheet c len count (records table) notes = o .sheet y in
+            let l : lookup.Sheet c len (s .tree) = sheet-of c len (s .tree) (s .is) in
+            record { tree = s .tree; held = s .held; within = omega (arith, l .size, l .lent); many = omega (arith, s .held .counted, l .fitting .many) };
       }
 
-  module _ (noted : Bool) (s : Sheeted c len count (length table / width) notes noted) (y : noted ≡ true) where
-    sheet : Sheet c len count (length table / width) notes
-    unfolding Sheeted
-    sheet = subst (Sheeted c len count (length table / width) notes) y s
+  pub owned-value : (node : ℕ) (r : Valuing) → Values c notes count node own r → valued r ≡ valuing c len table count node
+  owned-value node r v = v .is len table owning
 
-    pub noted-fillable : Fillable notes count (length table)
-    noted-fillable = record { tree = sheet .tree; held = sheet .held; fits = omega (arith, sheet .lent) }
+  pub owned-line : (node : ℕ) (r : Lining) → HasLine c notes count node own r → lined r ≡ lining c len table count node
+  owned-line node r v = v .is len table owning
 
-    told-some : (b : Bool) (t : Tree) → b ≡ not (isNone (pick b (some t) none))
-    unfolding isNone
-    told-some true t = refl
-    told-some false t = refl
-
-    some-tree : (b : Bool) (t u : Tree) → pick b (some t) none ≡ some u → t ≡ u
-    some-tree true t u e = some-same (λ (v : Tree). t ≡ v) e refl
-    some-tree false t u e = none-some e
-
-    pub noted-owns : (b : Bool) → Compared notes count table b → Owns c len table count notes b
-    unfolding ownTree owns chain
-    noted-owns b w =
-        let t : Tree = sheet .tree in
-        let e : ownTree c len table count ≡ pick b (some t) none =
-        ap (λ (o : Option Tree). chain o (owns table count)) (sheet .is)
-        ∙ ap (λ (x : Bool). pick x (some t) none) (picked _ _ (eq-eqb count (nodes t) (sheet .held .counted)) ∙ sym (w .tells t (sheet .held))) in
-        let l : lookup.Sheet c len t = sheet-of c len t (sheet .is) in
-        record {
-          owning = record {
-            tells = told-some b t ∙ ap (λ (o : Option Tree). not (isNone o)) (sym e);
-            held = λ u f. subst (Holds notes count) (some-tree b t u (sym e ∙ f)) (sheet .held);
-          };
-          known = record { known = λ z. record { tree = t; held = sheet .held; within = omega (arith, l .size, l .lent); many = omega (arith, sheet .held .counted, l .fitting .many) } };
-        }
-
-module _ (c : List ℕ) (len : ℕ) (table : List ℕ) (count node : ℕ) (notes : List ℕ) (own : Bool) (o : Owns c len table count notes own) where
-  pub owns-known : KnownIf c notes count own
-  owns-known = o .known
-
-  pub owns-value : (r : Valuing) → Values c notes count node own r → valued r ≡ valuing c len table count node
-  owns-value r v = v .is len table (o .owning)
-
-  pub owns-line : (r : Lining) → HasLine c notes count node own r → lined r ≡ lining c len table count node
-  owns-line r v = v .is len table (o .owning)
-
-  pub owns-sum : (r : Summing) → Sums c notes count node own r → summed r ≡ summing c len table count node
-  owns-sum r v = v .is len table (o .owning)
+  pub owned-sum : (node : ℕ) (r : Summing) → Sums c notes count node own r → summed r ≡ summing c len table count node
+  owned-sum node r v = v .is len table owning

@@ -106,8 +106,3 @@ pub record HasLine (c notes : List ℕ) (count node : ℕ) (own : Bool) (r : Lin
 
 pub record Sums (c notes : List ℕ) (count node : ℕ) (own : Bool) (r : Summing) : Type 0 where
   pub is : (len : ℕ) (table : List ℕ) → Owning c len table count notes own → summed r ≡ summing c len table count node
-
--- whether a table is a sheet's own, and then its notes
-pub record Owns (c : List ℕ) (len : ℕ) (table : List ℕ) (count : ℕ) (notes : List ℕ) (own : Bool) : Type 0 where
-  pub owning : Owning c len table count notes own
-  pub known : KnownIf c notes count own

@@ -2,6 +2,7 @@
 mod lines; // lines.rt: lines, and lists of them
 mod numbers; // numbers.rt: the entries over a table of numbers
 mod strings; // strings.rt: a string's value
+mod tiers; // tiers.rt: notes in local space
 
 ghost use mathlib.Core.Path.{_≡_};
 ghost use Rattle.shifts.specs.Known.{KnownIf, Values, HasLine, Sums};
@@ -20,13 +21,7 @@ use typed::refused_summing;
 use typed::refused_valuing;
 
 // A node's value, where notes and table are told to be the sheet's own.
-pub fn value_by(
-    canonical: &[u8],
-    notes: &[usize; limits::NODES],
-    nodes: usize,
-    node: usize,
-    own: bool,
-) -> Valuing
+pub fn value_by(canonical: &[u8], notes: &[usize], nodes: usize, node: usize, own: bool) -> Valuing
     requires { ⌜ KnownIf (now canonical) (now notes) nodes own ⌝ }
     ensures { λ r. ⌜ Values (now (canonical .entry)) (now (notes .entry)) nodes node own r ⌝ }
 {
@@ -44,13 +39,7 @@ pub fn value_by(
 }
 
 // A node's line with its total.
-pub fn line_by(
-    canonical: &[u8],
-    notes: &[usize; limits::NODES],
-    nodes: usize,
-    node: usize,
-    own: bool,
-) -> Lining
+pub fn line_by(canonical: &[u8], notes: &[usize], nodes: usize, node: usize, own: bool) -> Lining
     requires { ⌜ KnownIf (now canonical) (now notes) nodes own ⌝ }
     ensures { λ r. ⌜ HasLine (now (canonical .entry)) (now (notes .entry)) nodes node own r ⌝ }
 {
@@ -74,13 +63,7 @@ pub fn line_by(
 }
 
 // The sum of a list of lines.
-pub fn week_by(
-    canonical: &[u8],
-    notes: &[usize; limits::NODES],
-    nodes: usize,
-    node: usize,
-    own: bool,
-) -> Summing
+pub fn week_by(canonical: &[u8], notes: &[usize], nodes: usize, node: usize, own: bool) -> Summing
     requires { ⌜ KnownIf (now canonical) (now notes) nodes own ⌝ }
     ensures { λ r. ⌜ Sums (now (canonical .entry)) (now (notes .entry)) nodes node own r ⌝ }
 {

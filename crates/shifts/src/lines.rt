@@ -12,12 +12,7 @@ pub enum Found {
     NoHours,
 }
 
-pub fn hours_at(
-    canonical: &[u8],
-    notes: &[usize; limits::NODES],
-    nodes: usize,
-    node: usize,
-) -> Found
+pub fn hours_at(canonical: &[u8], notes: &[usize], nodes: usize, node: usize) -> Found
     requires { ⌜ KnownAt (now canonical) (now notes) nodes node ⌝ }
     ensures { λ r. ⌜ HoursAt (now (canonical .entry)) (now (notes .entry)) nodes node r ⌝ }
 {
@@ -45,7 +40,7 @@ pub fn hours_at(
 }
 
 // The quarters of a line.
-fn count_at(canonical: &[u8], notes: &[usize; limits::NODES], nodes: usize, node: usize) -> Count
+fn count_at(canonical: &[u8], notes: &[usize], nodes: usize, node: usize) -> Count
     requires { ⌜ KnownAt (now canonical) (now notes) nodes node ⌝ }
     ensures { λ r. ⌜ CountAt (now (canonical .entry)) (now (notes .entry)) nodes node r ⌝ }
 {
@@ -62,7 +57,7 @@ pub enum Added {
 }
 
 // The sum of a list of lines. A line is four nodes, so that the next begins four further on.
-pub fn sum_at(canonical: &[u8], notes: &[usize; limits::NODES], nodes: usize, node: usize) -> Added
+pub fn sum_at(canonical: &[u8], notes: &[usize], nodes: usize, node: usize) -> Added
     requires { ⌜ KnownAt (now canonical) (now notes) nodes node ⌝ }
     ensures { λ r. ⌜ SumAt (now (canonical .entry)) (now (notes .entry)) nodes node r ⌝ }
 {

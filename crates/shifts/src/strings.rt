@@ -36,12 +36,7 @@ fn typed_row(canonical: &[u8], row: Row) -> Typing
 }
 
 // A node's value.
-pub fn typed_at(
-    canonical: &[u8],
-    notes: &[usize; limits::NODES],
-    nodes: usize,
-    node: usize,
-) -> Typing
+pub fn typed_at(canonical: &[u8], notes: &[usize], nodes: usize, node: usize) -> Typing
     requires { ⌜ KnownAt (now canonical) (now notes) nodes node ⌝ }
     ensures { λ r. ⌜ TypedAt (now (canonical .entry)) (now (notes .entry)) nodes node r ⌝ }
 {
@@ -54,12 +49,7 @@ pub enum Amount {
     NoAmount,
 }
 
-pub fn amount_at(
-    canonical: &[u8],
-    notes: &[usize; limits::NODES],
-    nodes: usize,
-    node: usize,
-) -> Amount
+pub fn amount_at(canonical: &[u8], notes: &[usize], nodes: usize, node: usize) -> Amount
     requires { ⌜ KnownAt (now canonical) (now notes) nodes node ⌝ }
     ensures { λ r. ⌜ AmountAt (now (canonical .entry)) (now (notes .entry)) nodes node r ⌝ }
 {

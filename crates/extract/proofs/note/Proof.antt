@@ -22,9 +22,7 @@ returns-3 : tie.Need-returns-3
 returns-3 c = search (note-deep, arith)
 
 returns-4 : tie.Need-returns-4
-returns-4 c =
-    note-whole _ _ _ _ _ (c .before .before .before .before .note .ensures) (c .before .before .before .before .before .before .before .before .if1 .left) _ _ _ (c .before .before .nodes .given .1)
-    (search needs) (search needs) (search needs)
+returns-4 c = note-whole _ _ _ _ _ (c .before .before .before .before .before .before .note .ensures) (c .before .before .before .before .before .before .before .before .before .before .if1 .left) _ _ _ (c .before .before .nodes .given .1) (search needs) (search needs) (search needs)
 
 returns-5 : tie.Need-returns-5
 returns-5 c = search (note-none, arith)
@@ -38,7 +36,10 @@ note-spec =
     slice-aggregate-part
     note-requires
     (λ c. search needs)
+    (λ c. search needs)
     returns-3
     (λ c. search needs)
+    (λ c. search needs)
     returns-4
+    (λ c. search needs)
     returns-5)

@@ -1,12 +1,11 @@
-use Rattle.extract.proofs.Giving.{show-part, show-cuttable, show-inside, show-text, show-read}
-use Rattle.reader.specs.Stored.{most}
+use Rattle.extract.proofs.Giving.{show-part, show-cuttable, show-inside, show-text, show-noteable, show-read}
 use native.Mathlib.Omega.{arith}
 use borrow.Author.Needs.{needs}
 use Rattle.extract.proofs.show.Statement.{statement}
 use Rattle.extract.proofs.show.Tie as tie
 
 slice-aggregate-part : tie.Need-slice-aggregate-part
-slice-aggregate-part c = show-part _ _ _ _ (c .before .before .before .before .pre .0)
+slice-aggregate-part c = search (show-part, arith)
 
 cut-requires : tie.Need-cut-requires
 cut-requires c κs = search (show-cuttable, arith)
@@ -16,6 +15,9 @@ slice-reshare-prefix-text c = search (show-inside, arith)
 
 slice-aggregate-text : tie.Need-slice-aggregate-text
 slice-aggregate-text c = search (show-text, arith)
+
+read-notes-requires : tie.Need-read-notes-requires
+read-notes-requires c κs = search (show-noteable, arith)
 
 returns : tie.Need-returns
 returns c = search (show-read, arith)
@@ -28,7 +30,8 @@ show-spec =
     cut-requires
     slice-reshare-prefix-text
     slice-aggregate-text
-    (λ c κs. most (search needs))
+    read-notes-requires
+    (λ c. search needs)
     (λ c. search needs)
     (λ c. search needs)
     returns)

@@ -1,5 +1,5 @@
--- `records::holds` meets its contract: a walk of its MIR, by hand, with a loop. In a turn a record is read, and `record_is` is called on a copy of the reference to the notes.
--- All that the proof knows of `looked_at` and `record_is` is that each meets its contract.
+-- `records::holds` meets its contract: a walk of its MIR, by hand, with a loop. In a turn a record is read, and `record_agrees` is called on a copy of the slice of notes.
+-- All that the proof knows of `looked_at` and `record_agrees` is that each meets its contract.
 --     At i         what is had where i records are compared
 --     more, ends   a turn that compares one record, and the turn that leaves the loop, with the rest of the body
 use mathlib.Core.Path.{_≡_, refl, sym, ap}
@@ -31,11 +31,10 @@ use denote.RattleType.{owns}
 use denote.Laws.{Is, shows}
 use denote.Plain.{uint-makes, uint-vals, uint-tells, bool-makes, bool-vals, bool-tells}
 use denote.Builtin.{usize, bool}
-use denote.Ref.{RefT, ShrRef, ptr-vals, shr-tells, shr-copy}
+use denote.Ref.{RefT}
 use denote.Slice.{sliceVal, ShrSlice, Room, slice-vals, shr-slice-tells, shr-slice-copy}
 use denote.Index.{place-is, elem-out, elem-back, looks-slice, shuts-slice}
 use denote.Signature.{plain, shrSliceOf}
-use denote.Signature.Array.{arrayOf}
 use denote.Steps.{only, owned, peeks, heard, nothing}
 use denote.Struct.Laws as LL
 use denote.Triple.Entry.{onEntry}
@@ -44,20 +43,19 @@ use denote.Triple.Statement.{Contract, Triple}
 use denote.Triple.Call.{calls-at}
 use denote.Triple.Clauses.{ensured, lasts}
 use denote.Triple.Table.{entered, cited}
-use denote.Triple.Walked.{says, needs, Stays, stay-dropped, stay-none-ref, walkOf, goes-dropped, goes-none-ref, Walks, ends-at, walked, walk-meets}
+use denote.Triple.Walked.{says, needs, Stays, stay-dropped, stay-none-slice, walkOf, goes-dropped, goes-none-slice, Walks, ends-at, walked, walk-meets}
 use denote.Exit.{yes}
-use Rattle.model.specs.Limits.{mostNodes}
 use Rattle.records.specs.declared.Record.{Record}
 use Rattle.records.specs.Told.{nil, agrees, agreed, looked, Comparable}
 use Rattle.records.proofs.Facts.{holds, fails, one-more, scaled, is-word, is-bool}
 use Rattle.records.proofs.Counting.{counts}
-use Rattle.records.proofs.Spelled.{word, recs, Notes, toNotes}
+use Rattle.records.proofs.Spelled.{word, recs, notesBy}
 use Rattle.records.proofs.Record as T
 use Rattle.records.proofs.Record.Laws as T′
-use Rattle.records.proofs.told.record_is as recording
-use Rattle.records.proofs.told.record_is.Symbol as recording-def
-use Rattle.records.proofs.told.record_is.Symbol.{name as #record-is}
-use Rattle.records.proofs.told.record_is.Met as recording-thm
+use Rattle.records.proofs.told.record_agrees as recording
+use Rattle.records.proofs.told.record_agrees.Symbol as recording-def
+use Rattle.records.proofs.told.record_agrees.Symbol.{name as #record-agrees}
+use Rattle.records.proofs.told.record_agrees.Met as recording-thm
 use Rattle.records.proofs.told.looked_at as looking
 use Rattle.records.proofs.told.looked_at.Symbol as looking-def
 use Rattle.records.proofs.told.looked_at.Symbol.{name as #looked-at}
@@ -69,7 +67,7 @@ use Rattle.records.proofs.holds.Code as code
 use Rattle.records.proofs.holds.Code.Mir as mir
 
 abbrev stayed : Stays (comparing.ended .signature .params) (comparing.ended .kept)
-stayed = (stay-dropped (shrSliceOf (0 ∷ []) tt (plain (λ _. T.the-row))) yes, (stay-none-ref (1 ∷ []) tt (arrayOf (plain (λ _. usize)) mostNodes) yes, (stay-dropped (plain (λ _. bool)) yes, (stay-dropped (plain (λ _. usize)) yes, tt))))
+stayed = (stay-dropped (shrSliceOf (0 ∷ []) tt (plain (λ _. T.the-row))) yes, (stay-none-slice (1 ∷ []) tt (plain (λ _. usize)) yes, (stay-dropped (plain (λ _. bool)) yes, (stay-dropped (plain (λ _. usize)) yes, tt))))
 
 -- the contracts that the proof cites
 module _ {M : Type 1} (𝓤 : URA M) (H : Heap 𝓤) (A : Atoms 𝓤) (mem : Memory → SProp 𝓤) (run : Routine → Fun 𝓤) where
@@ -80,7 +78,7 @@ module _ {M : Type 1} (𝓤 : URA M) (H : Heap 𝓤) (A : Atoms 𝓤) (mem : Mem
   Looking = tripleOf 𝓤 H A looking.signature (looking.spec 𝓤 H A mem run)
 
 module _ {M : Type 1} (𝓤 : URA M) (H : Heap 𝓤) (A : Atoms 𝓤) (W : Given 𝓤 H A) (mem : Memory → SProp 𝓤) (run : Routine → Fun 𝓤) (κ κ′ : Lft) (q q′ : Share) (rec : RefT (List Record)) (f : RefT (List ℕ)) (noted : Bool) (nodes : ℕ) (nodes-fits : nodes < 2 ^ 64)
-    (room : Room T.the-row (length (rec .now))) (comparable : Comparable (f .now) noted nodes (length (rec .now))) where
+    (room : Room T.the-row (length (rec .now))) (many : Room usize (length (f .now))) (comparable : Comparable (f .now) noted nodes (length (rec .now))) where
   abbrev κs : Lfts 2
   κs = (κ, (κ′, tt))
 
@@ -106,7 +104,7 @@ module _ {M : Type 1} (𝓤 : URA M) (H : Heap 𝓤) (A : Atoms 𝓤) (W : Given
   s = sliceVal (rec .ptr) (length ys)
 
   abbrev sf : Val
-  sf = vptr (f .ptr .0) (f .ptr .1)
+  sf = sliceVal (f .ptr) (length fs)
 
   abbrev vals : List Val × (List Val × (List Val × (List Val × Unit {0})))
   vals = (s ∷ [], (sf ∷ [], (vbool noted ∷ [], (vint w64 nodes ∷ [], tt))))
@@ -119,7 +117,7 @@ module _ {M : Type 1} (𝓤 : URA M) (H : Heap 𝓤) (A : Atoms 𝓤) (W : Given
   Recs = ShrSlice (named 0) κ T.the-row .own rec (s ∷ [])
 
   abbrev Nums : Fml
-  Nums = ShrRef (named 1) κ′ Notes .own f (sf ∷ [])
+  Nums = ShrSlice (named 1) κ′ usize .own f (sf ∷ [])
 
   abbrev Post : Val → SProp 𝓤
   Post = walkOf 𝓤 H A comparing.ended stayed (comparing.clauses 𝓤 H A mem run) .post ((κs, (q, (q′, tt)), tt, a, vals), tt)
@@ -138,7 +136,7 @@ module _ {M : Type 1} (𝓤 : URA M) (H : Heap 𝓤) (A : Atoms 𝓤) (W : Given
   said-look : (n : ℕ) → ent 𝓤 (ensured 𝓤 H A looking.ended (looking.clauses 𝓤 H A mem run) tt (noted, (nodes, tt)) tt n) (fact 𝓤 (n ≡ looked noted nodes))
   said-look n = exE 𝓤 _ (λ ws. snd∗ 𝓤 (sem 𝓤 H A (lasts looking.ended tt (noted, (nodes, tt)) ws)) (fact 𝓤 (n ≡ looked noted nodes)))
 
-  -- the same of `record_is`
+  -- the same of `record_agrees`
   abbrev to : ℕ → Recording 𝓤 H A mem run .Ghost
   to i = (((κ′, tt), (q′, tt), tt, (f, (i, (r i, (G i, tt)))), (sf ∷ [], (vint w64 i ∷ [], (T′.lowered (r i) ∷ [], (vbool (G i) ∷ [], tt))))), tt)
 
@@ -160,7 +158,7 @@ module _ {M : Type 1} (𝓤 : URA M) (H : Heap 𝓤) (A : Atoms 𝓤) (W : Given
         suffices ! _ (ends-at 𝓤 H A comparing.ended stayed (comparing.clauses 𝓤 H A mem run) W ((κs, (q, (q′, tt)), tt, a, vals), tt) (vbool (G n)) (G n) (tt, (tt, (tt, (tt, tt)))) (tt, (tt, (tt, (tt, tt))))) $ says ! (ap (λ (m : ℕ). agreed ys fs noted m) n-is) $
         nothing ! $ move ! (2 ∷ 0 ∷ []) $ join ! $ move ! (3 ∷ 0 ∷ []) $ join ! $ frame ! $ nothing ! $ nothing ! $ fjoin ! $ nothing ! $ fjoin ! $ move ! (1 ∷ 0 ∷ []) $ fjoin ! $ nothing ! $ fjoin ! $ owned ! bool (Is bool) (bool-makes 𝓤 H A W) (G n) _ refl $ keep ! (1 ∷ 0 ∷ []) $ done !
 
-    module _ (𝓣 : Tables 𝓤 H) (known : Triple 𝓤 (𝓣 .C #record-is) (Recording 𝓤 H A mem run)) (l₀ l₁ l₂ l₃ l₄ l₅ l₆ l₇ l₈ l₉ l₁₀ l₁₁ l₁₂ : ℕ) where
+    module _ (𝓣 : Tables 𝓤 H) (known : Triple 𝓤 (𝓣 .C #record-agrees) (Recording 𝓤 H A mem run)) (l₀ l₁ l₂ l₃ l₄ l₅ l₆ l₇ l₈ l₉ l₁₀ l₁₁ l₁₂ : ℕ) where
       abbrev C : Calls 𝓤 H
       C = 𝓣 .C
 
@@ -168,15 +166,15 @@ module _ {M : Type 1} (𝓤 : URA M) (H : Heap 𝓤) (A : Atoms 𝓤) (W : Given
       Λ = 𝓣 .Λ
 
       abbrev En : Env 𝓤 H
-      En = (tyBool, l₀) ∷ (recs (named 0) imm, l₁) ∷ (toNotes (named 1) imm, l₂) ∷ (tyBool, l₃) ∷ (word, l₄) ∷ (word, l₅) ∷ (tyBool, l₆) ∷ (word, l₇) ∷ (T′.mir, l₈) ∷ (tyBool, l₉) ∷ (word, l₁₀) ∷ (tyPtr, l₁₁) ∷ (T′.mir, l₁₂) ∷ []
+      En = (tyBool, l₀) ∷ (recs (named 0) imm, l₁) ∷ (notesBy (named 1) imm, l₂) ∷ (tyBool, l₃) ∷ (word, l₄) ∷ (word, l₅) ∷ (tyBool, l₆) ∷ (word, l₇) ∷ (T′.mir, l₈) ∷ (tyBool, l₉) ∷ (word, l₁₀) ∷ (tyPtr, l₁₁) ∷ (T′.mir, l₁₂) ∷ []
 
       -- what is had of the parameters; and the locals, the last first, each beside that it dies
       abbrev Mid : List (Item 𝓤)
-      Mid = ‵ Nums ∷ ‵ (flft κ′ q′) ∷ ‵ Recs ∷ ‵ (flft κ q) ∷ ‵ (froom T′.mir l₁₂ 0) ∷ ‵ (fdies T′.mir l₁₂) ∷ ‵ (froom tyPtr l₁₁ 0) ∷ ‵ (fdies tyPtr l₁₁) ∷ ‵ (froom word l₁₀ 0) ∷ ‵ (fdies word l₁₀) ∷ ‵ (froom tyBool l₉ 0) ∷ ‵ (fdies tyBool l₉) ∷ ‵ (froom T′.mir l₈ 0) ∷ ‵ (fdies T′.mir l₈) ∷ ‵ (froom word l₇ 0) ∷ ‵ (fdies word l₇) ∷ ‵ (froom tyBool l₆ 0) ∷ ‵ (fdies tyBool l₆) ∷ ‵ (fat fullShare word l₅ 0 (vint w64 n)) ∷ ‵ (fdies word l₅) ∷ ‵ (fat fullShare word l₄ 0 (vint w64 nodes)) ∷ ‵ (fdies word l₄) ∷ ‵ (fat fullShare tyBool l₃ 0 (vbool noted)) ∷ ‵ (fdies tyBool l₃) ∷ ‵ (fat fullShare (toNotes (named 1) imm) l₂ 0 sf) ∷ ‵ (fdies (toNotes (named 1) imm) l₂) ∷ ‵ (fat fullShare (recs (named 0) imm) l₁ 0 s) ∷ ‵ (fdies (recs (named 0) imm) l₁) ∷ ‵ (froom tyBool l₀ 0) ∷ ‵ (fdies tyBool l₀) ∷ []
+      Mid = ‵ Nums ∷ ‵ (flft κ′ q′) ∷ ‵ Recs ∷ ‵ (flft κ q) ∷ ‵ (froom T′.mir l₁₂ 0) ∷ ‵ (fdies T′.mir l₁₂) ∷ ‵ (froom tyPtr l₁₁ 0) ∷ ‵ (fdies tyPtr l₁₁) ∷ ‵ (froom word l₁₀ 0) ∷ ‵ (fdies word l₁₀) ∷ ‵ (froom tyBool l₉ 0) ∷ ‵ (fdies tyBool l₉) ∷ ‵ (froom T′.mir l₈ 0) ∷ ‵ (fdies T′.mir l₈) ∷ ‵ (froom word l₇ 0) ∷ ‵ (fdies word l₇) ∷ ‵ (froom tyBool l₆ 0) ∷ ‵ (fdies tyBool l₆) ∷ ‵ (fat fullShare word l₅ 0 (vint w64 n)) ∷ ‵ (fdies word l₅) ∷ ‵ (fat fullShare word l₄ 0 (vint w64 nodes)) ∷ ‵ (fdies word l₄) ∷ ‵ (fat fullShare tyBool l₃ 0 (vbool noted)) ∷ ‵ (fdies tyBool l₃) ∷ ‵ (fat fullShare (notesBy (named 1) imm) l₂ 0 sf) ∷ ‵ (fdies (notesBy (named 1) imm) l₂) ∷ ‵ (fat fullShare (recs (named 0) imm) l₁ 0 s) ∷ ‵ (fdies (recs (named 0) imm) l₁) ∷ ‵ (froom tyBool l₀ 0) ∷ ‵ (fdies tyBool l₀) ∷ []
 
       -- i records are compared
       abbrev At : ℕ → List (Item 𝓤)
-      At i = ‵ Nums ∷ ‵ (flft κ′ q′) ∷ ‵ Recs ∷ ‵ (flft κ q) ∷ ‵ (froom T′.mir l₁₂ 0) ∷ ‵ (fdies T′.mir l₁₂) ∷ ‵ (froom tyPtr l₁₁ 0) ∷ ‵ (fdies tyPtr l₁₁) ∷ ‵ (froom word l₁₀ 0) ∷ ‵ (fdies word l₁₀) ∷ ‵ (froom tyBool l₉ 0) ∷ ‵ (fdies tyBool l₉) ∷ ‵ (froom T′.mir l₈ 0) ∷ ‵ (fdies T′.mir l₈) ∷ ‵ (fat fullShare word l₇ 0 (vint w64 i)) ∷ ‵ (fdies word l₇) ∷ ‵ (fat fullShare tyBool l₆ 0 (vbool (G i))) ∷ ‵ (fdies tyBool l₆) ∷ ‵ (fat fullShare word l₅ 0 (vint w64 n)) ∷ ‵ (fdies word l₅) ∷ ‵ (fat fullShare word l₄ 0 (vint w64 nodes)) ∷ ‵ (fdies word l₄) ∷ ‵ (fat fullShare tyBool l₃ 0 (vbool noted)) ∷ ‵ (fdies tyBool l₃) ∷ ‵ (fat fullShare (toNotes (named 1) imm) l₂ 0 sf) ∷ ‵ (fdies (toNotes (named 1) imm) l₂) ∷ ‵ (fat fullShare (recs (named 0) imm) l₁ 0 s) ∷ ‵ (fdies (recs (named 0) imm) l₁) ∷ ‵ (froom tyBool l₀ 0) ∷ ‵ (fdies tyBool l₀) ∷ []
+      At i = ‵ Nums ∷ ‵ (flft κ′ q′) ∷ ‵ Recs ∷ ‵ (flft κ q) ∷ ‵ (froom T′.mir l₁₂ 0) ∷ ‵ (fdies T′.mir l₁₂) ∷ ‵ (froom tyPtr l₁₁ 0) ∷ ‵ (fdies tyPtr l₁₁) ∷ ‵ (froom word l₁₀ 0) ∷ ‵ (fdies word l₁₀) ∷ ‵ (froom tyBool l₉ 0) ∷ ‵ (fdies tyBool l₉) ∷ ‵ (froom T′.mir l₈ 0) ∷ ‵ (fdies T′.mir l₈) ∷ ‵ (fat fullShare word l₇ 0 (vint w64 i)) ∷ ‵ (fdies word l₇) ∷ ‵ (fat fullShare tyBool l₆ 0 (vbool (G i))) ∷ ‵ (fdies tyBool l₆) ∷ ‵ (fat fullShare word l₅ 0 (vint w64 n)) ∷ ‵ (fdies word l₅) ∷ ‵ (fat fullShare word l₄ 0 (vint w64 nodes)) ∷ ‵ (fdies word l₄) ∷ ‵ (fat fullShare tyBool l₃ 0 (vbool noted)) ∷ ‵ (fdies tyBool l₃) ∷ ‵ (fat fullShare (notesBy (named 1) imm) l₂ 0 sf) ∷ ‵ (fdies (notesBy (named 1) imm) l₂) ∷ ‵ (fat fullShare (recs (named 0) imm) l₁ 0 s) ∷ ‵ (fdies (recs (named 0) imm) l₁) ∷ ‵ (froom tyBool l₀ 0) ∷ ‵ (fdies tyBool l₀) ∷ []
 
       -- when the loop is left, the rest of the body runs
       abbrev Left : Out → SProp 𝓤
@@ -199,10 +197,10 @@ module _ {M : Type 1} (𝓤 : URA M) (H : Heap 𝓤) (A : Atoms 𝓤) (W : Given
           assigns ! (of-opd ! (load ! (from ! (hop ! (look ! 10 refl) (stop !))) (look-raw ! 0 refl))) (from ! (stop !)) (init ! 8 refl (LL.lawful T.the-type T′.the-laws 𝓤 H A W .typed (r i) _ is .0)) $
           elem-back ! T.the-row q″ ys i nil (T′.lowered (r i) ∷ []) b o in-recs $ shuts-slice ! tt T.the-row q″ ys b o $ move ! (1 ∷ []) $ drop ! $
           assigns ! (of-opd ! (load ! (from ! (stop !)) (look ! 4 refl))) (from ! (stop !)) (init ! 12 refl (LL.lawful T.the-type T′.the-laws 𝓤 H A W .typed (r i) _ is .0)) $
-          -- the call: a copy of what the reference to the notes owns goes to `record_is`, beside the token, which comes back
-          move ! (2 ∷ 3 ∷ []) $ use1 W (‵ Nums ⊛ ‵ Nums) (shr-copy 𝓤 H A W (named 1) κ′ Notes .twice f (sf ∷ [])) $ split ! $ move ! (2 ∷ 0 ∷ []) $
+          -- the call: a copy of what the slice of notes owns goes to `record_agrees`, beside the token, which comes back
+          move ! (2 ∷ 3 ∷ []) $ use1 W (‵ Nums ⊛ ‵ Nums) (shr-slice-copy 𝓤 H A W (named 1) κ′ usize .twice f (sf ∷ [])) $ split ! $ move ! (2 ∷ 0 ∷ []) $
           use2 W (raw (Recording 𝓤 H A mem run .pre (to i))) (goes i (omega (arith, n-fits)) (omega (arith, n-is)) is) $
-          -- [what `record_is` asks; notes; the token of the records; records; _12; …]
+          -- [what `record_agrees` asks; notes; the token of the records; records; _12; …]
           calls-at ! (fmOf 𝓤 H (W .laws) 𝓣) (Recording 𝓤 H A mem run) known (to i) (and-then ! (load ! (from ! (stop !)) (look ! 24 refl)) (and-then ! (load ! (from ! (stop !)) (look ! 14 refl)) (and-then ! (load ! (from ! (stop !)) (look ! 12 refl)) (and-then ! (load ! (from ! (stop !)) (look ! 16 refl)) (no-more !))))) (λ u.
           use1 W (later (some (λ (z : Bool). ((‵ (flft κ′ q′) ⊛ ‵ ftrue) ⊛ ‵ (bool .own z (u ∷ []))) ⊛ raw (ensured 𝓤 H A recording.ended (recording.clauses 𝓤 H A mem run) (κ′, tt) (f, (i, (r i, (G i, tt)))) tt z)))) (id⊢ 𝓤 _) $ await ! tt $ pick ! (λ z.
           split ! $ move ! (1 ∷ []) $ use1 W (raw (fact 𝓤 (z ≡ agrees fs i (r i) (G i)))) (said i z) $ heard ! (z ≡ agrees fs i (r i) (G i)) (λ e. split ! $ move ! (1 ∷ []) $
@@ -245,12 +243,12 @@ module _ {M : Type 1} (𝓤 : URA M) (H : Heap 𝓤) (A : Atoms 𝓤) (W : Given
           assigns ! (of-opd ! (lit ! tt)) (from ! (stop !)) (init ! 14 refl (tt, record { fits = lit< tt })) $ by ! loops
 
   -- the call of `looked_at`, and the rest
-  walk : (𝓣 : Tables 𝓤 H) → Triple 𝓤 (𝓣 .C #record-is) (Recording 𝓤 H A mem run) → Triple 𝓤 (𝓣 .C #looked-at) (Looking 𝓤 H A mem run)
+  walk : (𝓣 : Tables 𝓤 H) → Triple 𝓤 (𝓣 .C #record-agrees) (Recording 𝓤 H A mem run) → Triple 𝓤 (𝓣 .C #looked-at) (Looking 𝓤 H A mem run)
       → ent 𝓤 (onEntry 𝓤 H A comparing.signature κs (q, (q′, tt)) a vals) (WpFn 𝓤 H (𝓣 .C) (𝓣 .Λ) code.function (s ∷ sf ∷ vbool noted ∷ vint w64 nodes ∷ []) Post)
   walk 𝓣 known known-look =
-      qed W ((‵ (flft κ q) ⊛ ‵ (flft κ′ q′) ⊛ ‵ ftrue) ∷ ‵ (owns (ShrSlice (named 0) κ T.the-row ∷ ShrRef (named 1) κ′ Notes ∷ bool ∷ usize ∷ []) a vals) ∷ []) ∵ enter ! (𝓣 .C) (𝓣 .Λ) code.function (s ∷ sf ∷ vbool noted ∷ vint w64 nodes ∷ []) _ $
+      qed W ((‵ (flft κ q) ⊛ ‵ (flft κ′ q′) ⊛ ‵ ftrue) ∷ ‵ (owns (ShrSlice (named 0) κ T.the-row ∷ ShrSlice (named 1) κ′ usize ∷ bool ∷ usize ∷ []) a vals) ∷ []) ∵ enter ! (𝓣 .C) (𝓣 .Λ) code.function (s ∷ sf ∷ vbool noted ∷ vint w64 nodes ∷ []) _ $
       alloc1 ! (λ l₀. alloc1 ! (λ l₁. alloc1 ! (λ l₂. alloc1 ! (λ l₃. alloc1 ! (λ l₄. alloc1 ! (λ l₅. alloc1 ! (λ l₆. alloc1 ! (λ l₇. alloc1 ! (λ l₈. alloc1 ! (λ l₉. alloc1 ! (λ l₁₀. alloc1 ! (λ l₁₁. alloc1 ! (λ l₁₂. alloc0 ! $ params1 ! $
-      pass1 ! (init ! 22 refl (tt, (tt, (record { fits = room .0 }, tt)))) $ pass1 ! (init ! 20 refl (tt, tt)) $ pass1 ! (init ! 18 refl (tt, tt)) $ pass1 ! (init ! 16 refl (tt, record { fits = nodes-fits })) $ pass0 ! $
+      pass1 ! (init ! 22 refl (tt, (tt, (record { fits = room .0 }, tt)))) $ pass1 ! (init ! 20 refl (tt, (tt, (record { fits = many .0 }, tt)))) $ pass1 ! (init ! 18 refl (tt, tt)) $ pass1 ! (init ! 16 refl (tt, record { fits = nodes-fits })) $ pass0 ! $
       use0 W (raw (Looking 𝓤 H A mem run .pre to-look)) goes-look $
       calls-at ! (fmOf 𝓤 H (W .laws) 𝓣) (Looking 𝓤 H A mem run) known-look to-look (and-then ! (load ! (from ! (stop !)) (look ! 19 refl)) (and-then ! (load ! (from ! (stop !)) (look ! 17 refl)) (no-more !))) (λ u.
       use1 W (later (some (λ (n : ℕ). (‵ ftrue ⊛ ‵ (usize .own n (u ∷ []))) ⊛ raw (ensured 𝓤 H A looking.ended (looking.clauses 𝓤 H A mem run) tt (noted, (nodes, tt)) tt n)))) (id⊢ 𝓤 _) $ await ! tt $ pick ! (λ n. split ! $ move ! (1 ∷ []) $ use1 W (raw (fact 𝓤 (n ≡ looked noted nodes))) (said-look n) $ heard ! (n ≡ looked noted nodes) (λ e. split ! $ move ! (1 ∷ []) $
@@ -260,16 +258,16 @@ module _ {M : Type 1} (𝓤 : URA M) (H : Heap 𝓤) (A : Atoms 𝓤) (W : Given
       keep ! (3 ∷ 0 ∷ 5 ∷ 2 ∷ 7 ∷ 8 ∷ 9 ∷ 10 ∷ 11 ∷ 12 ∷ 13 ∷ 14 ∷ 15 ∷ 16 ∷ 17 ∷ 18 ∷ 19 ∷ 20 ∷ 21 ∷ 22 ∷ 23 ∷ 24 ∷ 25 ∷ 26 ∷ 27 ∷ 28 ∷ 29 ∷ 30 ∷ 31 ∷ 32 ∷ []) $ starts n e (is .1) 𝓣 known l₀ l₁ l₂ l₃ l₄ l₅ l₆ l₇ l₈ l₉ l₁₀ l₁₁ l₁₂)))))))))))))))))
 
 module _ {M : Type 1} (𝓤 : URA M) (H : Heap 𝓤) (A : Atoms 𝓤) (W : Given 𝓤 H A) (mem : Memory → SProp 𝓤) (run : Routine → Fun 𝓤) (𝓣 : Tables 𝓤 H)
-    (known : Triple 𝓤 (𝓣 .C #record-is) (Recording 𝓤 H A mem run)) (known-look : Triple 𝓤 (𝓣 .C #looked-at) (Looking 𝓤 H A mem run)) where
+    (known : Triple 𝓤 (𝓣 .C #record-agrees) (Recording 𝓤 H A mem run)) (known-look : Triple 𝓤 (𝓣 .C #looked-at) (Looking 𝓤 H A mem run)) where
   walks : Walks 𝓤 H A comparing.ended stayed (WpFn 𝓤 H (𝓣 .C) (𝓣 .Λ) code.function) (comparing.clauses 𝓤 H A mem run)
   walks = walked 𝓤 H A comparing.ended stayed (comparing.clauses 𝓤 H A mem run) (WpFn 𝓤 H (𝓣 .C) (𝓣 .Λ) code.function)
-      (λ κs. (slice-vals, (ptr-vals, (bool-vals, (uint-vals w64, tt))))) (λ κs. (shr-slice-tells (named 0) (κs .0) T.the-row, (shr-tells (named 1) (κs .1 .0) Notes, (bool-tells, (uint-tells w64, tt)))))
+      (λ κs. (slice-vals, (slice-vals, (bool-vals, (uint-vals w64, tt))))) (λ κs. (shr-slice-tells (named 0) (κs .0) T.the-row, (shr-slice-tells (named 1) (κs .1 .0) usize, (bool-tells, (uint-tells w64, tt)))))
       (λ κs qs bounds a g are. needs 𝓤 (Comparable (a .1 .0 .now) (a .1 .1 .0) (a .1 .1 .1 .0) (length (a .0 .now))) _ (λ comparable.
-      walk 𝓤 H A W mem run (κs .0) (κs .1 .0) (qs .0) (qs .1 .0) (a .0) (a .1 .0) (a .1 .1 .0) (a .1 .1 .1 .0) (are .1 .1 .1 .0 .1) (are .0 .0 .1) comparable 𝓣 known known-look))
+      walk 𝓤 H A W mem run (κs .0) (κs .1 .0) (qs .0) (qs .1 .0) (a .0) (a .1 .0) (a .1 .1 .0) (a .1 .1 .1 .0) (are .1 .1 .1 .0 .1) (are .0 .0 .1) (are .1 .0 .0 .1) comparable 𝓣 known known-look))
 
   meets : Meets 𝓤 H A comparing.signature (WpFn 𝓤 H (𝓣 .C) (𝓣 .Λ) code.function) (comparing.spec 𝓤 H A mem run)
   meets =
-      walk-meets 𝓤 H A comparing.ended stayed W (goes-dropped 𝓤 H A W 2 (shrSliceOf (0 ∷ []) tt (plain (λ _. T.the-row))) yes (λ κs x f. refl), (goes-none-ref 𝓤 H A W 2 (1 ∷ []) tt (arrayOf (plain (λ _. usize)) mostNodes) yes, (goes-dropped 𝓤 H A W 2 (plain (λ _. bool)) yes (λ κs x f. refl), (goes-dropped 𝓤 H A W 2 (plain (λ _. usize)) yes (λ κs x f. refl), tt))))
+      walk-meets 𝓤 H A comparing.ended stayed W (goes-dropped 𝓤 H A W 2 (shrSliceOf (0 ∷ []) tt (plain (λ _. T.the-row))) yes (λ κs x f. refl), (goes-none-slice 𝓤 H A W 2 (1 ∷ []) tt (plain (λ _. usize)) yes, (goes-dropped 𝓤 H A W 2 (plain (λ _. bool)) yes (λ κs x f. refl), (goes-dropped 𝓤 H A W 2 (plain (λ _. usize)) yes (λ κs x f. refl), tt))))
       (comparing.clauses 𝓤 H A mem run) (WpFn 𝓤 H (𝓣 .C) (𝓣 .Λ) code.function) (WpFn-mono 𝓤 H (W .laws) 𝓣 code.function) walks
 
 pub holds-spec : {M : Type 1} → stated.statement M
@@ -278,5 +276,5 @@ holds-spec 𝓤 H 𝓜 𝓖 𝓡 =
     entered 𝓤 H (tripleOf 𝓤 H (𝓖 .A) comparing.signature (comparing.spec 𝓤 H (𝓖 .A) (𝓜 .mem) (𝓡 .run)))
     (tables 𝓤 H 𝓜 𝓡 code.env .C) (tables 𝓤 H 𝓜 𝓡 code.env .Λ) #holds code.function (code.unfolded 𝓤 H 𝓜 𝓡)
     (meets 𝓤 H (𝓖 .A) (givenOf 𝓤 H 𝓜 𝓖) (𝓜 .mem) (𝓡 .run) (tablesOf 𝓤 H 𝓜 (tables 𝓤 H 𝓜 𝓡 code.env))
-    (cited 𝓤 H (Recording 𝓤 H (𝓖 .A) (𝓜 .mem) (𝓡 .run)) 𝓜 𝓡 code.env #record-is recording-def.routine code.calls-records·told·record-is (recording-thm.met 𝓤 H 𝓜 𝓖 𝓡))
+    (cited 𝓤 H (Recording 𝓤 H (𝓖 .A) (𝓜 .mem) (𝓡 .run)) 𝓜 𝓡 code.env #record-agrees recording-def.routine code.calls-records·told·record-agrees (recording-thm.met 𝓤 H 𝓜 𝓖 𝓡))
     (cited 𝓤 H (Looking 𝓤 H (𝓖 .A) (𝓜 .mem) (𝓡 .run)) 𝓜 𝓡 code.env #looked-at looking-def.routine code.calls-records·told·looked-at (looking-thm.met 𝓤 H 𝓜 𝓖 𝓡)))

@@ -1,4 +1,4 @@
--- `records::place_in` meets its contract: a walk of its MIR, by hand, of three calls. The notes are lent as `&mut` to `lookup::note_in`, and as `&` to `holds_by` and `lookup::place_by`, each for a lifetime that is made for the call, and come back.
+-- `records::place_in` meets its contract: a walk of its MIR, by hand, of three calls. The notes are lent as `&mut` to `lookup::note_in`, and as `&` to `holds` and `lookup::place_by`, each for a lifetime that is made for the call, and come back.
 -- All that the proof knows of the three is that each meets its contract.
 --     notes-it, compares, shows-it, leaves     the three calls, and the end
 use mathlib.Core.Path.{_≡_, refl, sym, _∙_, ap, subst}
@@ -60,10 +60,10 @@ use Rattle.lookup.proofs.noted.note_in as note
 use Rattle.lookup.proofs.noted.note_in.Symbol as note-def
 use Rattle.lookup.proofs.noted.note_in.Symbol.{name as #note}
 use Rattle.lookup.proofs.noted.note_in.Met as note-thm
-use Rattle.records.proofs.holds_by as hold
-use Rattle.records.proofs.holds_by.Symbol as hold-def
-use Rattle.records.proofs.holds_by.Symbol.{name as #hold}
-use Rattle.records.proofs.holds_by.Met as hold-thm
+use Rattle.records.proofs.holds as hold
+use Rattle.records.proofs.holds.Symbol as hold-def
+use Rattle.records.proofs.holds.Symbol.{name as #hold}
+use Rattle.records.proofs.holds.Met as hold-thm
 use Rattle.lookup.proofs.noted.place_by as core
 use Rattle.lookup.proofs.noted.place_by.Symbol as core-def
 use Rattle.lookup.proofs.noted.place_by.Symbol.{name as #core}
@@ -288,5 +288,5 @@ place-in-spec 𝓤 H 𝓜 𝓖 𝓡 =
     (tables 𝓤 H 𝓜 𝓡 code.env .C) (tables 𝓤 H 𝓜 𝓡 code.env .Λ) #entry code.function (code.unfolded 𝓤 H 𝓜 𝓡)
     (meets 𝓤 H (𝓖 .A) (givenOf 𝓤 H 𝓜 𝓖) (𝓜 .mem) (𝓡 .run) (tablesOf 𝓤 H 𝓜 (tables 𝓤 H 𝓜 𝓡 code.env))
     (cited 𝓤 H (Note 𝓤 H (𝓖 .A) (𝓜 .mem) (𝓡 .run)) 𝓜 𝓡 code.env #note note-def.routine code.calls-lookup·noted·note-in (note-thm.met 𝓤 H 𝓜 𝓖 𝓡))
-    (cited 𝓤 H (Hold 𝓤 H (𝓖 .A) (𝓜 .mem) (𝓡 .run)) 𝓜 𝓡 code.env #hold hold-def.routine code.calls-records·holds-by (hold-thm.met 𝓤 H 𝓜 𝓖 𝓡))
+    (cited 𝓤 H (Hold 𝓤 H (𝓖 .A) (𝓜 .mem) (𝓡 .run)) 𝓜 𝓡 code.env #hold hold-def.routine code.calls-records·holds (hold-thm.met 𝓤 H 𝓜 𝓖 𝓡))
     (cited 𝓤 H (Core 𝓤 H (𝓖 .A) (𝓜 .mem) (𝓡 .run)) 𝓜 𝓡 code.env #core core-def.routine code.calls-lookup·noted·place-by (core-thm.met 𝓤 H 𝓜 𝓖 𝓡)))

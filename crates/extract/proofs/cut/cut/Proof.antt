@@ -28,7 +28,7 @@ copy-requires c κs = (search (hop-source, arith), search (hop-room, arith))
 
 add-node : tie.Need-add-node Inv-loop μ-loop
 add-node c =
-    let loop = c .before .before .before .before .before .before .before .before .before .before .before .before in
+    let loop = c .before .before .before .before .before .before .before .before .before .before .before in
     let told = c .before .before .before .before .before .before .before in
     omega (arith, hop-fits _ _ _ _ _ _ _ _ (loop .loop .inv) (search needs) _ (told .row-of .ensures))
 
