@@ -40,22 +40,22 @@
  *   etg_remove               120,664
  *   etg_remove_records       134,568
  *   etg_same                   2,408
- *   etg_hint                  67,896
+ *   etg_hint                  67,880
  *   etg_hint_records          81,976
- *   etg_data                  67,896
+ *   etg_data                  67,880
  *   etg_data_records          81,976
- *   etg_spool_open             2,408
- *   etg_spool_add_start        2,472
+ *   etg_spool_open             2,392
+ *   etg_spool_add_start        2,440
  *   etg_spool_add_step            32
  *   etg_spool_add_commits          8
- *   etg_spool_add              2,472
- *   etg_value                 67,848
+ *   etg_spool_add              2,440
+ *   etg_value                 67,832
  *   etg_value_records         67,848
  *   etg_put_value                 24
- *   etg_line                  67,864
+ *   etg_line                  67,848
  *   etg_line_records          67,848
  *   etg_total                     72
- *   etg_week                  67,848
+ *   etg_week                  67,832
  *   etg_week_records          67,832
  *   etg_extract              136,632
  *   etg_extract_own          136,632
@@ -64,8 +64,8 @@
  *   etg_split                    184
  *   etg_pieces_start               8
  *   etg_pieces_feed              328
- *   etg_pieces_end            67,880
- *   etg_pieces_end_records    67,832
+ *   etg_pieces_end            67,864
+ *   etg_pieces_end_records    67,816
  *
  * Refusals. Every function but those that find a hint or data, that split a
  * run of sheets, or that go on with an addition to a spool, returns one of

@@ -23,6 +23,9 @@ use Rattle.reader.proofs.Storing.{puts-refused}
 
 -- ---- local space
 
+pub formed-less : (form n : ℕ) → Formed form n maxSource → (bound : ℕ) → n ≤ bound → Formed form n bound
+formed-less form n f bound l = record { low = f .low; high = f .high; short = l }
+
 module _ (form n s m : ℕ) where
   pub small-spaced : (bound : ℕ) → Formed form n bound → bound ≤ maxSource → 3 * bound + 64 ≤ s → s < shift → 3 * bound ≤ 2 * m → Spaced form n s m
   small-spaced bound f h k j l = record { takes = small-takes form n s bound f h k j; room = halved (omega (arith, f .short)) }

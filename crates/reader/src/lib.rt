@@ -123,11 +123,12 @@ pub fn read_notes(
     if row > 0 {
         return refused(row);
     }
-    if source.len() <= limits::SHORT {
-        return tiers::put_short(form, source, canonical, records, notes);
+    // A function that is called at two places keeps a frame of its own; else each short call would pay for the largest.
+    if source.len() > limits::MIDDLE {
+        return tiers::put_more(form, source, canonical, records, notes);
     }
-    if source.len() <= limits::MIDDLE {
-        return tiers::put_middle(form, source, canonical, records, notes);
+    if source.len() > limits::SHORT {
+        return tiers::put_more(form, source, canonical, records, notes);
     }
-    tiers::put_long(form, source, canonical, records, notes)
+    tiers::put_short(form, source, canonical, records, notes)
 }

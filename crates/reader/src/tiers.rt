@@ -69,7 +69,7 @@ pub fn put_short(
     put(form, source, canonical, records, &mut scratch, notes)
 }
 
-pub fn put_middle(
+fn put_middle(
     form: u32,
     source: &[u8],
     canonical: &mut [u8],
@@ -84,7 +84,7 @@ pub fn put_middle(
     put(form, source, canonical, records, &mut scratch, notes)
 }
 
-pub fn put_long(
+fn put_long(
     form: u32,
     source: &[u8],
     canonical: &mut [u8],
@@ -97,4 +97,22 @@ pub fn put_long(
 {
     let mut scratch: [u8; limits::LONG_SCRATCH] = [0; limits::LONG_SCRATCH];
     put(form, source, canonical, records, &mut scratch, notes)
+}
+
+// A text that is not short.
+pub fn put_more(
+    form: u32,
+    source: &[u8],
+    canonical: &mut [u8],
+    records: usize,
+    notes: &mut [usize],
+) -> Reading
+    requires { ⌜ Formed form (length (now source)) maxSource ⌝ }
+    requires { ⌜ Noteable (length (now source)) (length (now notes)) ⌝ }
+    ensures { λ r. ⌜ Puts (readTree (decode form (now (source .entry))) (placeOf form (now (source .entry))) (now (canonical .entry))) (now (canonical .exit)) records (now (notes .exit)) r ⌝ }
+{
+    if source.len() > limits::MIDDLE {
+        return put_long(form, source, canonical, records, notes);
+    }
+    put_middle(form, source, canonical, records, notes)
 }

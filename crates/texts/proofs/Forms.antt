@@ -17,7 +17,7 @@ use Rattle.model.specs.Decode.{nestings, onlyTree, onlyIn, nest, decode₁, dec
 use Rattle.model.specs.Lexemes.{lexemesBy, strictLexemes}
 use Rattle.model.specs.Tree.{Tree, canon}
 use Rattle.walk.specs.declared.Extent.{Extent}
-use Rattle.texts.specs.Texts.{Takeable, Braced, Enclosed, Opens, Literal, Bare, Taken}
+use Rattle.texts.specs.Texts.{Takeable, Braced, Enclosed, Coded, Opens, Bare, Taken}
 
 -- ---- form 2 with a brace, or another text
 
@@ -77,20 +77,14 @@ module _ (form : ℕ) (text : List ℕ) where
       let q : Opens form text false = subst (Opens form text) f o in
       record { bared = λ _. record { basic = e; is = q (omega arith) (omega arith) .0; told = q (omega arith) (omega arith) .1 } }
 
--- ---- octets as they stand, or spelled otherwise
+-- ---- octets that are spelled
 module _ (form : ℕ) (text : List ℕ) where
-  pub literal-advanced : 3 ≤ form → Literal form text false
-  unfolding Literal
-  literal-advanced h k = absurd (omega arith)
+  pub coded-advanced : 3 ≤ form → Coded form text
+  coded-advanced h = record { enclosed = λ k. absurd (omega arith) }
 
-  module _ (b : Bool) (o : Opens form text b) where
-    pub literal-brace : b ≡ true → Literal form text false
-    unfolding Literal Opens
-    literal-brace e k = subst (Opens form text) e o
-
-    pub literal-bare : form < 3 → b ≡ false → Literal form text true
-    unfolding Literal Opens
-    literal-bare n e k = let q : Opens form text false = subst (Opens form text) e o in q k (omega arith)
+  pub coded-braced : (b : Bool) → Opens form text b → b ≡ true → Coded form text
+  unfolding Opens
+  coded-braced b o e = record { enclosed = λ k. subst (Opens form text) e o }
 
 -- ---- each form, told as the form's
 module _ (form : ℕ) (text : List ℕ) (room : ℕ) (g : Takeable form (length text) room) where
@@ -105,21 +99,20 @@ module _ (form : ℕ) (text : List ℕ) (room : ℕ) (g : Takeable form (length 
         (by-eq form 4 (λ e. rw e) (λ e. let z : form ≡ 3 = omega (arith, g .high) in rw z))
         (by-eq form 4 (λ e. rw e) (λ e. let z : form ≡ 3 = omega (arith, g .high) in rw z)) t
 
-  module _ (b : Bool) (o : Literal form text b) where
-    enclosed : form < 3 → b ≡ false → Enclosed form text
-    unfolding Literal
-    enclosed n e = let q : Literal form text false = subst (Literal form text) e o in q (omega arith)
+  module _ (k : Coded form text) (n : form < 3) where
+    enclosed : Enclosed form text
+    enclosed = k .enclosed (omega arith)
 
-    pub form-brace : form < 3 → b ≡ false → Braced text
-    form-brace n e = enclosed n e .braced
+    pub form-brace : Braced text
+    form-brace = enclosed .braced
 
-    module _ (scratch notes notes′ : List ℕ) (r : Extent) where
-      pub form-braced : form < 3 → b ≡ false → Taken (decode₂ rules text) 0 scratch notes notes′ r → Taken (decode form text) (placeOf form text) scratch notes notes′ r
-      form-braced n e t = as-form scratch notes notes′ r (decode₂ rules text) 0 (enclosed n e .is) (enclosed n e .told) t
+    pub form-braced : (scratch notes notes′ : List ℕ) (r : Extent) → Taken (decode₂ rules text) 0 scratch notes notes′ r → Taken (decode form text) (placeOf form text) scratch notes notes′ r
+    form-braced scratch notes notes′ r t = as-form scratch notes notes′ r (decode₂ rules text) 0 (enclosed .is) (enclosed .told) t
 
-      pub form-canonical : b ≡ true → Taken (decode₁ text) (place text) scratch notes notes′ r → Taken (decode form text) (placeOf form text) scratch notes notes′ r
-      unfolding Literal
-      form-canonical e t =
-          let q : Literal form text true = subst (Literal form text) e o in
-          let y : (decode form text ≡ decode₁ text) × (placeOf form text ≡ place text) = q (g .low) in
-          as-form scratch notes notes′ r (decode₁ text) (place text) (y .0) (y .1) t
+  module _ (n : form < 3) (b : Bool) (o : Opens form text b) (scratch notes notes′ : List ℕ) (r : Extent) where
+    pub form-canonical : b ≡ false → Taken (decode₁ text) (place text) scratch notes notes′ r → Taken (decode form text) (placeOf form text) scratch notes notes′ r
+    unfolding Opens
+    form-canonical e t =
+        let q : Opens form text false = subst (Opens form text) e o in
+        let y : (decode form text ≡ decode₁ text) × (placeOf form text ≡ place text) = q (g .low) (omega arith) in
+        as-form scratch notes notes′ r (decode₁ text) (place text) (y .0) (y .1) t

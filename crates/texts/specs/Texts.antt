@@ -53,10 +53,9 @@ unfoldable pub Opens : ℕ → List ℕ → Bool → Type 0
 Opens form text true = Enclosed form text
 Opens form text false = 1 ≤ form → form ≤ 2 → (decode form text ≡ decode₁ text) × (placeOf form text ≡ place text)
 
--- whether a text means what it means as canonical text; one of form 1 or 2 that doesn't is in braces
-unfoldable pub Literal : ℕ → List ℕ → Bool → Type 0
-Literal form text true = 1 ≤ form → (decode form text ≡ decode₁ text) × (placeOf form text ≡ place text)
-Literal form text false = form ≤ 2 → Enclosed form text
+-- text whose octets are spelled: of form 3 or 4, or in braces
+pub record Coded (form : ℕ) (text : List ℕ) : Type 0 where
+  pub enclosed : form ≤ 2 → Enclosed form text
 
 -- basic text that means what it means as canonical text
 pub record Bared (form : ℕ) (text : List ℕ) : Type 0 where

@@ -8,7 +8,7 @@ ghost use Rattle.model.specs.Automaton.{place};
 ghost use Rattle.model.specs.Decode.{decode₁, decode₂, decode₃, decode};
 ghost use Rattle.octets.specs.Classes.{Classed, Lettered};
 ghost use Rattle.advanced.specs.Converted.{Lent};
-ghost use Rattle.texts.specs.Texts.{textVerdict, Takeable, Braced, Opens, Bare, Literal, Taken};
+ghost use Rattle.texts.specs.Texts.{textVerdict, Takeable, Braced, Coded, Opens, Bare, Taken};
 use walk::Extent;
 
 // Row 1 or 2, of a form and a text's length; 0 where neither applies.
@@ -48,19 +48,6 @@ pub fn bare(form: u32, text: &[u8]) -> bool
     ensures { λ r. ⌜ Bare form (now (text .entry)) r ⌝ }
 {
     if form != 2 {
-        return false;
-    }
-    if braced(form, text) {
-        return false;
-    }
-    true
-}
-
-// Whether a text is its own canonical octets: canonical text, and basic text outside braces.
-fn literal(form: u32, text: &[u8]) -> bool
-    ensures { λ r. ⌜ Literal form (now (text .entry)) r ⌝ }
-{
-    if form >= 3 {
         return false;
     }
     if braced(form, text) {
@@ -163,22 +150,35 @@ fn take_advanced(
     }
 }
 
-// The canonical octets of a text at the front of scratch, the sizes of the tree that it means, and the tree's notes as far as they
-// have room. No limit of depth, nodes or octets decides whether the text is one. The lists of classes and letters are built for texts
-// that ask for them alone.
-pub fn take(form: u32, text: &[u8], scratch: &mut [u8], notes: &mut [usize]) -> Extent
+// Text whose octets are spelled: advanced text, and base-64 in braces. It alone asks for the lists of classes and letters.
+fn take_coded(form: u32, text: &[u8], scratch: &mut [u8], notes: &mut [usize]) -> Extent
     requires { ⌜ Takeable form (length (now text)) (length (now scratch)) ⌝ }
+    requires { ⌜ Coded form (now text) ⌝ }
     ensures { λ r. ⌜ Taken (decode form (now (text .entry))) (placeOf form (now (text .entry))) (now (scratch .exit)) (now (notes .entry)) (now (notes .exit)) r ⌝ }
 {
     // Lent again, a slice goes on in registers.
     let text = &*text;
-    if literal(form, text) {
-        return take_canonical(text, scratch, notes);
-    }
     let classes = octets::classes();
     let letters = octets::letters();
     if form >= 3 {
         return take_advanced(&classes, &letters, form == 4, text, scratch, notes);
     }
     take_braced(&classes, &letters, text, scratch, notes)
+}
+
+// The canonical octets of a text at the front of scratch, the sizes of the tree that it means, and the tree's notes as far as they
+// have room. No limit of depth, nodes or octets decides whether the text is one.
+pub fn take(form: u32, text: &[u8], scratch: &mut [u8], notes: &mut [usize]) -> Extent
+    requires { ⌜ Takeable form (length (now text)) (length (now scratch)) ⌝ }
+    ensures { λ r. ⌜ Taken (decode form (now (text .entry))) (placeOf form (now (text .entry))) (now (scratch .exit)) (now (notes .entry)) (now (notes .exit)) r ⌝ }
+{
+    let text = &*text;
+    // A function that is called at two places keeps a frame of its own, and canonical text does without it.
+    if form >= 3 {
+        return take_coded(form, text, scratch, notes);
+    }
+    if braced(form, text) {
+        return take_coded(form, text, scratch, notes);
+    }
+    take_canonical(text, scratch, notes)
 }

@@ -8,20 +8,20 @@ use Rattle.reader.proofs.read_notes.Tie as tie
 returns : tie.Need-returns
 returns c = search (notes-refused, arith)
 
-put-short-requires : tie.Need-put-short-requires
-put-short-requires c κs = (search (formed, arith), search needs)
+put-more-requires : tie.Need-put-more-requires
+put-more-requires c κs = (search (formed-long, arith), search needs)
 
 returns-2 : tie.Need-returns-2
 returns-2 c = search (notes-taken, arith)
 
-put-middle-requires : tie.Need-put-middle-requires
-put-middle-requires c κs = (search (formed, arith), search needs)
+put-more-requires-2 : tie.Need-put-more-requires-2
+put-more-requires-2 c κs = (search (formed-long, arith), search needs)
 
 returns-3 : tie.Need-returns-3
 returns-3 c = search (notes-taken, arith)
 
-put-long-requires : tie.Need-put-long-requires
-put-long-requires c κs = (search (formed-long, arith), search needs)
+put-short-requires : tie.Need-put-short-requires
+put-short-requires c κs = (search (formed, arith), search needs)
 
 returns-4 : tie.Need-returns-4
 returns-4 c = search (notes-taken, arith)
@@ -33,15 +33,15 @@ read-notes-spec =
     (λ c κs. search needs)
     (λ c κs. search needs)
     returns
-    put-short-requires
+    put-more-requires
     (λ c. search needs)
     (λ c. search needs)
     returns-2
-    put-middle-requires
+    put-more-requires-2
     (λ c. search needs)
     (λ c. search needs)
     returns-3
-    put-long-requires
+    put-short-requires
     (λ c. search needs)
     (λ c. search needs)
     returns-4)
