@@ -47,13 +47,13 @@ fn decode(
     // Lent again, a slice goes on in registers.
     let src = &*src;
     let b = src[at];
-    if b == 34 {
+    if b == b'"' {
         return marks::quotes(classes, src, at + 1, out, pos, count);
     }
-    if b == 35 {
+    if b == b'#' {
         return marks::hex(classes, src, at + 1, out, pos, count);
     }
-    if b == 124 {
+    if b == b'|' {
         return marks::base(classes, letters, src, at + 1, 124, out, pos, count);
     }
     0
@@ -98,7 +98,7 @@ fn between(
     requires { ⌜ (at < length (now src)) × Room (now src) at pos (length (now out)) ⌝ }
     ensures { λ r. ⌜ Spells (now (src .entry)) (marked rules (getD (now (src .entry)) at 0) (drop (at + 1) (now (src .entry)))) at pos (now (out .entry)) (now (out .exit)) (now (end .exit)) r ⌝ }
 {
-    if src[at] != 34 {
+    if src[at] != b'"' {
         return framed(classes, letters, src, at, out, pos, end);
     }
     let stop = quoted::unescaped_end(classes, src, at + 1);
@@ -128,7 +128,7 @@ fn after_number(
     if at >= src.len() {
         return 0;
     }
-    if src[at] == 58 {
+    if src[at] == b':' {
         let body = at + 1;
         if n > src.len() - body {
             return 0;
@@ -191,10 +191,10 @@ pub fn simple(
         return 0;
     }
     let c = class_of(classes, src[at]);
-    if c < 14 {
+    if c < octets::TOKEN {
         return between(classes, letters, src, at, out, pos, end);
     }
-    if c > 17 {
+    if c > octets::HEX {
         return counted(classes, letters, src, at, out, pos, end);
     }
     let stop = scan::run_end(classes, src, at + 1);
@@ -219,10 +219,10 @@ fn close_hint(
     if j >= src.len() {
         return 0;
     }
-    if src[j] != 93 {
+    if src[j] != b']' {
         return 0;
     }
-    out[pos] = 93;
+    out[pos] = b']';
     *end = pos + 1;
     scan::skip_at(classes, src, j + 1)
 }
@@ -242,7 +242,7 @@ fn hint(
     requires { ⌜ (at < length (now src)) × Spare (now src) at pos (length (now out)) ⌝ }
     ensures { λ r. ⌜ HintSpells (now (src .entry)) at pos (now (out .entry)) (now (out .exit)) (now (end .exit)) r ⌝ }
 {
-    out[pos] = 91;
+    out[pos] = b'[';
     let i = scan::skip_at(classes, src, at + 1);
     let mut e: usize = 0;
     let next = simple(classes, letters, src, i, out, pos + 1, &mut e);
@@ -324,8 +324,8 @@ pub fn convert(
         }
         let b = src[i];
         let o = wrap(size);
-        if b == 40 {
-            out[o] = 40;
+        if b == b'(' {
+            out[o] = b'(';
             enter(&mut starts, &mut numbers, opened, o, seen);
             size += 1;
             opened += 1;
@@ -334,13 +334,13 @@ pub fn convert(
             at = i + 1;
             continue;
         }
-        if b == 41 {
+        if b == b')' {
             if opened == 0 {
                 return Extent::Refused { place: 0 };
             }
             opened -= 1;
             leave(notes, &starts, &numbers, opened, seen, o);
-            out[o] = 41;
+            out[o] = b')';
             size += 1;
             at = i + 1;
             continue;
@@ -367,7 +367,7 @@ pub fn convert(
         let mut mid: usize = 0;
         let mut end: usize = 0;
         // A call through another function would store the text's place and length again for each string.
-        let next = if b == 91 {
+        let next = if b == b'[' {
             hinted(classes, letters, src, i, out, o, &mut mid, &mut end)
         } else {
             simple(classes, letters, src, i, out, o, &mut end)

@@ -62,7 +62,7 @@ pub fn letter_at(
     if x == mark {
         return Letter::End { next: i + 1 };
     }
-    if x == 61 {
+    if x == b'=' {
         return Letter::Pad { next: i + 1 };
     }
     if letter_of(letters, x) >= 64 {

@@ -35,7 +35,7 @@ fn after_length(src: &[u8], at: usize, n: usize) -> Span
     if at >= src.len() {
         return Span::Not;
     }
-    if src[at] != 58 {
+    if src[at] != b':' {
         return Span::Not;
     }
     let start = at + 1;
@@ -57,10 +57,10 @@ fn verbatim_at(src: &[u8], at: usize) -> Span
         return Span::Not;
     }
     let b = src[at];
-    if b < 48 {
+    if b < b'0' {
         return Span::Not;
     }
-    if b > 57 {
+    if b > b'9' {
         return Span::Not;
     }
     match decimal::decimal_at(src, at) {
@@ -77,7 +77,7 @@ fn after_hint(src: &[u8], from: usize, to: usize) -> Item
     if to >= src.len() {
         return Item::Other;
     }
-    if src[to] != 93 {
+    if src[to] != b']' {
         return Item::Other;
     }
     match verbatim_at(src, to + 1) {
@@ -97,13 +97,13 @@ pub fn lexeme_at(src: &[u8], at: usize) -> Item
     ensures { λ r. ⌜ ItemAt (now (src .entry)) at r ⌝ }
 {
     let b = src[at];
-    if b == 40 {
+    if b == b'(' {
         return Item::Open;
     }
-    if b == 41 {
+    if b == b')' {
         return Item::Close;
     }
-    if b == 91 {
+    if b == b'[' {
         match verbatim_at(src, at + 1) {
             Span::Is { start, end } => after_hint(src, start, end),
             Span::Not => Item::Other,

@@ -47,7 +47,7 @@ fn put_digit(n: usize, power: usize, out: &mut [u8], pos: usize) -> usize
     ensures { λ r. ⌜ Led n power pos (now (out .entry)) (now (out .exit)) r ⌝ }
 {
     let part = digit_at(n, power);
-    out[pos] = 48 + part.digit as u8;
+    out[pos] = b'0' + part.digit as u8;
     part.left
 }
 
@@ -57,7 +57,7 @@ fn put_two(n: usize, out: &mut [u8], pos: usize) -> usize
     ensures { λ r. ⌜ Wrote (ending (10 ∷ []) n) pos (now (out .entry)) (now (out .exit)) r ⌝ }
 {
     let left = put_digit(n, 10, out, pos);
-    out[pos + 1] = 48 + left as u8;
+    out[pos + 1] = b'0' + left as u8;
     pos + 2
 }
 
@@ -75,7 +75,7 @@ fn put_more(n: usize, out: &mut [u8], pos: usize) -> usize
         left = put_digit(left, powers[k], out, i);
         i += 1;
     }
-    out[i] = 48 + left as u8;
+    out[i] = b'0' + left as u8;
     i + 1
 }
 
@@ -85,7 +85,7 @@ pub fn put_decimal(n: usize, out: &mut [u8], pos: usize) -> usize
     ensures { λ r. ⌜ Wrote (digits n) pos (now (out .entry)) (now (out .exit)) r ⌝ }
 {
     if n < 10 {
-        out[pos] = 48 + n as u8;
+        out[pos] = b'0' + n as u8;
         return pos + 1;
     }
     if n < 100 {

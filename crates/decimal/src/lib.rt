@@ -37,13 +37,13 @@ pub fn number_at(src: &[u8], at: usize) -> Number
     let mut i = at;
     while i < src.len() {
         let b = src[i];
-        if b < 48 {
+        if b < b'0' {
             return Number::Value { value, next: i };
         }
-        if b > 57 {
+        if b > b'9' {
             return Number::Value { value, next: i };
         }
-        value = capped(value) * 10 + (b - 48) as usize;
+        value = capped(value) * 10 + (b - b'0') as usize;
         if value > src.len() {
             return Number::NoNumber;
         }
@@ -57,7 +57,7 @@ pub fn decimal_at(src: &[u8], at: usize) -> Number
     requires { ⌜ (at < length (now src)) × (isDigit (getD (now src) at 0) ≡ true) ⌝ }
     ensures { λ r. ⌜ Numbered (now (src .entry)) (decimal (getD (now (src .entry)) at 0) (drop (at + 1) (now (src .entry)))) at r ⌝ }
 {
-    if src[at] == 48 {
+    if src[at] == b'0' {
         return Number::Value {
             value: 0,
             next: at + 1,

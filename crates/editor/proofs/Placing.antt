@@ -30,7 +30,7 @@ use Rattle.edits.proofs.Moved.{new-length}
 use Rattle.edits.proofs.Whole.{canons-one, nodess-one, depths-one}
 use Rattle.lookup.proofs.Sheets.{sheet-of}
 use Rattle.lookup.proofs.Sheets as good
-use Rattle.sheets.specs.Told.{Holds}
+use Rattle.tables.specs.Told.{Holds}
 use Rattle.sheets.proofs.Keeping.{noted-length}
 use Rattle.lookup.specs.Noted.{Sheet}
 use Rattle.plan.specs.Asked.{changed, given, texted, newTree, changeChecks, changeTree}

@@ -12,7 +12,7 @@ use Rattle.model.specs.Decode.{decode}
 use Rattle.answers.specs.Cases.{outcome}
 use Rattle.answers.specs.declared.Reading.{Reading}
 use Rattle.answers.specs.declared.Reading.the-variants as reading
-use Rattle.sheets.specs.Told.{Holds}
+use Rattle.tables.specs.Told.{Holds}
 use Rattle.plan.specs.Planned.{Lends}
 use Rattle.plan.specs.Asked.{changeTree, changing}
 use Rattle.plan.specs.declared.Asked.{Asked}

@@ -7,7 +7,7 @@ use mathlib.Core.List.{List, [], _∷_}
 use lib.ListN.{take}
 use Rattle.model.specs.Limits.{maxCanonical}
 use Rattle.model.specs.Tree.{Tree, Forest, canons}
-use Rattle.sheets.specs.Told.{Holds}
+use Rattle.tables.specs.Told.{Holds}
 use Rattle.plan.specs.Asked.{given}
 use Rattle.plan.specs.Planned.{Sized, Small}
 use Rattle.plan.specs.declared.Asked.{Asked}

@@ -24,7 +24,7 @@ use Rattle.walk.specs.declared.Extent.{Extent}
 use Rattle.walk.specs.declared.Extent.the-variants as extent
 use Rattle.scan.specs.Writes.{Wrote}
 use Rattle.sheets.specs.Notes.{Noted}
-use Rattle.sheets.specs.Told.{Holds, Fillable, Filled}
+use Rattle.tables.specs.Told.{Holds, Fillable, Filled}
 use Rattle.answers.specs.Cases.{outcome, Refuses}
 use Rattle.answers.specs.declared.Refusal.{Refusal}
 use Rattle.answers.specs.declared.Reading.{Reading}

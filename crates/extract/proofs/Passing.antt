@@ -18,10 +18,10 @@ use Rattle.model.specs.Tree.{Tree, canon, nodes}
 use Rattle.model.proofs.Laws.{canonical-unique}
 use Rattle.walk.proofs.Tabled.{rows-length}
 use Rattle.scan.specs.Writes.{Wrote}
-use Rattle.sheets.specs.Rows.{RowIs}
-use Rattle.sheets.specs.Told.{rowAt, Readable, Holds}
-use Rattle.sheets.specs.declared.rows.Row as coded
-use Rattle.sheets.proofs.Telling.{holds-few, holds-row, holds-readable}
+use Rattle.tables.specs.Rows.{RowIs}
+use Rattle.tables.specs.Told.{rowAt, Readable, Holds}
+use Rattle.tables.specs.declared.rows.Row as coded
+use Rattle.tables.proofs.Telling.{holds-few, holds-row, holds-readable}
 use Rattle.extracts.specs.Extract.{word, extract}
 use Rattle.extract.specs.Cut.{part, begins, private, cut, Node, Tells, Cuttable, Cuts}
 use Rattle.extract.proofs.Laid.{Laid, laid-whole, laid-drop, Heading, rows-from, node-heads, node-within}

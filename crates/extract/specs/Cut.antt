@@ -8,7 +8,7 @@ use lib.Dec.{ltb, eqb}
 use Rattle.base.specs.Choice.{pick, both, equal}
 use Rattle.model.specs.Table.{Row, rows, rowOf}
 use Rattle.model.specs.Tree.{Tree, canon}
-use Rattle.sheets.specs.Told.{Holds}
+use Rattle.tables.specs.Told.{Holds}
 use Rattle.scan.specs.Writes.{Wrote}
 use Rattle.extracts.specs.Extract.{word, extract}
 

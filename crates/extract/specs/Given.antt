@@ -9,7 +9,7 @@ use Rattle.base.specs.Choice.{isNone}
 use Rattle.model.specs.Answers.{Outcome, sheetTree}
 use Rattle.model.specs.Table.{width}
 use Rattle.model.specs.Tree.{Tree}
-use Rattle.sheets.specs.Told.{Holds}
+use Rattle.tables.specs.Told.{Holds}
 use Rattle.answers.specs.Cases.{outcome}
 use Rattle.answers.specs.declared.Reading.{Reading}
 use Rattle.reader.specs.Stored.{Noteable, Puts}

@@ -40,14 +40,14 @@ fn private(src: &[u8], notes: &[usize], nodes: usize, node: usize) -> bool
     requires { ⌜ Node (now src) (now notes) nodes node ⌝ }
     ensures { λ r. ⌜ Tells (now (src .entry)) (now (notes .entry)) nodes node r ⌝ }
 {
-    let row = sheets::row_of(notes, node);
+    let row = tables::row_of(notes, node);
     if row.kind != 2 {
         return false;
     }
     if row.nodes < 2 {
         return false;
     }
-    let first = sheets::row_of(notes, node + 1);
+    let first = tables::row_of(notes, node + 1);
     if first.kind != 0 {
         return false;
     }
@@ -64,7 +64,7 @@ pub fn cut(src: &[u8], notes: &[usize], nodes: usize, out: &mut [u8]) -> usize
     let mut pos: usize = 0;
     while node < nodes {
         if private(src, notes, nodes, node) {
-            let row = sheets::row_of(notes, node);
+            let row = tables::row_of(notes, node);
             pos = scan::copy(src, from, row.data_start as usize - from, out, pos);
             from = row.data_end as usize;
             node += row.nodes as usize;

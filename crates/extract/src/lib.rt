@@ -110,7 +110,7 @@ fn fill(answer: Reading, notes: &[usize], table: &mut [u32])
 {
     match answer {
         Reading::Accepted { length: _, nodes } => {
-            sheets::fill(notes, nodes, table);
+            tables::fill(notes, nodes, table);
         }
         Reading::Refused { refusal: _ } => {}
     }

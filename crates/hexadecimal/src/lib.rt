@@ -25,7 +25,7 @@ pub fn pair_at(classes: &[u8; 256], src: &[u8], at: usize) -> Pair
         return Pair::NoPair;
     }
     let a = src[i];
-    if a == 35 {
+    if a == b'#' {
         return Pair::Hash { next: i + 1 };
     }
     let h = hex_of(classes, a);

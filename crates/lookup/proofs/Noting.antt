@@ -22,11 +22,11 @@ use Rattle.walk.specs.Extent.{Wholly, Measures}
 use Rattle.walk.specs.declared.Extent.{Extent}
 use Rattle.walk.specs.declared.Extent.the-variants.{Whole, Refused}
 use Rattle.sheets.specs.Notes.{Notable, Noted}
-use Rattle.sheets.specs.Rows.{rowList, RowIs}
-use Rattle.sheets.specs.Told.{rowAt, Readable, Holds, Fillable, Compared}
-use Rattle.sheets.specs.declared.rows.Row as coded
-use Rattle.sheets.proofs.Held.{note-holds}
-use Rattle.sheets.proofs.Telling.{holds-row}
+use Rattle.tables.specs.Rows.{rowList, RowIs}
+use Rattle.tables.specs.Told.{rowAt, Readable, Holds, Fillable, Compared}
+use Rattle.tables.specs.declared.rows.Row as coded
+use Rattle.tables.proofs.Held.{note-holds}
+use Rattle.tables.proofs.Telling.{holds-row}
 use Rattle.answers.specs.Cases.{placed}
 use Rattle.answers.specs.declared.Place.{Place}
 use Rattle.answers.specs.declared.Place.the-variants.{Part, NoPart}

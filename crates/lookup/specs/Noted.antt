@@ -9,7 +9,7 @@ use Rattle.model.specs.Tree.{Tree}
 use Rattle.model.specs.Limits.{mostNodes}
 use Rattle.model.specs.Table.{records}
 use Rattle.model.specs.Answers.{sheetTree, ownTree, hintPart, dataPart}
-use Rattle.sheets.specs.Told.{Holds, Readable}
+use Rattle.tables.specs.Told.{Holds, Readable}
 use Rattle.answers.specs.Cases.{placed}
 use Rattle.answers.specs.declared.Place.{Place}
 

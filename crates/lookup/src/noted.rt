@@ -59,7 +59,7 @@ pub fn own_notes(
 {
     let records = table.len() / limits::WIDTH;
     if note_in(canonical, len, notes, records, nodes) {
-        return sheets::holds(notes, nodes, table);
+        return tables::holds(notes, nodes, table);
     }
     false
 }
@@ -74,7 +74,7 @@ pub fn place_by(notes: &[usize], nodes: usize, node: usize, own: bool, hinted: b
         if node >= nodes {
             return Place::NoPart;
         }
-        let row = sheets::row_of(notes, node);
+        let row = tables::row_of(notes, node);
         if hinted {
             if row.kind != 1 {
                 return Place::NoPart;

@@ -8,6 +8,19 @@ ghost use Rattle.octets.specs.Classes.{Class, Classed, Lettered};
 mod class_list;
 mod letter_list;
 
+// Classes that a test asks for; specs/Classes.antt says what each class is. Other octets, and whitespace that is no space.
+pub const OTHER: u8 = 0;
+
+pub const BLANK: u8 = 3;
+
+// From here on an octet stands for itself between quotation marks.
+pub const SPACE: u8 = 4;
+
+// From here on it is one of a token, and from the next on a hexadecimal digit: a letter, or above it a decimal digit.
+pub const TOKEN: u8 = 14;
+
+pub const HEX: u8 = 17;
+
 // The class numbers.
 pub fn classes() -> [u8; 256]
     ensures { λ r. ⌜ Classed r ⌝ }
@@ -44,24 +57,24 @@ pub fn hex_of(classes: &[u8; 256], b: u8) -> u8
     ensures { λ r. ⌜ r ≡ hexval b ⌝ }
 {
     let c = class_of(classes, b);
-    if c < 17 {
+    if c < HEX {
         return 16;
     }
     // A and a are 1 past a multiple of 32.
-    if c == 17 { b % 32 + 9 } else { b - 48 }
+    if c == HEX { b % 32 + 9 } else { b - b'0' }
 }
 
 // The value of an octal digit; 8 is none.
 pub fn octal_of(b: u8) -> u8
     ensures { λ r. ⌜ r ≡ octval b ⌝ }
 {
-    if b < 48 {
+    if b < b'0' {
         return 8;
     }
-    if b > 55 {
+    if b > b'7' {
         return 8;
     }
-    b - 48
+    b - b'0'
 }
 
 // The octet that a backslash and this octet mean; 256 is none.

@@ -24,7 +24,8 @@ use Rattle.texts.proofs.Taking.{through}
 use Rattle.answers.specs.Cases.{RefusesAt, Refuses}
 use Rattle.answers.specs.declared.Reading.{Reading}
 use Rattle.answers.specs.declared.Reading.the-variants as answer
-use Rattle.reader.specs.Stored.{roomVerdict, Noteable, Spaced, Puts}
+use Rattle.rooms.specs.Rooms.{roomVerdict}
+use Rattle.reader.specs.Stored.{Noteable, Spaced, Puts}
 use Rattle.reader.proofs.Storing.{puts-refused, put-none, put-refused, put-room, put-accepted}
 use Rattle.reader.proofs.Entry.{notes-taken}
 use Rattle.pieces.specs.Capped.{extent}

@@ -6,7 +6,7 @@ use mathlib.Core.List.{List}
 use lib.ListN.{length}
 use Rattle.model.specs.Table.{width, records}
 use Rattle.model.specs.Limits.{mostNodes}
-use Rattle.sheets.specs.Told.{Fillable, Filled}
+use Rattle.tables.specs.Told.{Fillable, Filled}
 use Rattle.answers.specs.Cases.{outcome}
 use Rattle.answers.specs.declared.Refusal.{Refusal}
 use Rattle.answers.specs.declared.Reading.{Reading}

@@ -21,8 +21,10 @@ use Rattle.walk.specs.declared.Extent.{Extent}
 use Rattle.walk.specs.declared.Extent.the-variants.{Whole, Refused}
 use Rattle.answers.specs.Cases.{outcome}
 use Rattle.answers.specs.declared.Reading.{Reading}
-use Rattle.reader.specs.Stored.{roomVerdict, readTree}
-use Rattle.reader.proofs.Rooms.{roomy, tree-none, tree-refused, tree-accepted, settled-front}
+use Rattle.rooms.specs.Rooms.{roomVerdict}
+use Rattle.reader.specs.Stored.{readTree}
+use Rattle.rooms.proofs.Rooms.{roomy}
+use Rattle.reader.proofs.Judged.{tree-none, tree-refused, tree-accepted, settled-front}
 use Rattle.model.specs.Automaton as automaton
 use Rattle.model.specs.Automaton.{start, run, place}
 use Rattle.pieces.specs.Capped.{cap, capped, extent}

@@ -13,7 +13,8 @@ use Rattle.walk.specs.declared.Extent.{Extent}
 use Rattle.walk.specs.declared.Extent.the-variants.{Whole, Refused}
 use Rattle.answers.specs.Cases.{outcome}
 use Rattle.answers.specs.declared.Reading.{Reading}
-use Rattle.reader.specs.Stored.{roomVerdict, Noteable}
+use Rattle.rooms.specs.Rooms.{roomVerdict}
+use Rattle.reader.specs.Stored.{Noteable}
 use Rattle.pieces.specs.Capped.{extent}
 use Rattle.pieces.specs.Tracks.{meant}
 use Rattle.pieces.specs.Feeding.{space, InTurn, sameSizes}

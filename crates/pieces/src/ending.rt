@@ -26,7 +26,7 @@ fn inside(canonical: &[u8], fed: usize, notes: &mut [usize], records: usize) -> 
     let part = &canonical[..fed];
     match sheets::note(part, notes) {
         Extent::Whole { len, nodes, depth } => {
-            let row = reader::room(len, nodes, depth, canonical.len(), records);
+            let row = rooms::room(len, nodes, depth, canonical.len(), records);
             if row > 0 {
                 return refused(row);
             }
@@ -42,7 +42,7 @@ fn past(track: Track, room: usize, records: usize) -> Reading
 {
     match track.extent() {
         Extent::Whole { len, nodes, depth } => {
-            let row = reader::room(len, nodes, depth, room, records);
+            let row = rooms::room(len, nodes, depth, room, records);
             if row > 0 {
                 return refused(row);
             }
@@ -89,7 +89,7 @@ fn end_in(state: State, canonical: &[u8], table: &mut [u32], notes: &mut [usize]
     let records = table.len() / limits::WIDTH;
     match end_notes(state, canonical, notes, table.len(), records) {
         Reading::Accepted { length, nodes } => {
-            sheets::fill(notes, nodes, table);
+            tables::fill(notes, nodes, table);
             Reading::Accepted { length, nodes }
         }
         Reading::Refused { refusal } => Reading::Refused { refusal },

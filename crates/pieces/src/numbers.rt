@@ -22,7 +22,7 @@ pub fn grown(n: usize, digit: u8) -> usize
     if n > CAP / 10 {
         CAP
     } else {
-        n * 10 + (digit - 48) as usize
+        n * 10 + (digit - b'0') as usize
     }
 }
 

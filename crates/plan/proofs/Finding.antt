@@ -13,9 +13,9 @@ use Rattle.model.specs.Answers.{verdict, the, roomChecks, ownTree, unchanged, f
 use Rattle.model.specs.Table.{records}
 use Rattle.model.specs.Tree.{Tree, canon, nodes, depth}
 use Rattle.model.proofs.Judging.{judged-accepted, judged-refused, verdict-here, verdict-past}
-use Rattle.reader.specs.Stored.{roomVerdict}
-use Rattle.reader.proofs.Rooms.{rooms}
-use Rattle.sheets.specs.Told.{Holds}
+use Rattle.rooms.specs.Rooms.{roomVerdict}
+use Rattle.rooms.proofs.Rooms.{rooms}
+use Rattle.tables.specs.Told.{Holds}
 use Rattle.lookup.proofs.Sheets.{tree-of, none-of}
 use Rattle.plan.specs.Asked.{changed, texted, nodeOf, placeless, placing, changeChecks, changeTree}
 use Rattle.plan.specs.Spots.{Refusing}

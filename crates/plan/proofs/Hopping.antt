@@ -12,9 +12,9 @@ use Rattle.base.proofs.Cases.{by-eq, picked, unpicked}
 use Rattle.model.specs.Table.{Row, rowNumbers}
 use Rattle.sheets.specs.Notes.{listMark}
 use Rattle.sheets.specs.Places.{shift}
-use Rattle.sheets.specs.Rows.{rowList, RowIs}
-use Rattle.sheets.specs.Told.{rowBy, startPart, endPart, thirdPart, rowAt, Readable}
-use Rattle.sheets.specs.declared.rows.Row as coded
+use Rattle.tables.specs.Rows.{rowList, RowIs}
+use Rattle.tables.specs.Told.{rowBy, startPart, endPart, thirdPart, rowAt, Readable}
+use Rattle.tables.specs.declared.rows.Row as coded
 use Rattle.edits.specs.Element.{element}
 use Rattle.plan.specs.Spots.{Counts, Hoppable, Hops, Shown}
 use Rattle.plan.specs.declared.spots.Reached.the-variants.{At, Past}

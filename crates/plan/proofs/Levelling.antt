@@ -15,8 +15,8 @@ use Rattle.base.proofs.Cases.{by-le, picked, unpicked}
 use Rattle.model.specs.Table.{Row, plainRow, rows, rowOf}
 use Rattle.model.specs.Tree.{Tree}
 use Rattle.walk.proofs.Tabled.{rows-length}
-use Rattle.sheets.specs.Told.{rowAt, Countable, Holds}
-use Rattle.sheets.proofs.Telling.{holds-row}
+use Rattle.tables.specs.Told.{rowAt, Countable, Holds}
+use Rattle.tables.proofs.Telling.{holds-row}
 use Rattle.edits.specs.Levels.{holders}
 use Rattle.plan.specs.Spots.{Recorded, levels, Levels}
 

@@ -15,9 +15,9 @@ use Rattle.model.specs.Table.{records}
 use Rattle.model.specs.Answers.{ownTree}
 use Rattle.model.specs.Tree.{Tree, canon, nodes, depth}
 use Rattle.model.proofs.Laws.{small-nodes}
-use Rattle.reader.specs.Stored.{roomVerdict}
-use Rattle.reader.proofs.Rooms.{Lodged, roomy}
-use Rattle.sheets.specs.Told.{Holds}
+use Rattle.rooms.specs.Rooms.{roomVerdict}
+use Rattle.rooms.proofs.Rooms.{Lodged, roomy}
+use Rattle.tables.specs.Told.{Holds}
 use Rattle.lookup.specs.Noted.{Sheet}
 use Rattle.lookup.proofs.Sheets.{tree-of, sheet-of, Own, own-of}
 use Rattle.lookup.proofs.Sheets as good

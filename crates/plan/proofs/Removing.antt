@@ -19,8 +19,8 @@ use Rattle.edits.proofs.Changed.{change-moves, change-shallow}
 use Rattle.edits.proofs.Changes.{remove-change}
 use Rattle.edits.proofs.Moved.{new-length}
 use Rattle.lookup.proofs.Sheets.{Own, own-of, own-lent}
-use Rattle.reader.specs.Stored.{roomVerdict}
-use Rattle.reader.proofs.Rooms.{room-good}
+use Rattle.rooms.specs.Rooms.{roomVerdict}
+use Rattle.rooms.proofs.Rooms.{room-good}
 use Rattle.plan.specs.Asked.{changed, nodeOf, placeless, changeTree}
 use Rattle.plan.proofs.Finding.{not-own, no-node, no-place, spot-accepted}
 use Rattle.plan.specs.declared.Asked.{Asked}

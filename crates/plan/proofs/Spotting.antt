@@ -14,10 +14,10 @@ use Rattle.model.specs.Limits.{mostNodes}
 use Rattle.model.specs.Node.{nodeAt, hasPlace}
 use Rattle.model.specs.Table.{Row, rows, rowOf, rowNumbers}
 use Rattle.model.specs.Tree.{Tree, Forest, nil, nodes, nodess}
-use Rattle.sheets.specs.Rows.{rowList, RowIs}
-use Rattle.sheets.specs.Told.{rowAt, Readable, Holds}
-use Rattle.sheets.specs.declared.rows.Row as coded
-use Rattle.sheets.proofs.Telling.{holds-row, holds-readable, holds-long}
+use Rattle.tables.specs.Rows.{rowList, RowIs}
+use Rattle.tables.specs.Told.{rowAt, Readable, Holds}
+use Rattle.tables.specs.declared.rows.Row as coded
+use Rattle.tables.proofs.Telling.{holds-row, holds-readable, holds-long}
 use Rattle.edits.specs.Element.{element, placed, placeOctet}
 use Rattle.edits.specs.Levels.{holders}
 use Rattle.edits.specs.Moves.{Change}

@@ -12,7 +12,7 @@ use Rattle.model.specs.Table.{rows, rowOf}
 use Rattle.model.specs.Limits.{mostNodes}
 use Rattle.model.specs.Answers.{ownTree, unchanged}
 use Rattle.sheets.specs.Places.{shift}
-use Rattle.sheets.specs.Told.{rowAt, Readable, Holds}
+use Rattle.tables.specs.Told.{rowAt, Readable, Holds}
 use Rattle.edits.specs.Levels.{holders}
 use Rattle.edits.specs.Element.{element, placed, placeOctet}
 use Rattle.edits.specs.Moves.{Change}

@@ -107,7 +107,7 @@ pub fn judge(
             level,
         } => {
             let to = resize(length, nodes, start, end, count, level, text);
-            let row = reader::room(to.len, to.nodes, to.depth, canonical.len(), records);
+            let row = rooms::room(to.len, to.nodes, to.depth, canonical.len(), records);
             if row > 0 {
                 return Plan::Misfit { number: row };
             }

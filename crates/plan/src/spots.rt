@@ -5,7 +5,7 @@ ghost use mathlib.Core.Bool.{true};
 ghost use lib.ListN.{length};
 ghost use lib.Dec.{ltb};
 ghost use Rattle.base.specs.Choice.{pick};
-ghost use Rattle.sheets.specs.Told.{rowAt};
+ghost use Rattle.tables.specs.Told.{rowAt};
 ghost use Rattle.plan.specs.Spots.{Recorded, Levels, Kept, Entry, Counts, Hoppable, Hops, Shown, Slot, Finds, Findable};
 use crate::Asked;
 use crate::Found;
@@ -26,7 +26,7 @@ fn level(notes: &[usize], node: usize) -> usize
     let mut level: usize = 0;
     let mut j: usize = 0;
     while j < node {
-        if sheets::over(notes, j, node - j) {
+        if tables::over(notes, j, node - j) {
             level += 1;
         }
         j += 1;
@@ -42,7 +42,7 @@ fn entry(notes: &[usize], nodes: usize, node: usize) -> Found
     if node >= nodes {
         return Found::Unfound { number: 8 };
     }
-    let row = sheets::row_of(notes, node);
+    let row = tables::row_of(notes, node);
     let around = level(notes, node);
     Found::Spot {
         first: node,
@@ -88,7 +88,7 @@ fn octet(notes: &[usize], first: usize, end: usize, past: usize) -> usize
     ensures { λ r. ⌜ r ≡ pick (ltb first end) ((rowAt (now (notes .entry)) first) .start) past ⌝ }
 {
     if first < end {
-        let row = sheets::row_of(notes, first);
+        let row = tables::row_of(notes, first);
         return row.start as usize;
     }
     past
@@ -100,7 +100,7 @@ fn slot(notes: &[usize], nodes: usize, node: usize, k: usize) -> Found
     requires { ⌜ node < nodes ⌝ }
     ensures { λ r. ⌜ Slot (now (notes .entry)) nodes node k r ⌝ }
 {
-    let row = sheets::row_of(notes, node);
+    let row = tables::row_of(notes, node);
     if row.kind != 2 {
         return Found::Unfound { number: 9 };
     }

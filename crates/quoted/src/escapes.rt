@@ -102,7 +102,7 @@ pub fn escape_at(classes: &[u8; 256], src: &[u8], at: usize) -> Piece
             next: at + 1,
         };
     }
-    if e == 120 {
+    if e == b'x' {
         return hex_escape(classes, src, at + 1);
     }
     if e == 13 {

@@ -23,13 +23,13 @@ pub fn piece_at(classes: &[u8; 256], src: &[u8], at: usize) -> Piece
         return Piece::NoPiece;
     }
     let b = src[at];
-    if b == 34 {
+    if b == b'"' {
         return Piece::Quote { next: at + 1 };
     }
-    if b == 92 {
+    if b == b'\\' {
         return escape_at(classes, src, at + 1);
     }
-    if class_of(classes, b) < 4 {
+    if class_of(classes, b) < octets::SPACE {
         return Piece::NoPiece;
     }
     Piece::One {
@@ -44,7 +44,7 @@ pub fn plain_end(classes: &[u8; 256], src: &[u8], at: usize) -> usize
     requires { ⌜ at ≤ length (now src) ⌝ }
     ensures { λ r. ⌜ Stretch (marked rules 34) (now (src .entry)) at (take (r - at) (drop at (now (src .entry)))) r ⌝ }
 {
-    class_end(classes, src, at, src.len(), 4)
+    class_end(classes, src, at, src.len(), octets::SPACE)
 }
 
 // The place after the closing mark of a string in which nothing is escaped; `at` itself where it is another.
@@ -55,7 +55,7 @@ pub fn unescaped_end(classes: &[u8; 256], src: &[u8], at: usize) -> usize
 {
     let end = plain_end(classes, src, at);
     if end < src.len() {
-        if src[end] == 34 {
+        if src[end] == b'"' {
             return end + 1;
         }
     }

@@ -1,3 +1,3 @@
-pub mod Rooms
+pub mod Judged
 pub mod Storing
 pub mod Entry

@@ -18,15 +18,17 @@ use Rattle.walk.specs.declared.Extent.{Extent}
 use Rattle.walk.specs.declared.Extent.the-variants as extent
 use Rattle.walk.proofs.Tabled.{table-length}
 use Rattle.scan.specs.Writes.{Wrote}
-use Rattle.sheets.specs.Told.{Holds, Fillable, Filled}
+use Rattle.tables.specs.Told.{Holds, Fillable, Filled}
 use Rattle.texts.specs.Texts.{Takeable, Taken}
 use Rattle.texts.proofs.Sizes.{tripled}
 use Rattle.answers.specs.Cases.{outcome, RefusesAt, Refuses}
 use Rattle.answers.specs.declared.Refusal.{Refusal}
 use Rattle.answers.specs.declared.Reading.{Reading}
 use Rattle.answers.specs.declared.Reading.the-variants as reading
-use Rattle.reader.specs.Stored.{roomVerdict, readTree, Noteable, halved, most, Spaced, Accepting, Puts}
-use Rattle.reader.proofs.Rooms.{Lodged, roomy, tree-none, tree-refused, tree-accepted, settled-front}
+use Rattle.rooms.specs.Rooms.{roomVerdict}
+use Rattle.reader.specs.Stored.{readTree, Noteable, halved, most, Spaced, Accepting, Puts}
+use Rattle.rooms.proofs.Rooms.{Lodged, roomy}
+use Rattle.reader.proofs.Judged.{tree-none, tree-refused, tree-accepted, settled-front}
 
 same-verdict : (o k : ℕ) {d d′ n n′ l l′ : ℕ} → d ≡ d′ → n ≡ n′ → l ≡ l′ → roomVerdict d n l o k ≡ roomVerdict d′ n′ l′ o k
 same-verdict o k p q r = λ i. roomVerdict (p i) (q i) (r i) o k

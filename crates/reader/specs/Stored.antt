@@ -14,16 +14,8 @@ use Rattle.model.specs.Answers.{Outcome, when, judged, the, roomChecks, filled,
 use Rattle.answers.specs.declared.Reading.{Reading}
 use Rattle.answers.specs.declared.Reading.the-variants as reading
 use Rattle.answers.specs.Cases.{outcome}
-use Rattle.sheets.specs.Told.{Holds}
+use Rattle.tables.specs.Told.{Holds}
 use Rattle.texts.specs.Texts.{Takeable}
-
--- rows 4 to 6, by the sizes of the tree and of the room
-unfoldable pub roomVerdict : ℕ → ℕ → ℕ → ℕ → ℕ → ℕ
-roomVerdict deep count len octets records =
-    pick (ltb maxDepth deep) Depth
-    (pick (ltb records count) Nodes
-    (pick (ltb maxCanonical len) Size
-    (pick (ltb octets len) Size Accepted)))
 
 -- rows 3 to 6, and what is written, of the tree that a text means, if it means one, else the place p that is told
 unfoldable pub readTree : Option Tree → ℕ → List ℕ → List ℕ → Outcome

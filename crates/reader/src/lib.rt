@@ -7,30 +7,11 @@ ghost use lib.ListN.{length};
 ghost use Rattle.model.specs.Decode.{decode};
 ghost use Rattle.model.specs.Answers.{placeOf, reading};
 ghost use Rattle.answers.specs.Cases.{outcome};
-ghost use Rattle.reader.specs.Stored.{roomVerdict, readTree, Noteable, Spaced, Puts};
+ghost use Rattle.reader.specs.Stored.{readTree, Noteable, Spaced, Puts};
 use answers::Reading;
 use answers::refused;
 use answers::refused_at;
 use walk::Extent;
-
-// The first of rows 4 to 6 that applies to a tree of these sizes, in room for so many octets and records; 0 where none does.
-pub fn room(len: usize, nodes: usize, depth: usize, octets: usize, records: usize) -> u32
-    ensures { λ r. ⌜ r ≡ roomVerdict depth nodes len octets records ⌝ }
-{
-    if depth > limits::DEPTH {
-        return 4;
-    }
-    if nodes > records {
-        return 5;
-    }
-    if len > limits::CANONICAL {
-        return 6;
-    }
-    if len > octets {
-        return 6;
-    }
-    0
-}
 
 // All but the table, for which so many records are lent: the text judged and its octets put. The notes tell the table.
 pub fn put(
@@ -46,7 +27,7 @@ pub fn put(
 {
     match texts::take(form, source, scratch, notes) {
         Extent::Whole { len, nodes, depth } => {
-            let row = room(len, nodes, depth, canonical.len(), records);
+            let row = rooms::room(len, nodes, depth, canonical.len(), records);
             if row > 0 {
                 return refused(row);
             }
@@ -72,7 +53,7 @@ fn read_in(
     let records = table.len() / limits::WIDTH;
     match put(form, source, canonical, records, scratch, notes) {
         Reading::Accepted { length, nodes } => {
-            sheets::fill(notes, nodes, table);
+            tables::fill(notes, nodes, table);
             Reading::Accepted { length, nodes }
         }
         Reading::Refused { refusal } => Reading::Refused { refusal },

@@ -17,11 +17,11 @@ use Rattle.model.specs.Table.{Row, width, tableOf}
 use Rattle.model.specs.Table as table
 use Rattle.model.specs.Answers.{owns, ownTree}
 use Rattle.walk.specs.Events.{recordAt}
-use Rattle.sheets.specs.Rows.{recordList, RowIs}
-use Rattle.sheets.specs.Told.{rowAt, Holds, Fillable, Compared}
-use Rattle.sheets.specs.declared.rows.Row as coded
-use Rattle.sheets.proofs.Filling.{Comparing, compare-start, compare-on, compare-off, compare-end}
-use Rattle.sheets.proofs.Telling.{holds-readable}
+use Rattle.tables.specs.Rows.{recordList, RowIs}
+use Rattle.tables.specs.Told.{rowAt, Holds, Fillable, Compared}
+use Rattle.tables.specs.declared.rows.Row as coded
+use Rattle.tables.proofs.Filling.{Comparing, compare-start, compare-on, compare-off, compare-end}
+use Rattle.tables.proofs.Telling.{holds-readable}
 use Rattle.lookup.specs.Noted.{Sheet, Sheeted, Owning, Readables}
 use Rattle.plan.specs.Planned.{Known, Lends}
 use Rattle.records.specs.declared.Record.{Record}

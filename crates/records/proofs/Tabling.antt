@@ -12,12 +12,12 @@ use Rattle.model.specs.Table.{Row, rows, parents, plainRow, flat, tableOf}
 use Rattle.model.specs.Table as table
 use Rattle.model.specs.Answers.{Outcome, settled}
 use Rattle.walk.proofs.Tabled.{table-length, rows-length}
-use Rattle.sheets.specs.Rows.{recordList, RowIs}
-use Rattle.sheets.specs.Told.{rowAt, Readable, Holds}
-use Rattle.sheets.specs.declared.rows.Row as coded
-use Rattle.sheets.proofs.Telling.{holds-row, holds-parent, holds-readable}
+use Rattle.tables.specs.Rows.{recordList, RowIs}
+use Rattle.tables.specs.Told.{rowAt, Readable, Holds}
+use Rattle.tables.specs.declared.rows.Row as coded
+use Rattle.tables.proofs.Telling.{holds-row, holds-parent, holds-readable}
 use Rattle.reader.specs.Stored.{Puts}
-use Rattle.reader.proofs.Rooms.{settled-front}
+use Rattle.reader.proofs.Judged.{settled-front}
 use Rattle.editor.specs.Given.{Gives}
 use Rattle.answers.specs.Cases.{outcome}
 use Rattle.answers.specs.declared.Reading.{Reading}

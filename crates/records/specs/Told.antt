@@ -7,7 +7,7 @@ use lib.Dec.{ltb}
 use Rattle.base.specs.Choice.{pick, both, equal}
 use Rattle.model.specs.Table.{Row}
 use Rattle.model.specs.Table as table
-use Rattle.sheets.specs.Told.{rowAt, parentPart, Readable}
+use Rattle.tables.specs.Told.{rowAt, parentPart, Readable}
 use Rattle.answers.specs.declared.Reading.{Reading}
 use Rattle.answers.specs.declared.Reading.the-variants as reading
 use Rattle.records.specs.declared.Record.{Record}

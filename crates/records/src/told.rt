@@ -1,15 +1,15 @@
 // The record that a note tells, and whether a record is that one.
 ghost use mathlib.Core.Path.{_≡_};
 ghost use Rattle.base.specs.Choice.{equal};
-ghost use Rattle.sheets.specs.Rows.{recordList};
-ghost use Rattle.sheets.specs.Told.{Readable};
+ghost use Rattle.tables.specs.Rows.{recordList};
+ghost use Rattle.tables.specs.Told.{Readable};
 ghost use Rattle.records.specs.Numbers.{nine};
 ghost use Rattle.records.specs.Told.{nil, touched, countOf, toldAt, agrees, looked, Tellable};
 use crate::Record;
 use answers::Reading;
 
 // A record with the numbers of a row, and of the list around its node.
-fn record_with(row: sheets::Row, up: u32) -> Record
+fn record_with(row: tables::Row, up: u32) -> Record
     ensures { λ r. ⌜ nine r ≡ recordList row up ⌝ }
 {
     Record {
@@ -58,7 +58,7 @@ pub fn record_by(notes: &[usize], r: Reading, i: usize) -> Record
     match r {
         Reading::Accepted { length: _, nodes } => {
             if i < nodes {
-                return record_with(sheets::row_of(notes, i), sheets::parent_of(notes, i));
+                return record_with(tables::row_of(notes, i), tables::parent_of(notes, i));
             }
             zero_record()
         }
@@ -77,7 +77,7 @@ pub fn touched_by(r: Reading, old: usize) -> usize
 }
 
 // Whether a record has the numbers of a row, and of the list around its node.
-fn same_numbers(r: Record, row: sheets::Row, up: u32) -> bool
+fn same_numbers(r: Record, row: tables::Row, up: u32) -> bool
     ensures { λ b. ⌜ b ≡ equal (nine r) (recordList row up) ⌝ }
 {
     if r.kind != row.kind {
@@ -113,7 +113,7 @@ pub fn record_agrees(notes: &[usize], i: usize, r: Record, before: bool) -> bool
     ensures { λ b. ⌜ b ≡ agrees (now (notes .entry)) i r before ⌝ }
 {
     if before {
-        return same_numbers(r, sheets::row_of(notes, i), sheets::parent_of(notes, i));
+        return same_numbers(r, tables::row_of(notes, i), tables::parent_of(notes, i));
     }
     false
 }

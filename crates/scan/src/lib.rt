@@ -15,10 +15,10 @@ pub fn skip_at(classes: &[u8; 256], src: &[u8], at: usize) -> usize
     let mut i = at;
     while i < src.len() {
         let c = class_of(classes, src[i]);
-        if c < 3 {
+        if c < octets::BLANK {
             return i;
         }
-        if c > 4 {
+        if c > octets::SPACE {
             return i;
         }
         i += 1;
@@ -73,7 +73,7 @@ pub fn run_end(classes: &[u8; 256], src: &[u8], at: usize) -> usize
     requires { ⌜ at ≤ length (now src) ⌝ }
     ensures { λ r. ⌜ Ran (now (src .entry)) at r ⌝ }
 {
-    class_end(classes, src, at, src.len(), 14)
+    class_end(classes, src, at, src.len(), octets::TOKEN)
 }
 
 // A run of octets, as they stand; the place after them.

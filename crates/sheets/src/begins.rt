@@ -13,13 +13,13 @@ fn digits_on(src: &[u8], at: usize) -> usize
     let mut i = at;
     while i < src.len() {
         let b = src[i];
-        if b == 58 {
+        if b == b':' {
             return src.len();
         }
-        if b < 48 {
+        if b < b'0' {
             return i;
         }
-        if b > 57 {
+        if b > b'9' {
             return i;
         }
         i += 1;
@@ -36,13 +36,13 @@ pub fn string_begins(src: &[u8], at: usize) -> usize
         return at;
     }
     let b = src[at];
-    if b < 48 {
+    if b < b'0' {
         return at;
     }
-    if b > 57 {
+    if b > b'9' {
         return at;
     }
-    if b == 48 {
+    if b == b'0' {
         return at + 1;
     }
     digits_on(src, at + 1)
@@ -56,7 +56,7 @@ pub fn hint_begins(src: &[u8], to: usize) -> usize
     if to >= src.len() {
         return to;
     }
-    if src[to] != 93 {
+    if src[to] != b']' {
         return to;
     }
     string_begins(src, to + 1)

@@ -11,9 +11,9 @@ use Rattle.base.proofs.Cases.{picked, unpicked}
 use Rattle.model.specs.Limits.{mostNodes}
 use Rattle.model.specs.Table.{Row, rowOf}
 use Rattle.model.specs.Tree.{Tree}
-use Rattle.sheets.specs.Rows.{RowIs}
-use Rattle.sheets.specs.Told.{rowAt, Holds}
-use Rattle.sheets.specs.declared.rows.Row as coded
+use Rattle.tables.specs.Rows.{RowIs}
+use Rattle.tables.specs.Told.{rowAt, Holds}
+use Rattle.tables.specs.declared.rows.Row as coded
 use Rattle.typed.specs.Lines.{lineCount, elementsUpTo, elements, Sum, lines, bad, added, addedBy, sumOf, sumAt}
 use Rattle.typed.specs.declared.Count.{Count}
 use Rattle.typed.specs.declared.Count.the-variants.{Quarters, NoCount}

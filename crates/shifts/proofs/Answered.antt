@@ -11,7 +11,7 @@ use Rattle.model.specs.Limits.{Accepted}
 use Rattle.model.specs.Answers.{Check, when, verdict, judged, the, ownTree}
 use Rattle.model.specs.Table.{records, rowOf}
 use Rattle.model.specs.Tree.{Tree}
-use Rattle.sheets.specs.Told.{Holds}
+use Rattle.tables.specs.Told.{Holds}
 use Rattle.lookup.specs.Noted.{Sheet, Owned, Owning}
 use Rattle.lookup.proofs.Noting.{owned-held}
 use Rattle.lookup.proofs.Sheets.{tree-of, none-of, sheet-of}

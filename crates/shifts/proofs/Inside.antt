@@ -9,10 +9,10 @@ use Rattle.base.proofs.Cases.{by-le}
 use Rattle.model.specs.Table.{Row, rowNumbers, plainRow, rows, rowss, rowOf}
 use Rattle.model.specs.Tree.{Tree, plain, hinted, list, Forest, nil, cons, canon, nodes, nodess}
 use Rattle.walk.proofs.Tabled.{rows-length}
-use Rattle.sheets.specs.Rows.{rowList, RowIs}
-use Rattle.sheets.specs.Told.{rowAt, Readable, Holds}
-use Rattle.sheets.specs.declared.rows.Row as coded
-use Rattle.sheets.proofs.Telling.{holds-row, holds-readable}
+use Rattle.tables.specs.Rows.{rowList, RowIs}
+use Rattle.tables.specs.Told.{rowAt, Readable, Holds}
+use Rattle.tables.specs.declared.rows.Row as coded
+use Rattle.tables.proofs.Telling.{holds-row, holds-readable}
 use Rattle.lookup.proofs.Shown.{Inside, rows-inside}
 use Rattle.shifts.specs.Known.{rowFor, Spans, Known, KnownAt}
 

@@ -12,9 +12,9 @@ use Rattle.base.specs.Choice.{pick, both}
 use Rattle.base.proofs.Cases.{by-bool, picked, unpicked, true-both, both-true, pick-cases}
 use Rattle.model.specs.Table.{Row, rowOf}
 use Rattle.model.specs.Tree.{Tree}
-use Rattle.sheets.specs.Rows.{RowIs}
-use Rattle.sheets.specs.Told.{rowAt, Holds}
-use Rattle.sheets.specs.declared.rows.Row as coded
+use Rattle.tables.specs.Rows.{RowIs}
+use Rattle.tables.specs.Told.{rowAt, Holds}
+use Rattle.tables.specs.declared.rows.Row as coded
 use Rattle.typed.specs.Quarters.{counted, plus, quartersOf}
 use Rattle.typed.specs.Lines.{three, rowAmount, hoursAt, quartersIn, lineCount}
 use Rattle.typed.specs.declared.Line.{Line}

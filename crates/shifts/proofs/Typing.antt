@@ -11,9 +11,9 @@ use borrow.Author.Tests.{eq-eqb, ne-eqb}
 use Rattle.base.proofs.Cases.{picked, unpicked}
 use Rattle.model.specs.Table.{Row, rowOf}
 use Rattle.model.specs.Tree.{Tree}
-use Rattle.sheets.specs.Rows.{RowIs}
-use Rattle.sheets.specs.Told.{rowAt, Holds}
-use Rattle.sheets.specs.declared.rows.Row as coded
+use Rattle.tables.specs.Rows.{RowIs}
+use Rattle.tables.specs.Told.{rowAt, Holds}
+use Rattle.tables.specs.declared.rows.Row as coded
 use Rattle.typed.specs.Typed.{kindOf, valueAt}
 use Rattle.typed.specs.Lines.{rowKind, typedRow, doubleIn, amountIn}
 use Rattle.typed.specs.declared.Value.{Value}

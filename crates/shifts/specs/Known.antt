@@ -9,8 +9,8 @@ use lib.Ieee.{Float}
 use Rattle.model.specs.Limits.{mostNodes}
 use Rattle.model.specs.Table.{Row, rowOf}
 use Rattle.model.specs.Tree.{Tree, canon}
-use Rattle.sheets.specs.Told.{Holds}
-use Rattle.sheets.specs.declared.rows.Row as coded
+use Rattle.tables.specs.Told.{Holds}
+use Rattle.tables.specs.declared.rows.Row as coded
 use Rattle.lookup.specs.Noted.{Owning}
 use Rattle.typed.specs.Lines.{typedRow, rowAmount, hoursAt, lineCount, Sum, lines, bad, sumAt}
 use Rattle.typed.specs.Cases.{valued, lined, summed}

@@ -16,7 +16,7 @@ pub fn hours_at(canonical: &[u8], notes: &[usize], nodes: usize, node: usize) ->
     requires { ⌜ KnownAt (now canonical) (now notes) nodes node ⌝ }
     ensures { λ r. ⌜ HoursAt (now (canonical .entry)) (now (notes .entry)) nodes node r ⌝ }
 {
-    let row = sheets::row_of(notes, node);
+    let row = tables::row_of(notes, node);
     if row.kind != 2 {
         return Found::NoHours;
     }
@@ -61,7 +61,7 @@ pub fn sum_at(canonical: &[u8], notes: &[usize], nodes: usize, node: usize) -> A
     requires { ⌜ KnownAt (now canonical) (now notes) nodes node ⌝ }
     ensures { λ r. ⌜ SumAt (now (canonical .entry)) (now (notes .entry)) nodes node r ⌝ }
 {
-    let row = sheets::row_of(notes, node);
+    let row = tables::row_of(notes, node);
     if row.kind != 2 {
         return Added::Bad { node };
     }

@@ -3,7 +3,7 @@ ghost use mathlib.Core.Path.{_≡_};
 ghost use lib.ListN.{length};
 ghost use Rattle.typed.specs.Lines.{rowKind, typedRow};
 ghost use Rattle.shifts.specs.Known.{Spans, rowFor, KnownAt, TypedAt, AmountAt};
-use sheets::Row;
+use tables::Row;
 use typed::Typing;
 use typed::Value;
 
@@ -40,7 +40,7 @@ pub fn typed_at(canonical: &[u8], notes: &[usize], nodes: usize, node: usize) ->
     requires { ⌜ KnownAt (now canonical) (now notes) nodes node ⌝ }
     ensures { λ r. ⌜ TypedAt (now (canonical .entry)) (now (notes .entry)) nodes node r ⌝ }
 {
-    typed_row(canonical, sheets::row_of(notes, node))
+    typed_row(canonical, tables::row_of(notes, node))
 }
 
 // The double of an `f64` string, if it is one.

@@ -19,13 +19,13 @@ fn token_end(classes: &[u8; 256], src: &[u8], start: usize, end: usize) -> usize
     ensures { λ r. ⌜ TokenEnd (now (src .entry)) start end r ⌝ }
 {
     let c = class_of(classes, src[start]);
-    if c < 14 {
+    if c < octets::TOKEN {
         return start;
     }
-    if c > 17 {
+    if c > octets::HEX {
         return start;
     }
-    class_end(classes, src, start + 1, end, 14)
+    class_end(classes, src, start + 1, end, octets::TOKEN)
 }
 
 // Whether all octets are printable.
@@ -37,10 +37,10 @@ fn printable(classes: &[u8; 256], src: &[u8], start: usize, end: usize) -> bool
     let mut i = start;
     while i < end {
         let c = class_of(classes, src[i]);
-        if c == 0 {
+        if c == octets::OTHER {
             return false;
         }
-        if c == 3 {
+        if c == octets::BLANK {
             return false;
         }
         i += 1;
@@ -77,7 +77,7 @@ fn put_escaped(
     while i < end {
         let p = put_two(92, src[i], out, o);
         let next = i + 1;
-        let stop = class_end(classes, src, next, end, 4);
+        let stop = class_end(classes, src, next, end, octets::SPACE);
         o = blocks::copy(src, next, stop - next, out, p);
         i = stop;
     }
@@ -118,9 +118,9 @@ fn put_quoted(
     requires { ⌜ pos + length (quoteAll (cut (now src) start end)) + 18 ≤ length (now out) ⌝ }
     ensures { λ r. ⌜ Front (framed 34 (quoteAll (cut (now (src .entry)) start end))) pos (now (out .entry)) (now (out .exit)) r ⌝ }
 {
-    out[pos] = 34;
+    out[pos] = b'"';
     let o = put_octets(classes, src, start, from, end, out, pos + 1);
-    out[o] = 34;
+    out[o] = b'"';
     o + 1
 }
 
@@ -129,7 +129,7 @@ fn hex_digit(n: u8) -> u8
     requires { ⌜ n < 16 ⌝ }
     ensures { λ r. ⌜ r ≡ hexDigit n ⌝ }
 {
-    if n < 10 { 48 + n } else { 87 + n }
+    if n < 10 { b'0' + n } else { 87 + n }
 }
 
 // The two digits of an octet.
@@ -161,9 +161,9 @@ fn put_hexadecimal(src: &[u8], start: usize, end: usize, out: &mut [u8], pos: us
     requires { ⌜ pos + length (hexAll (cut (now src) start end)) + 18 ≤ length (now out) ⌝ }
     ensures { λ r. ⌜ Front (framed 35 (hexAll (cut (now (src .entry)) start end))) pos (now (out .entry)) (now (out .exit)) r ⌝ }
 {
-    out[pos] = 35;
+    out[pos] = b'#';
     let o = put_pairs(src, start, end, out, pos + 1);
-    out[o] = 35;
+    out[o] = b'#';
     o + 1
 }
 
@@ -188,7 +188,7 @@ pub fn put_spelled(
     if token >= end {
         return blocks::copy(src, start, end - start, out, pos);
     }
-    let from = class_end(classes, src, token, end, 4);
+    let from = class_end(classes, src, token, end, octets::SPACE);
     if printable(classes, src, from, end) {
         return put_quoted(classes, src, start, from, end, out, pos);
     }

@@ -16,8 +16,8 @@ use Rattle.model.specs.Tree.{Tree, canon}
 use Rattle.walk.specs.declared.Extent.{Extent}
 use Rattle.walk.proofs.Tabled.{table-length}
 use Rattle.sheets.specs.Notes.{Notable, Noted}
-use Rattle.sheets.specs.Told.{Holds, Filled}
-use Rattle.sheets.proofs.Held.{note-holds}
+use Rattle.tables.specs.Told.{Holds, Filled}
+use Rattle.tables.proofs.Held.{note-holds}
 use Rattle.splice.specs.Rewritten.{Movable, Ended, Rewritable, Reworkable, Alone, Workable, Rewritten, Retellable, Retold}
 use Rattle.splice.specs.Moved.{Renotable, Renoted}
 use Rattle.splice.proofs.Renoting.{renotable, renoted-holds}

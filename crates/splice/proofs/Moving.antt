@@ -13,7 +13,7 @@ use borrow.Author.Tests.{lt-ltb, le-ltb, eq-eqb, ne-eqb}
 use Rattle.base.proofs.Cases.{by-eq, picked, unpicked}
 use Rattle.model.specs.Limits.{mostNodes}
 use Rattle.sheets.specs.Notes.{listMark}
-use Rattle.sheets.specs.Told.{rowBy, rowAt, startPart, endPart, thirdPart, Countable}
+use Rattle.tables.specs.Told.{rowBy, rowAt, startPart, endPart, thirdPart, Countable}
 use Rattle.splice.specs.Moved.{span, hinting, top, movedNote, ownNote, grownNote, Moving, Owning, Growing, holds, Growable, Growths, Shiftable, Shifted, Renotable, Renoted}
 
 -- ---- one note

@@ -16,8 +16,8 @@ use Rattle.model.specs.Table.{Row, plainRow, rows, rowOf, parentOf}
 use Rattle.model.specs.Tree.{Tree, plain, hinted, list, Forest, canon, nodes}
 use Rattle.sheets.specs.Notes.{listMark, thirdOf, noteOf, noted}
 use Rattle.sheets.specs.Places.{shift}
-use Rattle.sheets.specs.Told.{rowBy, startPart, endPart, thirdPart, Holds}
-use Rattle.sheets.proofs.Telling.{noted-at, holds-few, holds-row, holds-note, parent-few, holds-parent, holds-long}
+use Rattle.tables.specs.Told.{rowBy, startPart, endPart, thirdPart, Holds}
+use Rattle.tables.proofs.Telling.{noted-at, holds-few, holds-row, holds-note, parent-few, holds-parent, holds-long}
 use Rattle.sheets.proofs.Keeping.{noted-length}
 use Rattle.edits.specs.Moves.{Grows, Shifts}
 use Rattle.edits.specs.Node as node

@@ -9,7 +9,7 @@ use Rattle.base.specs.Choice.{pick}
 use Rattle.model.specs.Limits.{mostNodes, maxSource}
 use Rattle.sheets.specs.Notes.{listMark}
 use Rattle.sheets.specs.Places.{shift}
-use Rattle.sheets.specs.Told.{rowAt, thirdPart}
+use Rattle.tables.specs.Told.{rowAt, thirdPart}
 
 -- ---- one note
 

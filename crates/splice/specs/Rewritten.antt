@@ -12,7 +12,7 @@ use Rattle.model.specs.Table.{width, rowOf, tableOf}
 use Rattle.model.specs.Decode.{decode₁}
 use Rattle.model.specs.Limits.{maxDepth, mostNodes, maxCanonical}
 use Rattle.model.specs.Answers.{settled}
-use Rattle.sheets.specs.Told.{Holds}
+use Rattle.tables.specs.Told.{Holds}
 use Rattle.answers.specs.declared.Reading.{Reading}
 use Rattle.answers.specs.declared.Reading.the-variants as reading
 

@@ -106,7 +106,7 @@ pub fn retell(notes: &[usize], table: &mut [u32], held: usize, count: usize)
     requires { ⌜ Retellable (now notes) (length (now table)) held count ⌝ }
     ensures { λ r. ⌜ Retold (now (notes .entry)) held count (now (table .entry)) (now (table .exit)) ⌝ }
 {
-    sheets::fill(notes, count, table);
+    tables::fill(notes, count, table);
     moves::zero_numbers(
         table,
         count * limits::WIDTH,

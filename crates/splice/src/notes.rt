@@ -54,7 +54,7 @@ fn around(notes: &mut [usize], node: usize, l: usize, l2: usize)
 {
     let mut j: usize = 0;
     while j < node {
-        let held = sheets::over(notes, j, node - j);
+        let held = tables::over(notes, j, node - j);
         notes[j] = grown(notes[j], held, l, l2);
         j += 1;
     }

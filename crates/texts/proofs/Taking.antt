@@ -22,9 +22,9 @@ use Rattle.blocks.specs.Fronts.{Front}
 use Rattle.blocks.proofs.Laws.{front-wrote}
 use Rattle.advanced.specs.Converted.{Converts, Enough, thrice, largest, Lent}
 use Rattle.sheets.specs.Notes.{noted, Noted}
-use Rattle.sheets.specs.Told.{Holds}
+use Rattle.tables.specs.Told.{Holds}
 use Rattle.sheets.proofs.Keeping.{noted-length}
-use Rattle.sheets.proofs.Held.{note-holds}
+use Rattle.tables.proofs.Held.{note-holds}
 use Rattle.sheets.proofs.Noting.{whole-refused}
 use Rattle.texts.specs.Texts.{Taken}
 

@@ -17,7 +17,7 @@ use Rattle.model.specs.Answers.{noForm, placeOf}
 use Rattle.walk.specs.Extent.{Measures}
 use Rattle.walk.specs.declared.Extent.{Extent}
 use Rattle.walk.specs.declared.Extent.the-variants.{Refused}
-use Rattle.sheets.specs.Told.{Holds}
+use Rattle.tables.specs.Told.{Holds}
 use Rattle.advanced.specs.Converted.{Lent}
 
 -- rows 1 and 2

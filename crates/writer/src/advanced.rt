@@ -22,7 +22,7 @@ fn put_gap(due: bool, out: &mut [u8], pos: usize) -> usize
     requires { ⌜ pos < length (now out) ⌝ }
     ensures { λ r. ⌜ Front (gap due) pos (now (out .entry)) (now (out .exit)) r ⌝ }
 {
-    out[pos] = 32;
+    out[pos] = b' ';
     if due { pos + 1 } else { pos }
 }
 
@@ -32,7 +32,7 @@ fn put_open(due: bool, out: &mut [u8], pos: usize) -> usize
     ensures { λ r. ⌜ Front (spelledOne due opening) pos (now (out .entry)) (now (out .exit)) r ⌝ }
 {
     let o = put_gap(due, out, pos);
-    out[o] = 40;
+    out[o] = b'(';
     o + 1
 }
 
@@ -69,9 +69,9 @@ fn put_hint(
     requires { ⌜ pos + length (shown (cut (now src) start end)) + 18 ≤ length (now out) ⌝ }
     ensures { λ r. ⌜ Front (bracketed (cut (now (src .entry)) start end)) pos (now (out .entry)) (now (out .exit)) r ⌝ }
 {
-    out[pos] = 91;
+    out[pos] = b'[';
     let o = put_spelled(classes, src, start, end, out, pos + 1);
-    out[o] = 93;
+    out[o] = b']';
     o + 1
 }
 
@@ -102,7 +102,7 @@ fn hint_at(src: &[u8], at: usize) -> [usize; 2]
     requires { ⌜ Unplain (now src) at ⌝ }
     ensures { λ r. ⌜ HintAt (now (src .entry)) at (getD r 0 0) (getD r 1 0) ⌝ }
 {
-    if src[at] != 91 {
+    if src[at] != b'[' {
         return [0, 0];
     }
     let hint = string_at(src, at + 1);
@@ -132,14 +132,14 @@ pub fn put_advanced(classes: &[u8; 256], src: &[u8], out: &mut [u8]) -> usize
             continue;
         }
         let b = src[at];
-        if b == 40 {
+        if b == b'(' {
             o = put_open(due, out, o);
             due = false;
             at += 1;
             continue;
         }
-        if b == 41 {
-            out[o] = 41;
+        if b == b')' {
+            out[o] = b')';
             o += 1;
             due = true;
             at += 1;

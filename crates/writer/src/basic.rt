@@ -85,8 +85,8 @@ pub fn put_basic(alphabet: &[u8; 64], src: &[u8], out: &mut [u8]) -> usize
     requires { ⌜ length (basic (the (decode₁ (now src)))) ≤ length (now out) ⌝ }
     ensures { λ r. ⌜ Wrote (basic (the (decode₁ (now (src .entry))))) 0 (now (out .entry)) (now (out .exit)) r ⌝ }
 {
-    out[0] = 123;
+    out[0] = b'{';
     let o = put_letters(alphabet, src, out, 1);
-    out[o] = 125;
+    out[o] = b'}';
     o + 1
 }

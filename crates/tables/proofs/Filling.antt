@@ -1,0 +1,161 @@
+-- The loops over notes: a table filled from them, and compared with them.
+use Prim.Native.Nat.{ℕ, _+_, _*_, _≤_, _<_}
+use native.Mathlib.Omega.{arith}
+use native.Mathlib.Numerals.{add-one}
+use mathlib.Core.Path.{_≡_, refl, sym, ap, ap₂, _∙_}
+use mathlib.Core.Bool.{Bool, true, false}
+use mathlib.Core.List.{List, [], _∷_, _++_}
+use lib.ListN.{length, getD, take, drop, take-append-drop}
+use lib.Seq.{sets, take-suc, take-all, take-take, take-add, take-at, drop-at, length-sets, length-take-le}
+use Rattle.base.specs.Choice.{equal}
+use Rattle.base.proofs.Cases.{by-bool, differ}
+use Rattle.base.proofs.Lists.{equal-true, same-equal}
+use Rattle.base.proofs.Stores.{sets-append}
+use Rattle.model.specs.Limits.{maxSource}
+use Rattle.model.specs.Table.{Row, plainRow, width, rowNumbers, recorded, rows, rowOf, parents, parentOf, flat, tableOf}
+use Rattle.model.specs.Tree.{Tree, nodes}
+use Rattle.walk.specs.Events.{recordAt}
+use Rattle.walk.proofs.Tabled.{flat-append, flat-length, rows-length, parents-length}
+use Rattle.tables.specs.Rows.{recordList, RowIs}
+use Rattle.tables.specs.Told.{rowAt, parentPart, Readable, Holds, Fillable, Filled, Compared}
+use Rattle.tables.specs.declared.rows.Row as coded
+use Rattle.tables.proofs.Telling.{holds-few, holds-row, holds-parent, holds-readable}
+
+-- ---- the first records of a tree's table
+
+abbrev front : Tree → ℕ → List ℕ
+front t k = flat (take k (rows t 0)) (take k (parents t 0 0))
+
+front-length : (t : Tree) (k : ℕ) → k ≤ nodes t → length (front t k) ≡ width * k
+front-length t k h = flat-length (take k (rows t 0)) (take k (parents t 0 0)) ∙ ap (λ (n : ℕ). width * n) (length-take-le k (rows t 0) (omega (arith, rows-length t 0)))
+
+-- as many rows as parents
+alike : (t : Tree) (k : ℕ) → k ≤ nodes t → length (take k (parents t 0 0)) ≡ length (take k (rows t 0))
+alike t k h =
+    length-take-le k (parents t 0 0) (omega (arith, parents-length t 0 0)) ∙ sym (length-take-le k (rows t 0) (omega (arith, rows-length t 0)))
+
+front-more : (t : Tree) (k : ℕ) → k < nodes t → front t (k + 1) ≡ front t k ++ recorded (rowOf t k) (parentOf t k)
+unfolding flat
+front-more t k h =
+    rw (add-one k)
+    (ap₂ flat (take-suc (rows t 0) k (plainRow 0 0 0) (omega (arith, rows-length t 0))) (take-suc (parents t 0 0) k 0 (omega (arith, parents-length t 0 0)))
+    ∙ flat-append (take k (rows t 0)) (rowOf t k ∷ []) (take k (parents t 0 0)) (parentOf t k ∷ []) (alike t k (omega arith)))
+
+-- they are where the table begins
+front-take : (t : Tree) (k : ℕ) → k ≤ nodes t → take (width * k) (tableOf t) ≡ front t k
+unfolding tableOf
+front-take t k h =
+    ap₂ (λ (l : List Row) (p : List ℕ). take (width * k) (flat l p)) (sym (take-append-drop k (rows t 0))) (sym (take-append-drop k (parents t 0 0)))
+    ∙ ap (take (width * k)) (flat-append (take k (rows t 0)) (drop k (rows t 0)) (take k (parents t 0 0)) (drop k (parents t 0 0)) (alike t k h))
+    ∙ take-at (front t k) (flat (drop k (rows t 0)) (drop k (parents t 0 0))) (width * k) (front-length t k h)
+
+front-all : (t : Tree) (k : ℕ) → nodes t ≤ k → front t k ≡ tableOf t
+unfolding tableOf
+front-all t k h = ap₂ flat (take-all k (rows t 0) (omega (arith, rows-length t 0))) (take-all k (parents t 0 0) (omega (arith, parents-length t 0 0)))
+
+-- the record that a note tells is the tree's
+told : (notes : List ℕ) (n k : ℕ) → k < n → (t : Tree) → Holds notes n t → (r : coded.Row) → RowIs r (rowAt notes k) → (up : ℕ) → up ≡ parentPart (getD notes k 0)
+    → recordList r up ≡ recorded (rowOf t k) (parentOf t k)
+told notes n k h t x r is up u =
+    ap₂ (λ (l : List ℕ) (p : ℕ). l ++ (p ∷ [])) (is ∙ ap rowNumbers (holds-row notes n t x k h)) (u ∙ holds-parent notes n t x k h)
+
+-- ---- filling
+
+pub record Filling (notes : List ℕ) (n : ℕ) (table₀ table : List ℕ) (k : ℕ) : Type 0 where
+  pub given : Fillable notes n (length table₀)
+  pub inside : k ≤ n
+  pub few : n ≤ maxSource
+  pub long : length table ≡ length table₀
+  pub fits : width * n ≤ length table
+  pub same : (t : Tree) → Holds notes n t → table ≡ sets table₀ 0 (front t k)
+
+pub fill-start : (notes : List ℕ) (n : ℕ) (table : List ℕ) → Fillable notes n (length table) → Filling notes n table table 0
+unfolding flat
+fill-start notes n table g = record { given = g; inside = omega arith; few = holds-few notes n (g .tree) (g .held); long = refl; fits = g .fits; same = λ t h. refl }
+
+module _ (notes : List ℕ) (n : ℕ) (table₀ table : List ℕ) (k : ℕ) (w : Filling notes n table₀ table k) where
+  pub fill-long : length table ≡ length table₀
+  fill-long = w .long
+
+  pub fill-end : n ≤ k → Filled notes n table₀ table
+  fill-end h = record { fills = λ t x. w .same t x ∙ ap (sets table₀ 0) (front-all t k (omega (arith, x .counted))) }
+
+  module _ (h : k < n) where
+    pub fill-readable : Readable notes k
+    fill-readable = holds-readable notes n (w .given .tree) (w .given .held) k h
+
+    pub fill-on : (r : coded.Row) → RowIs r (rowAt notes k) → (up : ℕ) → up ≡ parentPart (getD notes k 0) → (table′ : List ℕ) → table′ ≡ sets table (width * k) (recordList r up) → Filling notes n table₀ table′ (k + 1)
+    fill-on r is up u table′ e =
+        record {
+          given = w .given;
+          inside = omega arith;
+          few = w .few;
+          long = ap length e ∙ length-sets table (width * k) (recordList r up) ∙ w .long;
+          fits = omega (arith, w .fits, ap length e, length-sets table (width * k) (recordList r up));
+          same = λ t x.
+              let l : k < nodes t = omega (arith, x .counted) in
+              let i : 0 + length (front t k) ≡ width * k = omega (arith, front-length t k (omega arith)) in
+              e ∙ ap₂ (λ (a b : List ℕ). sets a (width * k) b) (w .same t x) (told notes n k h t x r is up u)
+              ∙ ap (λ (j : ℕ). sets (sets table₀ 0 (front t k)) j (recorded (rowOf t k) (parentOf t k))) (sym i)
+              ∙ sym (sets-append table₀ (front t k) (recorded (rowOf t k) (parentOf t k)) 0)
+              ∙ ap (sets table₀ 0) (sym (front-more t k l));
+        }
+
+-- ---- comparing
+
+pub record Comparing (notes : List ℕ) (n : ℕ) (table : List ℕ) (k : ℕ) : Type 0 where
+  pub given : Fillable notes n (length table)
+  pub inside : k ≤ n
+  pub few : n ≤ maxSource
+  pub fits : width * n ≤ length table
+  pub same : (t : Tree) → Holds notes n t → take (width * k) table ≡ front t k
+
+pub compare-start : (notes : List ℕ) (n : ℕ) (table : List ℕ) → Fillable notes n (length table) → Comparing notes n table 0
+unfolding flat
+compare-start notes n table g = record { given = g; inside = omega arith; few = holds-few notes n (g .tree) (g .held); fits = g .fits; same = λ t h. refl }
+
+module _ (notes : List ℕ) (n : ℕ) (table : List ℕ) (k : ℕ) (w : Comparing notes n table k) where
+  pub compare-end : n ≤ k → Compared notes n table true
+  compare-end h =
+      record {
+        tells = λ t x.
+            let e : k ≡ n = omega (arith, w .inside) in
+            sym (same-equal _ _ (ap (λ (i : ℕ). take (width * i) table) (sym e) ∙ w .same t x ∙ front-all t k (omega (arith, x .counted))));
+      }
+
+  module _ (h : k < n) where
+    pub compare-readable : Readable notes k
+    compare-readable = holds-readable notes n (w .given .tree) (w .given .held) k h
+
+    -- the record in its place, and the tree's
+    record-front : take (width * (k + 1)) table ≡ take (width * k) table ++ recordAt table k
+    record-front = let z : width * (k + 1) ≡ width * k + width = omega arith in rw z (take-add (width * k) width table)
+
+    module _ (r : coded.Row) (is : RowIs r (rowAt notes k)) (up : ℕ) (u : up ≡ parentPart (getD notes k 0)) (q : Bool) (e : q ≡ equal (recordAt table k) (recordList r up)) where
+      pub compare-on : q ≡ true → Comparing notes n table (k + 1)
+      compare-on f =
+          record {
+            given = w .given;
+            inside = omega arith;
+            few = w .few;
+            fits = w .fits;
+            same = λ t x.
+                record-front
+                ∙ ap₂ (λ (a b : List ℕ). a ++ b) (w .same t x) (equal-true (recordAt table k) (recordList r up) (sym e ∙ f) ∙ told notes n k h t x r is up u)
+                ∙ sym (front-more t k (omega (arith, x .counted)));
+          }
+
+      pub compare-off : q ≡ false → Compared notes n table false
+      compare-off f = record { tells = λ t x. by-bool (equal (take (width * n) table) (tableOf t)) (λ y. absurd (apart t x (equal-true _ _ y))) (λ y. sym y) }
+        where
+          apart : (t : Tree) → Holds notes n t → take (width * n) table ≡ tableOf t → ⊥
+          apart t x y =
+              let l : k < nodes t = omega (arith, x .counted) in
+              let a : take (width * (k + 1)) table ≡ front t (k + 1) =
+              sym (take-take (width * (k + 1)) (width * n) table (omega arith)) ∙ ap (take (width * (k + 1))) y ∙ front-take t (k + 1) (omega arith) in
+              let b : take (width * k) table ++ recordAt table k ≡ take (width * k) table ++ recorded (rowOf t k) (parentOf t k) =
+              sym record-front ∙ a ∙ front-more t k l ∙ ap (λ (z : List ℕ). z ++ recorded (rowOf t k) (parentOf t k)) (sym (w .same t x)) in
+              let m : length (take (width * k) table) ≡ width * k = length-take-le (width * k) table (omega (arith, w .fits)) in
+              let c : recordAt table k ≡ recorded (rowOf t k) (parentOf t k) =
+              sym (drop-at (take (width * k) table) (recordAt table k) (width * k) m) ∙ ap (drop (width * k)) b ∙ drop-at (take (width * k) table) (recorded (rowOf t k) (parentOf t k)) (width * k) m in
+              differ (e ∙ same-equal (recordAt table k) (recordList r up) (c ∙ sym (told notes n k h t x r is up u))) f

@@ -1,0 +1,5 @@
+pub mod Records
+pub mod Telling
+pub mod Filling
+pub mod Held
+pub mod Counts

@@ -1,0 +1,123 @@
+// A node's record: made of places, stored, and compared.
+ghost use mathlib.Core.Path.{_≡_};
+ghost use Prim.Native.Nat.{_+_, _*_, _≤_, _<_};
+ghost use lib.ListN.{length};
+ghost use lib.Seq.{sets};
+ghost use Rattle.base.specs.Choice.{equal};
+ghost use Rattle.model.specs.Limits.{maxSource};
+ghost use Rattle.model.specs.Table.{width, plainRow, hintedRow, listRow};
+ghost use Rattle.walk.specs.Events.{recordAt};
+ghost use Rattle.tables.specs.Rows.{recordList, RowIs};
+
+// A record: 0 string, 1 string with hint, 2 list; offsets are into the canonical octets.
+pub struct Row {
+    pub kind: u32,
+    pub start: u32,
+    pub end: u32,
+    pub nodes: u32,
+    pub hint_start: u32,
+    pub hint_end: u32,
+    pub data_start: u32,
+    pub data_end: u32,
+}
+
+// The record of a string.
+pub fn plain_row(at: usize, start: usize, end: usize) -> Row
+    requires { ⌜ (at ≤ maxSource) × (start ≤ maxSource) × (end ≤ maxSource) ⌝ }
+    ensures { λ r. ⌜ RowIs r (plainRow at start end) ⌝ }
+{
+    Row {
+        kind: 0,
+        start: at as u32,
+        end: end as u32,
+        nodes: 1,
+        hint_start: 0,
+        hint_end: 0,
+        data_start: start as u32,
+        data_end: end as u32,
+    }
+}
+
+// The record of a string whose hint stands from `from` to `to`.
+pub fn hinted_row(at: usize, from: usize, to: usize, start: usize, end: usize) -> Row
+    requires { ⌜ (at ≤ maxSource) × (from ≤ maxSource) × (to ≤ maxSource) × (start ≤ maxSource) × (end ≤ maxSource) ⌝ }
+    ensures { λ r. ⌜ RowIs r (hintedRow at from to start end) ⌝ }
+{
+    Row {
+        kind: 1,
+        start: at as u32,
+        end: end as u32,
+        nodes: 1,
+        hint_start: from as u32,
+        hint_end: to as u32,
+        data_start: start as u32,
+        data_end: end as u32,
+    }
+}
+
+// The record of a list.
+pub fn list_row(start: usize, end: usize, nodes: usize) -> Row
+    requires { ⌜ (start < end) × (end ≤ maxSource) × (nodes ≤ maxSource) ⌝ }
+    ensures { λ r. ⌜ RowIs r (listRow start end nodes) ⌝ }
+{
+    Row {
+        kind: 2,
+        start: start as u32,
+        end: end as u32,
+        nodes: nodes as u32,
+        hint_start: 0,
+        hint_end: 0,
+        data_start: (start + 1) as u32,
+        data_end: (end - 1) as u32,
+    }
+}
+
+// A record stored, with the number of the list around its node.
+pub fn put_row(table: &mut [u32], node: usize, row: Row, up: u32)
+    requires { ⌜ width * (node + 1) ≤ length (now table) ⌝ }
+    ensures { λ r. ⌜ now (table .exit) ≡ sets (now (table .entry)) (width * node) (recordList row up) ⌝ }
+{
+    let at = node * limits::WIDTH;
+    table[at] = row.kind;
+    table[at + 1] = row.start;
+    table[at + 2] = row.end;
+    table[at + 3] = row.nodes;
+    table[at + 4] = row.hint_start;
+    table[at + 5] = row.hint_end;
+    table[at + 6] = row.data_start;
+    table[at + 7] = row.data_end;
+    table[at + 8] = up;
+}
+
+// Whether a record is this one, in this list.
+pub fn row_is(table: &[u32], node: usize, row: Row, up: u32) -> bool
+    requires { ⌜ (node ≤ maxSource) × (width * (node + 1) ≤ length (now table)) ⌝ }
+    ensures { λ r. ⌜ r ≡ equal (recordAt (now (table .entry)) node) (recordList row up) ⌝ }
+{
+    let at = node * limits::WIDTH;
+    if table[at] != row.kind {
+        return false;
+    }
+    if table[at + 1] != row.start {
+        return false;
+    }
+    if table[at + 2] != row.end {
+        return false;
+    }
+    if table[at + 3] != row.nodes {
+        return false;
+    }
+    if table[at + 4] != row.hint_start {
+        return false;
+    }
+    if table[at + 5] != row.hint_end {
+        return false;
+    }
+    if table[at + 6] != row.data_start {
+        return false;
+    }
+    if table[at + 7] != row.data_end {
+        return false;
+    }
+    table[at + 8] == up
+}
