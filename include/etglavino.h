@@ -30,42 +30,42 @@
  *
  * Stack that a call takes at most, in octets (x86-64), besides what the C
  * library's memset and memcpy take:
- *   etg_read                 120,840
- *   etg_read_records         134,056
- *   etg_write                 35,112
- *   etg_replace              120,648
+ *   etg_read                 120,280
+ *   etg_read_records         134,728
+ *   etg_write                 35,096
+ *   etg_replace              120,664
  *   etg_replace_records      134,568
- *   etg_insert               120,648
+ *   etg_insert               120,664
  *   etg_insert_records       134,568
- *   etg_remove               120,664
+ *   etg_remove               120,680
  *   etg_remove_records       134,568
  *   etg_same                   2,408
  *   etg_hint                  67,880
- *   etg_hint_records          81,976
+ *   etg_hint_records          81,992
  *   etg_data                  67,880
- *   etg_data_records          81,976
+ *   etg_data_records          81,992
  *   etg_spool_open             2,392
  *   etg_spool_add_start        2,440
  *   etg_spool_add_step            32
  *   etg_spool_add_commits          8
  *   etg_spool_add              2,440
- *   etg_value                 67,832
- *   etg_value_records         67,848
+ *   etg_value                 67,944
+ *   etg_value_records         81,976
  *   etg_put_value                 24
- *   etg_line                  67,848
- *   etg_line_records          67,848
+ *   etg_line                  68,120
+ *   etg_line_records          82,024
  *   etg_total                     72
- *   etg_week                  67,832
- *   etg_week_records          67,832
- *   etg_extract              136,632
- *   etg_extract_own          136,632
- *   etg_extract_records      136,616
- *   etg_extract_own_records  136,632
+ *   etg_week                  67,912
+ *   etg_week_records          82,072
+ *   etg_extract              137,576
+ *   etg_extract_own          137,432
+ *   etg_extract_records      151,432
+ *   etg_extract_own_records  151,656
  *   etg_split                    184
  *   etg_pieces_start               8
  *   etg_pieces_feed              328
  *   etg_pieces_end            67,864
- *   etg_pieces_end_records    67,816
+ *   etg_pieces_end_records    67,800
  *
  * Refusals. Every function but those that find a hint or data, that split a
  * run of sheets, or that go on with an addition to a spool, returns one of
