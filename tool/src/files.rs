@@ -3,6 +3,7 @@
 use std::ffi::OsStr;
 use std::fs::{self, File, OpenOptions};
 use std::io::{self, ErrorKind, Read, Write};
+use std::os::fd::AsFd;
 use std::os::unix::fs::{fchown, MetadataExt};
 use std::path::{Path, PathBuf};
 use std::process;
@@ -10,7 +11,7 @@ use std::process;
 use etglavino::{Form, OwnedSheet, Refusal, MAX_SOURCE};
 
 use crate::args::Given;
-use crate::problem::Problem;
+use crate::problem::{usage, Problem};
 
 /// How a file is called in a sentence; none, and `-`, are standard input.
 pub fn name(file: Option<&OsStr>) -> String {
@@ -105,6 +106,28 @@ pub fn put(octets: &[u8]) -> Result<(), Problem> {
     let mut out = io::stdout().lock();
     let done = out.write_all(octets).and_then(|()| out.flush());
     done.map_err(Problem::Output)
+}
+
+/// Wrong use where `--output` names the file that is read, under this name or
+/// another: what a command says of a sheet would take the sheet's place.
+pub fn apart(given: &Given, file: Option<&OsStr>) -> Result<(), Problem> {
+    let Some(output) = given.value("--output").filter(|path| *path != "-") else {
+        return Ok(());
+    };
+    let read = match file {
+        Some(path) if path != "-" => fs::metadata(path),
+        _ => io::stdin()
+            .as_fd()
+            .try_clone_to_owned()
+            .and_then(|stdin| File::from(stdin).metadata()),
+    };
+    match (read, fs::metadata(output)) {
+        (Ok(a), Ok(b)) if (a.dev(), a.ino()) == (b.dev(), b.ino()) => {
+            let output = name(Some(output));
+            usage(format!("--output: {output} is the file that is read"))
+        }
+        _ => Ok(()),
+    }
 }
 
 /// Replaces a file as a whole, or makes it: the octets are written beside it and

@@ -27,9 +27,8 @@ class Case(unittest.TestCase):
 
     def run_tool(self, *arguments, source=b"", **more):
         """Exit status, standard output and standard error."""
-        done = subprocess.run(
-            [TOOL, *arguments], input=source, capture_output=True, cwd=self.folder, check=False, **more
-        )
+        given = more if "stdin" in more else {"input": source, **more}
+        done = subprocess.run([TOOL, *arguments], capture_output=True, cwd=self.folder, check=False, **given)
         return done.returncode, done.stdout, done.stderr
 
     def gives(self, out, *arguments, source=b"") -> None:

@@ -37,6 +37,7 @@ const HEAD: [&str; 9] = [
 type Row = [String; HEAD.len()];
 
 fn run(given: &Given) -> Result<(), Problem> {
+    files::apart(given, given.at(0))?;
     let sheet = files::take(given, given.at(0))?.sheet;
     let rows = rows(&sheet).map_err(|node| {
         let name = format!("{}, node {node}", files::name(given.at(0)));

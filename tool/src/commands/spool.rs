@@ -156,6 +156,7 @@ fn get(given: &Given) -> Result<(), Problem> {
     let Ok(number) = shown.parse::<usize>() else {
         return usage(format!("spool get: {shown} is no number"));
     };
+    files::apart(given, Some(path))?;
     let area = area(path)?;
     let mut sheets = opened(path, &area)?;
     let count = sheets.len();
