@@ -34,9 +34,46 @@ class Spool(Case):
         self.assertEqual(out.count(b"\n"), 2)
         self.file("bad", b"\x82\x00()")
         for arguments in (["list", "bad"], ["get", "bad", "0"], ["check", "bad"], ["add", "bad", "list"]):
-            self.fails(1, b"bad", "spool", *arguments)
-            self.fails(1, b"refused 10: ", "spool", *arguments)
+            self.fails(1, b"bad: refused 10: ", "spool", *arguments)
         self.assertEqual((self.folder / "bad").read_bytes(), b"\x82\x00()")
+
+    def test_sizes_that_no_disk_has(self) -> None:
+        self.file("list", LIST)
+        self.gives(b"", "spool", "add", "--size", "20", "old", "list")
+        before = self.names()
+        for size in (2**64 - 1, 2**63, 2**63 - 1, 2**62):
+            for desk in ("new", "old"):
+                said = desk.encode() + b": "
+                self.fails(2, said, "spool", "add", "--size", str(size), desk, "list")
+                self.assertEqual(self.names(), before)
+                self.assertEqual((self.folder / "old").stat().st_size, 20)
+        self.fails(2, b"is no number", "spool", "add", "--size", str(2**64), "new", "list")
+
+    def test_room_to_the_last_octet(self) -> None:
+        # An entry is a length, of an octet for each seven bits, and the sheet.
+        self.file("empty", b"()")
+        self.file("longer", b"123:" + b"a" * 123)
+        self.file("long", b"124:" + b"a" * 124)
+        self.file("longest", b"16378:" + b"a" * 16_378)
+        for room, *sheets in (
+            (3, "empty"),
+            (128 + 3, "longer", "empty"),
+            (130 + 3, "long", "empty"),
+            (16_387, "longest"),
+            (2 * 16_387 + 130 + 3, "longest", "long", "longest", "empty"),
+        ):
+            refused = b"desk, adding %s: refused 6: " % sheets[-1].encode()
+            self.fails(1, refused, "spool", "add", "--size", str(room - 1), "desk", *sheets)
+            self.assertFalse((self.folder / "desk").exists())
+            self.gives(b"", "spool", "add", "--size", str(room), "desk", *sheets)
+            _, out, _ = self.run_tool("spool", "list", "desk")
+            self.assertEqual(out.count(b"\n"), len(sheets))
+            # And the same again behind these.
+            self.fails(1, refused, "spool", "add", "--size", str(2 * room - 1), "desk", *sheets)
+            self.assertEqual((self.folder / "desk").stat().st_size, room)
+            self.gives(b"", "spool", "add", "--size", str(2 * room), "desk", *sheets)
+            self.gives(b"", "spool", "check", "desk")
+            (self.folder / "desk").unlink()
 
     def test_a_refused_file_adds_none(self) -> None:
         self.file("list", LIST)

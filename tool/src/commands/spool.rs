@@ -4,7 +4,7 @@ use std::ffi::{OsStr, OsString};
 use std::fs;
 use std::path::Path;
 
-use etglavino::{Form, OwnedSheet, Refusal, SpoolFile};
+use etglavino::{Form, OwnedSheet, Refusal, SpoolFile, MAX_CANONICAL};
 
 use super::convert::deliver;
 use crate::args::{Command, Flag, Given, FROM, OUTPUT, THREADS};
@@ -13,6 +13,8 @@ use crate::{files, many};
 
 /// Octets of a spool file that is made, where nothing else is said.
 const SIZE: usize = 1 << 20;
+/// Octets of a length before an entry: seven bits each.
+const LENGTH: usize = 3;
 /// Columns of a sheet's text in a list.
 const COLUMNS: usize = 60;
 
@@ -87,12 +89,15 @@ fn add(given: &Given) -> Result<(), Problem> {
     // The file is made, or grows, only when nothing can be refused any more.
     let mut spool = if Path::new(path).exists() {
         let mut spool = SpoolFile::open(path).map_err(failed)?;
-        rehearsed(spool.area(), size.unwrap_or(0), new, &sheets).map_err(refused)?;
-        spool.grow(size.unwrap_or(0)).map_err(failed)?;
+        let damaged = |why| Problem::Refused(name.to_string(), why);
+        let used = used(spool.area()).map_err(damaged)?;
+        let size = size.unwrap_or(0).max(spool.area().len());
+        rehearsed(size - used, new, &sheets).map_err(refused)?;
+        spool.grow(size).map_err(failed)?;
         spool
     } else {
         let size = size.unwrap_or(SIZE);
-        rehearsed(&[], size, new, &sheets).map_err(refused)?;
+        rehearsed(size, new, &sheets).map_err(refused)?;
         SpoolFile::create(path, size).map_err(failed)?
     };
     let mut bar = many::Bar::of(sheets.len());
@@ -104,19 +109,30 @@ fn add(given: &Given) -> Result<(), Problem> {
     Ok(())
 }
 
-/// Adds all sheets to a copy of the area, grown to at least `size` octets: none is
-/// added to the file if one of them is refused.
+/// How many octets the entries of an area have.
+fn used(area: &[u8]) -> Result<usize, Refusal> {
+    let count = etglavino::spool_open(area, 0)?.count;
+    match count.checked_sub(1) {
+        None => Ok(0),
+        Some(last) => Ok(etglavino::spool_open(area, last)?.end),
+    }
+}
+
+/// Whether that many octets behind a spool's entries have room for all sheets:
+/// none is added to the file if one of them is refused. What stands behind the
+/// entries is a spool of its own, an empty one, so each sheet is added to an empty
+/// area that has the room left, or as much of it as any sheet may take.
 fn rehearsed<'a>(
-    area: &[u8],
-    size: usize,
+    mut left: usize,
     files: &'a [OsString],
     sheets: &[OwnedSheet],
 ) -> Result<(), (&'a OsString, Refusal)> {
-    let mut copy = area.to_vec();
-    copy.resize(size.max(area.len()), 0);
     for (file, sheet) in files.iter().zip(sheets) {
         let octets = sheet.canonical();
-        etglavino::spool_add(&mut copy, octets, octets.len()).map_err(|why| (file, why))?;
+        let mut area = vec![0; left.min(MAX_CANONICAL + LENGTH)];
+        let added = etglavino::spool_add(&mut area, octets, octets.len())
+            .and_then(|()| etglavino::spool_open(&area, 0));
+        left -= added.map_err(|why| (file, why))?.end;
     }
     Ok(())
 }
