@@ -57,6 +57,34 @@ fn places_by_hand() {
     }
 }
 
+/// A text that tells a length near what can be counted, or beyond it, is cut short
+/// where it ends.
+#[test]
+fn lengths_near_what_can_be_counted() {
+    let longest = [usize::MAX, usize::MAX / 2, usize::MAX / 4 * 3];
+    for length in longest.iter().flat_map(|most| *most - 9..=*most) {
+        for digits in [length.to_string(), format!("{length}0")] {
+            for rest in [":abc", "\"abc", "#616263", "|YWJj", "|YWJ"] {
+                let text = format!("({digits}{rest}");
+                assert_eq!(
+                    refused_at(Form::Advanced, &text),
+                    Some(text.len()),
+                    "{text}"
+                );
+            }
+            // What ends before that is wrong at its end.
+            for rest in ["\"abc\"", "#616263#", "|YWJj|"] {
+                let text = format!("{digits}{rest}");
+                assert_eq!(
+                    refused_at(Form::Advanced, &text),
+                    Some(text.len() - 1),
+                    "{text}"
+                );
+            }
+        }
+    }
+}
+
 #[test]
 fn places_in_braces_by_hand() {
     // `(3:abc)` is KDM6YWJjKQ==, and `(3:ab)` KDM6YWIp.
