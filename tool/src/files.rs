@@ -140,12 +140,7 @@ pub fn replace(path: &OsStr, octets: &[u8], old: Option<&[u8]>) -> Result<(), Pr
 }
 
 fn replaced(path: &Path, octets: &[u8], old: Option<&[u8]>) -> io::Result<()> {
-    // Of a link the file that it names is replaced, and the link stays.
-    let path = match fs::canonicalize(path) {
-        Ok(path) => path,
-        Err(error) if error.kind() == ErrorKind::NotFound => path.to_path_buf(),
-        Err(error) => return Err(error),
-    };
+    let path = meant(path)?;
     let folder = match path.parent() {
         Some(folder) if !folder.as_os_str().is_empty() => folder,
         _ => Path::new("."),
@@ -156,6 +151,8 @@ fn replaced(path: &Path, octets: &[u8], old: Option<&[u8]>) -> io::Result<()> {
         Err(error) if error.kind() == ErrorKind::NotFound => None,
         Err(error) => return Err(error),
     };
+    // Opened first: who may not sync the folder is refused before anything changes.
+    let listing = File::open(folder)?;
     let (beside, mut file) = beside(folder)?;
     let done = (|| {
         if let Some(before) = before {
@@ -169,12 +166,24 @@ fn replaced(path: &Path, octets: &[u8], old: Option<&[u8]>) -> io::Result<()> {
             return Err(io::Error::other("it was changed meanwhile, and is left so"));
         }
         fs::rename(&beside, &path)?;
-        File::open(folder)?.sync_all()
+        listing.sync_all()
     })();
     if done.is_err() {
         let _ = fs::remove_file(&beside);
     }
     done
+}
+
+/// The file that a path names, or that it would make: of a link the one that it
+/// leads to, and the link stays. Links in a circle are an error.
+fn meant(path: &Path) -> io::Result<PathBuf> {
+    match fs::canonicalize(path) {
+        Err(error) if error.kind() == ErrorKind::NotFound => match fs::read_link(path) {
+            Ok(link) => meant(&path.with_file_name("").join(link)),
+            Err(_) => Ok(path.to_path_buf()),
+        },
+        found => found,
+    }
 }
 
 /// A new file in the folder, under a name that nobody asks for.

@@ -1,8 +1,12 @@
 """What `--output` writes, and what it leaves."""
 
+import os
 import unittest
 
-from tool import LIST, Case
+from tool import LIST, LIST_ADVANCED, Case
+
+NOBODY = 65_534
+"""A user who may do nothing beside what a mode grants."""
 
 
 class OntoItself(Case):
@@ -41,6 +45,51 @@ class OntoItself(Case):
         self.gives(b"", "convert", "--to", "advanced", "--output", "list", "list")
         self.gives(b"", "extract", "--output", "list", "list")
         self.assertEqual(path.read_bytes(), b"(a ())\n")
+
+
+class Links(Case):
+    def test_a_link_to_nothing_stays_and_its_file_is_made(self) -> None:
+        self.file("list", LIST)
+        (self.folder / "sub").mkdir()
+        (self.folder / "link").symlink_to("sub/next")
+        (self.folder / "sub/next").symlink_to("new")
+        self.gives(b"", "convert", "--to", "advanced", "--output", "link", "list")
+        self.assertTrue((self.folder / "link").is_symlink())
+        self.assertTrue((self.folder / "sub/next").is_symlink())
+        self.assertEqual((self.folder / "sub/new").read_bytes(), LIST_ADVANCED)
+        self.assertEqual(sorted(os.listdir(self.folder / "sub")), ["new", "next"])
+
+    def test_links_that_lead_nowhere(self) -> None:
+        self.file("list", LIST)
+        (self.folder / "circle").symlink_to("circle")
+        (self.folder / "away").symlink_to("missing/new")
+        for name, said in (("circle", b"circle: Too many levels"), ("away", b"away: No such file")):
+            self.fails(2, said, "convert", "--output", name, "list")
+            self.assertTrue((self.folder / name).is_symlink())
+        self.assertEqual(self.names(), ["away", "circle", "list"])
+
+
+class Folders(Case):
+    def test_a_folder_that_cannot_be_opened_is_left_as_it_was(self) -> None:
+        sub = self.folder / "sub"
+        sub.mkdir()
+        path = self.file("sub/list", LIST)
+        user = {}
+        if os.geteuid() == 0:
+            user = {"user": NOBODY}
+            self.folder.chmod(0o755)
+            os.chown(sub, NOBODY, NOBODY)
+            os.chown(path, NOBODY, NOBODY)
+        sub.chmod(0o300)
+        self.addCleanup(sub.chmod, 0o700)
+        status, out, said = self.run_tool("replace", "1", "hi", "sub/list", **user)
+        self.assertEqual((status, out), (2, b""))
+        self.assertIn(b"sub/list: Permission denied", said)
+        sub.chmod(0o700)
+        self.assertEqual(path.read_bytes(), LIST)
+        self.assertEqual(os.listdir(sub), ["list"])
+        # Nothing else was in the way.
+        self.assertEqual(self.run_tool("replace", "1", "hi", "sub/list", **user), (0, b"", b""))
 
 
 if __name__ == "__main__":

@@ -1,14 +1,12 @@
 """What a process can meet."""
 
-import contextlib
 import os
-import pty
 import subprocess
 import threading
 import time
 import unittest
 
-from tool import LIST, SYNTAX, TOOL, Case
+from tool import LIST, SYNTAX, TOOL, Case, seen
 
 
 class Process(Case):
@@ -122,9 +120,6 @@ class Process(Case):
         """What a terminal sees of a command on two files that takes so long."""
         slow = self.folder / "slow"
         os.mkfifo(slow)
-        ours, theirs = pty.openpty()
-        run = subprocess.Popen([TOOL, *command, "slow", "slow2"], cwd=self.folder, stderr=theirs)
-        os.close(theirs)
 
         def write() -> None:
             time.sleep(seconds)
@@ -132,23 +127,18 @@ class Process(Case):
 
         writer = threading.Thread(target=write)
         writer.start()
-        seen = b""
-        with contextlib.suppress(OSError):  # What a terminal gives when nobody has it any more.
-            while True:
-                seen += os.read(ours, 4096)
+        text = seen([TOOL, *command, "slow", "slow2"], self.folder)
         writer.join()
-        os.close(ours)
         slow.unlink()
-        self.assertEqual(run.wait(), 0)
-        return seen
+        return text
 
     def test_a_bar_for_whoever_waits(self) -> None:
         self.file("slow2", b"()")
         for command in (["check"], ["spool", "add", "desk"]):
             self.assertNotIn(b"#", self.bar(0.1, *command))
-            seen = self.bar(1.4, *command)
-            self.assertIn(b"] 1 of 2", seen)
-            self.assertIn(b"#" * 40 + b"] 2 of 2", seen)
+            text = self.bar(1.4, *command)
+            self.assertIn(b"] 1 of 2", text)
+            self.assertIn(b"#" * 40 + b"] 2 of 2", text)
 
 
 if __name__ == "__main__":

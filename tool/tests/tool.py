@@ -1,6 +1,8 @@
 """What the tests of the command share: running it, and a folder for its files."""
 
+import contextlib
 import os
+import pty
 import subprocess
 import tempfile
 import unittest
@@ -17,6 +19,20 @@ LIST_TABLE = b"2 0 14 3 0 0 1 13 0\n0 1 6 1 0 0 3 6 0\n1 6 13 1 9 10 13 13 0\n"
 
 SYNTAX = b"refused 3: the source is not in the form's language, "
 """Behind it stands where, in words."""
+
+
+def seen(command, folder) -> bytes:
+    """What a terminal sees on standard error of a command that is done."""
+    ours, theirs = pty.openpty()
+    run = subprocess.Popen(command, cwd=folder, stderr=theirs)
+    os.close(theirs)
+    text = b""
+    with contextlib.suppress(OSError):  # What a terminal gives when nobody has it any more.
+        while True:
+            text += os.read(ours, 4096)
+    os.close(ours)
+    assert run.wait() == 0, text
+    return text
 
 
 class Case(unittest.TestCase):
