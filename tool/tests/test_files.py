@@ -7,6 +7,7 @@ import unittest
 
 from tool import LIST, LIST_ADVANCED, ROOT, SYNTAX, TOOL, Case
 
+LINE = b"([f64]#401d000000000000# [f64]#3fe0000000000000# [f64]#0000000000000000#)"
 WEEK = ROOT / "examples/week/week.sexp"
 
 
@@ -91,7 +92,15 @@ class InsertAndRemove(Case):
         ):
             self.fails(1, said, *arguments, "list")
             self.assertEqual(path.read_bytes(), LIST)
-        self.fails(2, b"is no number", "insert", "0", "x", "a", "list")
+        for number in ("x", "+1", "-1", "", "1 ", "18446744073709551616"):
+            self.fails(2, b"is no number", "insert", "0", "--", number, "a", "list")
+        self.assertEqual(path.read_bytes(), LIST)
+
+    def test_the_form_of_the_text(self) -> None:
+        self.gives(b'(d abc [x]"")\n', "insert", "--text", "canonical", "0", "0", "1:d", source=LIST)
+        self.gives(b'(d abc [x]"")\n', "insert", "--text", "terminal", "0", "0", "{MTpk}", source=LIST)
+        self.fails(1, b"TEXT: " + SYNTAX, "insert", "--text", "canonical", "0", "0", "d", source=LIST)
+        self.fails(2, b"--text: xml is none of", "insert", "--text", "xml", "0", "0", "d", source=LIST)
 
 
 class Hours(Case):
@@ -106,24 +115,47 @@ class Hours(Case):
         self.assertEqual(lines[-1].split(), ["all", "55.00", "25.00", "6.25", "86.25", "345"])
 
     def test_csv(self) -> None:
-        line = b"([f64]#401d000000000000# [f64]#3fe0000000000000# [f64]#0000000000000000#)"
         head = b"node,path,what,name,ordinary,night,holiday,hours,quarters\r\n"
         hours = b"7.25,0.50,0.00,7.75,31\r\n"
         # The name in its advanced spelling, whose quotes are doubled.
         rows = b'2,0/1,week,"""a, b""",%s3,0/1/0,line,,%s,,all,,%s' % (hours, hours, hours)
-        self.gives(head + rows, "hours", "--csv", source=b'("a, b" (%s))' % line)
+        self.gives(head + rows, "hours", "--csv", source=b'("a, b" (%s))' % LINE)
         self.gives(head + b",,all,,0.00,0.00,0.00,0.00,0\r\n", "hours", "--csv", source=b"(a (b))")
+        # What a spreadsheet would compute is spelled as a quoted string, here and not in a table.
+        for name in (b"=a+b", b"+a", b"-a"):
+            rows = b'2,0/1,week,"""%s""",%s3,0/1/0,line,,%s,,all,,%s' % (name, hours, hours, hours)
+            self.gives(head + rows, "hours", "--csv", source=b"(%s (%s))" % (name, LINE))
+            _, out, _ = self.run_tool("hours", source=b"(%s (%s))" % (name, LINE))
+            self.assertEqual(out.splitlines()[1].split()[3], name)
 
     def test_what_is_meant_as_a_line_is_never_left_out(self) -> None:
-        line = b"([f64]#401d000000000000# [f64]#3fe0000000000000# [f64]#0000000000000000#)"
-        long = line.replace(b"401d000000000000", b"4038400000000000")
+        long = LINE.replace(b"401d000000000000", b"4038400000000000")
         for node, text in (
-            (1, b"(%s %s)" % (long, line)),
+            (1, b"(%s %s)" % (long, LINE)),
             (0, long),
             (2, b"(a ([f64]#3fe0000000000000#))"),
-            (5, b"(%s ())" % line),
+            (5, b"(%s ())" % LINE),
+            # Something beside the hours, and hours without a list.
+            (0, LINE[:-1] + b" note)"),
+            (0, b"(ann " + LINE[1:]),
+            (1, b"(" + LINE[:-1] + b" (note)))"),
+            (1, b"((rate [f64]#401d000000000000#) %s)" % LINE),
+            (0, b"[f64]#401d000000000000#"),
         ):
             self.fails(1, b", node %d: refused 12: " % node, "hours", source=text)
+
+    def test_what_is_no_f64_string_is_none_of_its_business(self) -> None:
+        for text in (b"(a [int]#01# ([f32]#3fc00000#) [F64]x ())", b"[int]#01#", b"()"):
+            status, out, said = self.run_tool("hours", source=text)
+            self.assertEqual((status, said), (0, b""))
+            self.assertEqual(out.splitlines()[-1].split(), [b"all", b"0.00", b"0.00", b"0.00", b"0.00", b"0"])
+
+    def test_a_name_is_of_the_same_list(self) -> None:
+        # The last string before the second week stands in another list; nothing is before the third.
+        text = b"(ann (%s) (bob) (%s) ((%s)))" % (LINE, LINE, LINE)
+        _, out, _ = self.run_tool("hours", "--csv", source=text)
+        weeks = [row.split(b",")[1:4] for row in out.splitlines() if b",week," in row]
+        self.assertEqual(weeks, [[b"0/1", b"week", b"ann"], [b"0/3", b"week", b""], [b"0/4/0", b"week", b""]])
 
 
 if __name__ == "__main__":
