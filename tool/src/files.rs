@@ -11,12 +11,13 @@ use std::process;
 use etglavino::{Form, OwnedSheet, Refusal, MAX_SOURCE};
 
 use crate::args::Given;
-use crate::problem::{usage, Problem};
+use crate::closed;
+use crate::problem::{usage, word, Problem};
 
 /// How a file is called in a sentence; none, and `-`, are standard input.
 pub fn name(file: Option<&OsStr>) -> String {
     match file {
-        Some(path) if path != "-" => path.to_string_lossy().into_owned(),
+        Some(path) if path != "-" => word(path),
         _ => "standard input".into(),
     }
 }
@@ -103,6 +104,9 @@ pub fn text(name: &str, sheet: &OwnedSheet, form: Form) -> Result<Vec<u8>, Probl
 
 /// Writes all of it to standard output.
 pub fn put(octets: &[u8]) -> Result<(), Problem> {
+    if closed::output() && !octets.is_empty() {
+        return Err(Problem::Output(io::Error::other("it is closed")));
+    }
     let mut out = io::stdout().lock();
     let done = out.write_all(octets).and_then(|()| out.flush());
     done.map_err(Problem::Output)
@@ -135,8 +139,7 @@ pub fn apart(given: &Given, file: Option<&OsStr>) -> Result<(), Problem> {
 /// the new one. `old` is what it was read as: where something else stands there
 /// meanwhile, nothing is changed.
 pub fn replace(path: &OsStr, octets: &[u8], old: Option<&[u8]>) -> Result<(), Problem> {
-    replaced(Path::new(path), octets, old)
-        .map_err(|error| Problem::File(path.to_string_lossy().into_owned(), error))
+    replaced(Path::new(path), octets, old).map_err(|error| Problem::File(word(path), error))
 }
 
 fn replaced(path: &Path, octets: &[u8], old: Option<&[u8]>) -> io::Result<()> {

@@ -47,6 +47,37 @@ class OntoItself(Case):
         self.assertEqual(path.read_bytes(), b"(a ())\n")
 
 
+class Written(Case):
+    def test_every_command_that_has_it(self) -> None:
+        line = b"([f64]#401d000000000000# [f64]#3fe0000000000000# [f64]#0000000000000000#)"
+        self.file("list", LIST)
+        self.file("private", b"(a (private b))")
+        self.file("run", LIST + b"0:")
+        self.file("line", line)
+        self.gives(b"", "spool", "add", "desk", "list")
+        head = b"node,path,what,name,ordinary,night,holiday,hours,quarters\r\n"
+        hours = b"7.25,0.50,0.00,7.75,31\r\n"
+        nodes = b'0  list    2 elements\n1  string    abc\n2  hinted    [x]""\n'
+        before = self.names()
+        for out, *arguments in (
+            (LIST_ADVANCED, "convert", "--to", "advanced", "list"),
+            (nodes, "show", "list"),
+            (b"(a ())\n", "extract", "private"),
+            (LIST_ADVANCED + b'""\n', "split", "run"),
+            (head + b"0,0,line,," + hours + b",,all,," + hours, "hours", "--csv", "line"),
+            (LIST, "spool", "get", "--to", "canonical", "desk", "0"),
+        ):
+            self.file("new", b"something longer that stood there before, in " + out)
+            self.gives(b"", *arguments, "--output", "new")
+            self.assertEqual((self.folder / "new").read_bytes(), out)
+            (self.folder / "new").unlink()
+            self.gives(b"", *arguments, "--output=new")
+            self.assertEqual((self.folder / "new").read_bytes(), out)
+            (self.folder / "new").unlink()
+            self.gives(out, *arguments, "--output", "-")
+            self.assertEqual(self.names(), before)
+
+
 class Links(Case):
     def test_a_link_to_nothing_stays_and_its_file_is_made(self) -> None:
         self.file("list", LIST)

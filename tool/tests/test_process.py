@@ -23,6 +23,8 @@ class Process(Case):
             ["check"],
             ["check", "--threads", "0", "a"],
             ["check", "--threads", "x", "a"],
+            ["check", "--threads", "+2", "a"],
+            ["check", "-", "-"],
             ["replace", "0"],
             ["same", "a"],
             [b"\xff\xfe"],
@@ -74,6 +76,9 @@ class Process(Case):
             status, out, said = self.run_tool(*name.split(), "--help")
             self.assertEqual((status, said), (0, b""))
             self.assertIn(f"usage: etglavino {name}".encode(), out)
+            # Flags have a line each, however long; all else fits a terminal of 90 columns.
+            long = [line for line in out.decode().splitlines() if len(line) > 90 and not line.startswith("  -")]
+            self.assertEqual(long, [])
         status, out, _ = self.run_tool("spool", "--help")
         self.assertEqual((status, out.count(b"\n  spool ")), (0, 4))
         status, out, _ = self.run_tool("--version")
@@ -95,6 +100,54 @@ class Process(Case):
         os.close(writing)
         self.assertEqual((run.returncode, run.stdout), (2, b""))
 
+    def test_a_closed_output(self) -> None:
+        self.file("list", LIST)
+        for arguments in ("convert list", "same list list", "--help", "spool add --help"):
+            command = ["bash", "-c", f'"$0" {arguments} >&-', TOOL]
+            run = subprocess.run(command, cwd=self.folder, capture_output=True, check=False)
+            self.assertEqual((run.returncode, run.stderr), (2, b"etglavino: standard output: it is closed\n"))
+        # Nobody misses what isn't written there.
+        for arguments in ("check list", "convert --output new list"):
+            command = ["bash", "-c", f'"$0" {arguments} >&-', TOOL]
+            run = subprocess.run(command, cwd=self.folder, capture_output=True, check=False)
+            self.assertEqual((run.returncode, run.stderr), (0, b""))
+        self.assertEqual((self.folder / "new").read_bytes(), LIST)
+        # A null device that somebody asked for, opened to write or to read and write.
+        for how in (os.O_WRONLY, os.O_RDWR):
+            nowhere = os.open(os.devnull, how)
+            run = subprocess.run([TOOL, "convert", "list"], cwd=self.folder, stdout=nowhere, check=False)
+            os.close(nowhere)
+            self.assertEqual(run.returncode, 0)
+
+    def test_names_are_shown_in_a_line(self) -> None:
+        name, shown = b"a\n\x1b[2J\xff\xc3\xb6", rb"a\x0a\x1b[2J\xff" + b"\xc3\xb6"
+        self.file(os.fsdecode(name), b"(")
+        line = b"etglavino: " + shown + b": " + SYNTAX + b"cut short after 1 octet\n"
+        answer = self.run_tool("check", name, name)
+        self.assertEqual(answer, (1, b"", line * 2 + b"2 files: 0 good, 2 refused, 0 not read\n"))
+        missing = (name + b"2", shown + b"2")
+        for said, *arguments in (
+            (shown, "convert", name),
+            (missing[1], "convert", missing[0]),
+            (missing[1], "spool", "list", missing[0]),
+            (shown, "spool", "check", name),
+            (shown, "convert", "--to", name),
+            (shown, "check", "--threads", name, name),
+            (shown, name),
+            (shown, "spool", name),
+            (shown, "table", "list", name),
+            (b"--" + shown, "table", b"--" + name),
+            (shown, "remove", name, "list"),
+            (shown, "insert", "0", name, "a", "list"),
+            (shown, "spool", "get", "list", name),
+            (shown, "replace", "--output", name + b"/x", "0", "a", "-"),
+        ):
+            status, out, said_so = self.run_tool(*arguments, source=LIST)
+            self.assertIn((status, out), ((1, b""), (2, b"")))
+            self.assertIn(said, said_so)
+            self.assertNotIn(b"\x1b", said_so)
+            self.assertNotIn(b"\xff", said_so)
+
     def test_a_full_disk(self) -> None:
         with open("/dev/full", "wb") as full:
             run = subprocess.run(
@@ -115,6 +168,21 @@ class Process(Case):
             (self.folder / name).write_bytes(b"()")
         _, said = run.communicate(timeout=20)
         self.assertEqual(said, b"2 files: 2 good, 0 refused, 0 not read\n")
+
+    def test_as_many_threads_as_asked_for(self) -> None:
+        # All readers wait for the pipe, so all threads are there beside the first.
+        os.mkfifo(self.folder / "a")
+        for asked, threads in (("1", 1), ("3", 3), ("9", 4)):
+            run = subprocess.Popen(
+                [TOOL, "check", "--threads", asked, *"aaaa"], cwd=self.folder, stderr=subprocess.PIPE
+            )
+            tasks, end = f"/proc/{run.pid}/task", time.monotonic() + 20
+            while len(os.listdir(tasks)) < threads + 1 and time.monotonic() < end:
+                time.sleep(0.01)
+            time.sleep(0.05)
+            self.assertEqual(len(os.listdir(tasks)), threads + 1)
+            run.kill()
+            run.communicate()
 
     def bar(self, seconds: float, *command: str) -> bytes:
         """What a terminal sees of a command on two files that takes so long."""

@@ -1,5 +1,6 @@
 """Sheets in a spool file."""
 
+import fcntl
 import unittest
 
 from tool import LIST, LIST_ADVANCED, SYNTAX, Case
@@ -89,11 +90,25 @@ class Spool(Case):
         self.assertEqual(said[3:], [b"4 files: 1 good, 2 refused, 1 not read"])
         self.assertEqual(self.names(), ["list", "open"])
 
+    def test_in_use(self) -> None:
+        self.file("list", LIST)
+        self.gives(b"", "spool", "add", "desk", "list")
+        with open(self.folder / "desk", "rb") as desk:
+            fcntl.flock(desk, fcntl.LOCK_EX)
+            self.fails(2, b"desk: it is in use", "spool", "add", "desk", "list")
+            # Whoever reads takes no lock.
+            self.gives(LIST_ADVANCED, "spool", "get", "desk", "0")
+            self.gives(b"", "spool", "check", "desk")
+        self.gives(b"", "spool", "add", "desk", "list")
+
     def test_wrong_use(self) -> None:
         self.file("list", LIST)
         self.run_tool("spool", "add", "desk", "list")
         self.fails(2, b"there is no sheet 1", "spool", "get", "desk", "1")
-        self.fails(2, b"is no number", "spool", "get", "desk", "x")
+        for number in ("x", "+0", "-0", "", "18446744073709551616"):
+            self.fails(2, b"is no number", "spool", "get", "--", "desk", number)
+            self.fails(2, b"is no number from 1", "spool", "add", f"--size={number}", "desk", "list")
+        self.fails(2, b"standard input can be one", "spool", "add", "desk", "-", "list", "-", source=LIST)
         self.fails(2, b"which?", "spool")
         self.fails(2, b"there is no command spool open", "spool", "open")
         self.fails(2, b"missing", "spool", "list", "missing")

@@ -7,9 +7,9 @@ use std::path::Path;
 use etglavino::{Form, OwnedSheet, Refusal, SpoolFile, MAX_CANONICAL};
 
 use super::convert::deliver;
-use crate::args::{Command, Flag, Given, FROM, OUTPUT, THREADS};
-use crate::problem::{usage, Problem};
-use crate::{files, many};
+use crate::args::{once, Command, Flag, Given, FROM, OUTPUT, THREADS};
+use crate::problem::{usage, word, Problem};
+use crate::{files, many, nodes};
 
 /// Octets of a spool file that is made, where nothing else is said.
 const SIZE: usize = 1 << 20;
@@ -25,8 +25,9 @@ pub const ADD: Command = Command {
     about: "add sheets to a spool file, which is made where it is missing",
     details: "\
 If a file is refused, or there is no room for one (6), none is added; several have a
-line for each that is refused. A larger --size makes room. When the command is done the sheets are on the disk; after a power cut
-the spool has the old sheets, or those and the first of the new ones.",
+line for each that is refused. A larger --size makes room. When the command is done
+the sheets are on the disk; after a power cut the spool has the old sheets, or those
+and the first of the new ones.",
     flags: &[
         FROM,
         Flag {
@@ -79,8 +80,9 @@ fn add(given: &Given) -> Result<(), Problem> {
     let size = given.count("--size")?;
     let (path, new) = (&given.plain[0], &given.plain[1..]);
     given.form_of("--from", b"")?;
+    once(new)?;
     let sheets = many::take(new, None, |file| Ok(files::take(given, Some(file))?.sheet))?;
-    let name = path.to_string_lossy();
+    let name = word(path);
     let failed = |error| Problem::spool(&name, error);
     let refused = |(file, refusal): (&OsString, Refusal)| {
         let adding = format!("{name}, adding {}", files::name(Some(file)));
@@ -145,8 +147,7 @@ fn area(path: &OsStr) -> Result<Vec<u8>, Problem> {
 
 /// What opening an area gives, or why not.
 fn opened<'a>(path: &OsStr, area: &'a [u8]) -> Result<etglavino::Sheets<'a>, Problem> {
-    let name = path.to_string_lossy();
-    etglavino::spool_sheets(area).map_err(|refusal| Problem::Refused(name.into(), refusal))
+    etglavino::spool_sheets(area).map_err(|refusal| Problem::Refused(word(path), refusal))
 }
 
 fn list(given: &Given) -> Result<(), Problem> {
@@ -167,9 +168,9 @@ fn list(given: &Given) -> Result<(), Problem> {
 
 fn get(given: &Given) -> Result<(), Problem> {
     let path = &given.plain[0];
-    let shown = given.plain[1].to_string_lossy();
-    let form = given.form("--to", Form::Advanced)?;
-    let Ok(number) = shown.parse::<usize>() else {
+    let shown = word(&given.plain[1]);
+    let form = given.form(&["--to"], Form::Advanced)?;
+    let Some(number) = nodes::number(&given.plain[1]) else {
         return usage(format!("spool get: {shown} is no number"));
     };
     files::apart(given, Some(path))?;
@@ -180,7 +181,7 @@ fn get(given: &Given) -> Result<(), Problem> {
         Some(sheet) => deliver(given, &text(path, sheet, form)?),
         None => usage(format!(
             "{}: there is no sheet {shown}, there are {count} from 0",
-            path.to_string_lossy()
+            word(path)
         )),
     }
 }
@@ -193,8 +194,8 @@ fn check(given: &Given) -> Result<(), Problem> {
 
 /// A spooled sheet as a text.
 fn text(path: &OsStr, sheet: &[u8], form: Form) -> Result<Vec<u8>, Problem> {
-    let name = path.to_string_lossy();
+    let name = word(path);
     let sheet = OwnedSheet::of_text(Form::Canonical, sheet);
-    let sheet = sheet.map_err(|refusal| Problem::Refused(name.clone().into(), refusal))?;
+    let sheet = sheet.map_err(|refusal| Problem::Refused(name.clone(), refusal))?;
     files::text(&name, &sheet, form)
 }

@@ -23,6 +23,11 @@ fn a_caret_under_the_place() {
     assert_eq!(shown(b"2:a\n(x\ny", 5), "  (x\n   ^");
     assert_eq!(shown(b"(a\n(b\n", 6), "  (b\\x0a\n        ^");
     assert_eq!(shown(b"(a\n]", 3), "  ]\n  ^");
+    // A line feed that is wrong, and then other octets that can't be printed.
+    assert_eq!(shown(b"{KCk=}\n", 6), "  {KCk=}\\x0a\n        ^");
+    assert_eq!(shown(b"3:abc\n(d)", 5), "  3:abc\\x0a\n       ^");
+    assert_eq!(shown(b"\"\n\n\"", 1), "  \"\\x0a\n   ^");
+    assert_eq!(shown(b"()\n\0a", 3), "  \\x00a\n  ^");
     let long = [b'a'; 200];
     let lines = shown(&long, 100);
     assert_eq!(
