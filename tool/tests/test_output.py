@@ -1,9 +1,11 @@
 """What `--output` writes, and what it leaves."""
 
 import os
+import shutil
+import subprocess
 import unittest
 
-from tool import LIST, LIST_ADVANCED, Case
+from tool import LIST, LIST_ADVANCED, TOOL, Case
 
 NOBODY = 65_534
 """A user who may do nothing beside what a mode grants."""
@@ -105,22 +107,30 @@ class Folders(Case):
         sub = self.folder / "sub"
         sub.mkdir()
         path = self.file("sub/list", LIST)
+        tool = shutil.copy(TOOL, self.folder / "tool")
         user = {}
         if os.geteuid() == 0:
             user = {"user": NOBODY}
             self.folder.chmod(0o755)
             os.chown(sub, NOBODY, NOBODY)
             os.chown(path, NOBODY, NOBODY)
+
+        def replace() -> tuple[int, bytes]:
+            command = [tool, "replace", "1", "hi", "sub/list"]
+            done = subprocess.run(command, cwd=self.folder, capture_output=True, check=False, **user)
+            return done.returncode, done.stdout + done.stderr
+
         sub.chmod(0o300)
         self.addCleanup(sub.chmod, 0o700)
-        status, out, said = self.run_tool("replace", "1", "hi", "sub/list", **user)
-        self.assertEqual((status, out), (2, b""))
+        status, said = replace()
+        self.assertEqual(status, 2)
         self.assertIn(b"sub/list: Permission denied", said)
         sub.chmod(0o700)
         self.assertEqual(path.read_bytes(), LIST)
         self.assertEqual(os.listdir(sub), ["list"])
         # Nothing else was in the way.
-        self.assertEqual(self.run_tool("replace", "1", "hi", "sub/list", **user), (0, b"", b""))
+        self.assertEqual(replace(), (0, b""))
+        self.assertEqual(path.read_bytes(), b'(hi [x]"")\n')
 
 
 if __name__ == "__main__":

@@ -13,7 +13,8 @@ STRACE = shutil.which("strace")
 
 def traces() -> bool:
     """Whether there is a strace that may trace."""
-    return STRACE is not None and subprocess.run([STRACE, "-o", "/dev/null", "true"], check=False).returncode == 0
+    command = [STRACE, "-o", "/dev/null", "true"]
+    return STRACE is not None and subprocess.run(command, capture_output=True, check=False).returncode == 0
 
 
 @unittest.skipUnless(traces(), "there is no strace")

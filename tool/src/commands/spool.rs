@@ -142,7 +142,7 @@ fn rehearsed<'a>(
 /// The octets of a spool file. No lock is taken: whoever reads from the front
 /// while a sheet is added sees the old sheets, or those and the new one.
 fn area(path: &OsStr) -> Result<Vec<u8>, Problem> {
-    fs::read(path).map_err(|error| Problem::File(files::name(Some(path)), error))
+    fs::read(path).map_err(|error| Problem::File(word(path), error))
 }
 
 /// What opening an area gives, or why not.
