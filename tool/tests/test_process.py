@@ -180,9 +180,10 @@ class Process(Case):
             while len(os.listdir(tasks)) < threads + 1 and time.monotonic() < end:
                 time.sleep(0.01)
             time.sleep(0.05)
-            self.assertEqual(len(os.listdir(tasks)), threads + 1)
+            there = len(os.listdir(tasks))
             run.kill()
             run.communicate()
+            self.assertEqual(there, threads + 1)
 
     def bar(self, seconds: float, *command: str) -> bytes:
         """What a terminal sees of a command on two files that takes so long."""
