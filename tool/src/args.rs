@@ -5,7 +5,8 @@ use std::os::unix::ffi::OsStrExt;
 
 use etglavino::Form;
 
-use crate::problem::{usage, Problem};
+use crate::nodes;
+use crate::problem::{usage, word, Problem};
 
 /// A command, from which dispatch and help are made.
 pub struct Command {
@@ -73,7 +74,7 @@ impl Command {
             return self.wrong("something is missing");
         }
         if plain.len() > self.plain.1 {
-            let more = plain[self.plain.1].to_string_lossy();
+            let more = word(&plain[self.plain.1]);
             return self.wrong(&format!("{more} is more than it takes"));
         }
         Ok(Given { flags, plain })
@@ -86,7 +87,7 @@ impl Command {
     ) -> Result<(&'static str, OsString), Problem> {
         let sign = octets.iter().position(|octet| *octet == b'=');
         let (name, joined) = octets.split_at(sign.unwrap_or(octets.len()));
-        let shown = String::from_utf8_lossy(name);
+        let shown = word(OsStr::from_bytes(name));
         let known = self.flags.iter().find(|flag| flag.name.as_bytes() == name);
         let Some(flag) = known else {
             return self.wrong(&format!("there is no {shown}"));
@@ -134,22 +135,27 @@ impl Command {
 impl Given {
     /// The last value of a flag.
     pub fn value(&self, name: &str) -> Option<&OsStr> {
+        Some(self.last(&[name])?.1)
+    }
+
+    /// Which of some flags was given last, and its value.
+    fn last(&self, names: &[&str]) -> Option<(&'static str, &OsStr)> {
         let mut last = self.flags.iter().rev();
-        let found = last.find(|flag| flag.0 == name)?;
-        Some(&found.1)
+        let found = last.find(|flag| names.contains(&flag.0))?;
+        Some((found.0, &found.1))
     }
 
     pub fn has(&self, name: &str) -> bool {
         self.value(name).is_some()
     }
 
-    /// The form of what is written, by a flag, or another. What terminals send is
-    /// never written: advanced text takes its place.
-    pub fn form(&self, name: &str, otherwise: Form) -> Result<Form, Problem> {
-        match self.value(name) {
+    /// The form of what is written, by the last of some flags, or another. What
+    /// terminals send is never written: advanced text takes its place.
+    pub fn form(&self, names: &[&str], otherwise: Form) -> Result<Form, Problem> {
+        match self.last(names) {
             None if otherwise == Form::Terminal1997 => Ok(Form::Advanced),
             None => Ok(otherwise),
-            Some(value) => named(value)
+            Some((name, value)) => named(value)
                 .map_or_else(|| none_of(name, value, "canonical, basic and advanced"), Ok),
         }
     }
@@ -178,11 +184,8 @@ impl Given {
         let Some(value) = self.value(name) else {
             return Ok(None);
         };
-        match value.to_str().and_then(|text| text.parse().ok()) {
-            Some(0) | None => usage(format!(
-                "{name}: {} is no number from 1",
-                value.to_string_lossy()
-            )),
+        match nodes::number(value) {
+            Some(0) | None => usage(format!("{name}: {} is no number from 1", word(value))),
             count => Ok(count),
         }
     }
@@ -190,6 +193,14 @@ impl Given {
     /// The plain argument at a place.
     pub fn at(&self, place: usize) -> Option<&OsStr> {
         self.plain.get(place).map(OsString::as_os_str)
+    }
+}
+
+/// Wrong use where standard input is named more than once: there is one to read.
+pub fn once(files: &[OsString]) -> Result<(), Problem> {
+    match files.iter().filter(|file| *file == "-").count() {
+        0 | 1 => Ok(()),
+        _ => usage("standard input can be one of the files, and not several"),
     }
 }
 
@@ -204,6 +215,6 @@ fn named(value: &OsStr) -> Option<Form> {
 }
 
 fn none_of(name: &str, value: &OsStr, forms: &str) -> Result<Form, Problem> {
-    let value = value.to_string_lossy();
+    let value = word(value);
     usage(format!("{name}: {value} is none of {forms}"))
 }

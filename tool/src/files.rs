@@ -3,6 +3,7 @@
 use std::ffi::OsStr;
 use std::fs::{self, File, OpenOptions};
 use std::io::{self, ErrorKind, Read, Write};
+use std::os::fd::AsFd;
 use std::os::unix::fs::{fchown, MetadataExt};
 use std::path::{Path, PathBuf};
 use std::process;
@@ -10,12 +11,13 @@ use std::process;
 use etglavino::{Form, OwnedSheet, Refusal, MAX_SOURCE};
 
 use crate::args::Given;
-use crate::problem::Problem;
+use crate::closed;
+use crate::problem::{usage, word, Problem};
 
 /// How a file is called in a sentence; none, and `-`, are standard input.
 pub fn name(file: Option<&OsStr>) -> String {
     match file {
-        Some(path) if path != "-" => path.to_string_lossy().into_owned(),
+        Some(path) if path != "-" => word(path),
         _ => "standard input".into(),
     }
 }
@@ -102,9 +104,34 @@ pub fn text(name: &str, sheet: &OwnedSheet, form: Form) -> Result<Vec<u8>, Probl
 
 /// Writes all of it to standard output.
 pub fn put(octets: &[u8]) -> Result<(), Problem> {
+    if closed::output() && !octets.is_empty() {
+        return Err(Problem::Output(io::Error::other("it is closed")));
+    }
     let mut out = io::stdout().lock();
     let done = out.write_all(octets).and_then(|()| out.flush());
     done.map_err(Problem::Output)
+}
+
+/// Wrong use where `--output` names the file that is read, under this name or
+/// another: what a command says of a sheet would take the sheet's place.
+pub fn apart(given: &Given, file: Option<&OsStr>) -> Result<(), Problem> {
+    let Some(output) = given.value("--output").filter(|path| *path != "-") else {
+        return Ok(());
+    };
+    let read = match file {
+        Some(path) if path != "-" => fs::metadata(path),
+        _ => io::stdin()
+            .as_fd()
+            .try_clone_to_owned()
+            .and_then(|stdin| File::from(stdin).metadata()),
+    };
+    match (read, fs::metadata(output)) {
+        (Ok(a), Ok(b)) if (a.dev(), a.ino()) == (b.dev(), b.ino()) => {
+            let output = name(Some(output));
+            usage(format!("--output: {output} is the file that is read"))
+        }
+        _ => Ok(()),
+    }
 }
 
 /// Replaces a file as a whole, or makes it: the octets are written beside it and
@@ -112,17 +139,11 @@ pub fn put(octets: &[u8]) -> Result<(), Problem> {
 /// the new one. `old` is what it was read as: where something else stands there
 /// meanwhile, nothing is changed.
 pub fn replace(path: &OsStr, octets: &[u8], old: Option<&[u8]>) -> Result<(), Problem> {
-    replaced(Path::new(path), octets, old)
-        .map_err(|error| Problem::File(path.to_string_lossy().into_owned(), error))
+    replaced(Path::new(path), octets, old).map_err(|error| Problem::File(word(path), error))
 }
 
 fn replaced(path: &Path, octets: &[u8], old: Option<&[u8]>) -> io::Result<()> {
-    // Of a link the file that it names is replaced, and the link stays.
-    let path = match fs::canonicalize(path) {
-        Ok(path) => path,
-        Err(error) if error.kind() == ErrorKind::NotFound => path.to_path_buf(),
-        Err(error) => return Err(error),
-    };
+    let path = meant(path)?;
     let folder = match path.parent() {
         Some(folder) if !folder.as_os_str().is_empty() => folder,
         _ => Path::new("."),
@@ -133,6 +154,8 @@ fn replaced(path: &Path, octets: &[u8], old: Option<&[u8]>) -> io::Result<()> {
         Err(error) if error.kind() == ErrorKind::NotFound => None,
         Err(error) => return Err(error),
     };
+    // Opened first: who may not sync the folder is refused before anything changes.
+    let listing = File::open(folder)?;
     let (beside, mut file) = beside(folder)?;
     let done = (|| {
         if let Some(before) = before {
@@ -146,12 +169,24 @@ fn replaced(path: &Path, octets: &[u8], old: Option<&[u8]>) -> io::Result<()> {
             return Err(io::Error::other("it was changed meanwhile, and is left so"));
         }
         fs::rename(&beside, &path)?;
-        File::open(folder)?.sync_all()
+        listing.sync_all()
     })();
     if done.is_err() {
         let _ = fs::remove_file(&beside);
     }
     done
+}
+
+/// The file that a path names, or that it would make: of a link the one that it
+/// leads to, and the link stays. Links in a circle are an error.
+fn meant(path: &Path) -> io::Result<PathBuf> {
+    match fs::canonicalize(path) {
+        Err(error) if error.kind() == ErrorKind::NotFound => match fs::read_link(path) {
+            Ok(link) => meant(&path.with_file_name("").join(link)),
+            Err(_) => Ok(path.to_path_buf()),
+        },
+        found => found,
+    }
 }
 
 /// A new file in the folder, under a name that nobody asks for.

@@ -3,6 +3,7 @@
 //! what becomes of it are the library's answers.
 
 mod args;
+mod closed;
 mod commands;
 mod files;
 mod html;

@@ -1,10 +1,18 @@
 //! Nodes by number or by path.
 
 use std::ffi::OsStr;
+use std::os::unix::ffi::OsStrExt;
 
 use etglavino::{Node, OwnedSheet};
 
-use crate::problem::{usage, Problem};
+use crate::problem::{usage, word, Problem};
+
+/// A number of digits alone.
+pub fn number(given: &OsStr) -> Option<usize> {
+    let text = given.to_str()?;
+    let digits = text.bytes().all(|octet| octet.is_ascii_digit());
+    text.parse().ok().filter(|_| digits)
+}
 
 /// How a node is named: its number, and then elements level by level, each by its
 /// place from 0. `0/3/1` is the second element of the fourth one of the whole.
@@ -15,19 +23,17 @@ pub struct Named {
 
 impl Named {
     pub fn of(name: &OsStr) -> Result<Named, Problem> {
-        let text = name.to_string_lossy();
-        let digits = |part: &str| part.bytes().all(|octet| octet.is_ascii_digit());
-        let numbers: Option<Vec<usize>> = text
-            .split('/')
-            .map(|part| part.parse().ok().filter(|_| digits(part)))
-            .collect();
+        let parts = name.as_bytes().split(|octet| *octet == b'/');
+        let numbers: Option<Vec<usize>> =
+            parts.map(|part| number(OsStr::from_bytes(part))).collect();
         match numbers.as_deref() {
             Some([start, places @ ..]) => Ok(Named {
                 start: *start,
                 places: places.to_vec(),
             }),
             _ => usage(format!(
-                "{text} is no node's number, as 7, and no path, as 0/3/1"
+                "{} is no node's number, as 7, and no path, as 0/3/1",
+                word(name)
             )),
         }
     }

@@ -1,7 +1,9 @@
 //! What goes wrong: how it is said, and with which exit status.
 
+use std::ffi::OsStr;
 use std::fmt;
 use std::io::{self, ErrorKind, Write};
+use std::os::unix::ffi::OsStrExt;
 
 use etglavino::{Form, Refusal, SpoolError};
 
@@ -85,6 +87,23 @@ impl fmt::Display for Problem {
     }
 }
 
+/// A file's name, or another word that was given, for a sentence: octets that
+/// can't be printed, or that turn the writing round, are spelled.
+pub fn word(given: &OsStr) -> String {
+    let turns = |letter| matches!(letter, '\u{2028}'..='\u{202e}' | '\u{2066}'..='\u{2069}');
+    let mut out = String::new();
+    for chunk in given.as_bytes().utf8_chunks() {
+        for letter in chunk.valid().chars() {
+            match letter.is_control() || turns(letter) {
+                true => out += &place::spelled(letter.to_string().as_bytes()),
+                false => out.push(letter),
+            }
+        }
+        out += &place::spelled(chunk.invalid());
+    }
+    out
+}
+
 /// A line on standard error, if anybody listens there.
 pub fn say(line: &str) {
     let _ = writeln!(io::stderr(), "{line}");
@@ -93,4 +112,22 @@ pub fn say(line: &str) {
 /// Wrong use.
 pub fn usage<T>(what: impl Into<String>) -> Result<T, Problem> {
     Err(Problem::Usage(what.into()))
+}
+
+#[cfg(test)]
+mod tests {
+    use super::*;
+
+    #[test]
+    fn words_are_one_line_that_can_be_printed() {
+        let shown = |octets: &[u8]| word(OsStr::from_bytes(octets));
+        assert_eq!(shown("Köln \\ '1'".as_bytes()), "Köln \\ '1'");
+        assert_eq!(shown(b"a\nb\x1b[2J\x7f"), "a\\x0ab\\x1b[2J\\x7f");
+        assert_eq!(shown(b"\xffa\xc3"), "\\xffa\\xc3");
+        assert_eq!(
+            shown("\u{85}\u{202e}\u{2028}".as_bytes()),
+            "\\xc2\\x85\\xe2\\x80\\xae\\xe2\\x80\\xa8"
+        );
+        assert_eq!(shown(b""), "");
+    }
 }

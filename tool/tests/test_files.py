@@ -1,16 +1,13 @@
-"""Files edited, spooled and totalled; and what a process can meet."""
+"""Files edited and totalled."""
 
-import contextlib
-import os
-import pty
 import random
 import subprocess
-import threading
 import time
 import unittest
 
 from tool import LIST, LIST_ADVANCED, ROOT, SYNTAX, TOOL, Case
 
+LINE = b"([f64]#401d000000000000# [f64]#3fe0000000000000# [f64]#0000000000000000#)"
 WEEK = ROOT / "examples/week/week.sexp"
 
 
@@ -95,7 +92,15 @@ class InsertAndRemove(Case):
         ):
             self.fails(1, said, *arguments, "list")
             self.assertEqual(path.read_bytes(), LIST)
-        self.fails(2, b"is no number", "insert", "0", "x", "a", "list")
+        for number in ("x", "+1", "-1", "", "1 ", "18446744073709551616"):
+            self.fails(2, b"is no number", "insert", "0", "--", number, "a", "list")
+        self.assertEqual(path.read_bytes(), LIST)
+
+    def test_the_form_of_the_text(self) -> None:
+        self.gives(b'(d abc [x]"")\n', "insert", "--text", "canonical", "0", "0", "1:d", source=LIST)
+        self.gives(b'(d abc [x]"")\n', "insert", "--text", "terminal", "0", "0", "{MTpk}", source=LIST)
+        self.fails(1, b"TEXT: " + SYNTAX, "insert", "--text", "canonical", "0", "0", "d", source=LIST)
+        self.fails(2, b"--text: xml is none of", "insert", "--text", "xml", "0", "0", "d", source=LIST)
 
 
 class Hours(Case):
@@ -110,221 +115,47 @@ class Hours(Case):
         self.assertEqual(lines[-1].split(), ["all", "55.00", "25.00", "6.25", "86.25", "345"])
 
     def test_csv(self) -> None:
-        line = b"([f64]#401d000000000000# [f64]#3fe0000000000000# [f64]#0000000000000000#)"
         head = b"node,path,what,name,ordinary,night,holiday,hours,quarters\r\n"
         hours = b"7.25,0.50,0.00,7.75,31\r\n"
         # The name in its advanced spelling, whose quotes are doubled.
         rows = b'2,0/1,week,"""a, b""",%s3,0/1/0,line,,%s,,all,,%s' % (hours, hours, hours)
-        self.gives(head + rows, "hours", "--csv", source=b'("a, b" (%s))' % line)
+        self.gives(head + rows, "hours", "--csv", source=b'("a, b" (%s))' % LINE)
         self.gives(head + b",,all,,0.00,0.00,0.00,0.00,0\r\n", "hours", "--csv", source=b"(a (b))")
+        # What a spreadsheet would compute is spelled as a quoted string, here and not in a table.
+        for name in (b"=a+b", b"+a", b"-a"):
+            rows = b'2,0/1,week,"""%s""",%s3,0/1/0,line,,%s,,all,,%s' % (name, hours, hours, hours)
+            self.gives(head + rows, "hours", "--csv", source=b"(%s (%s))" % (name, LINE))
+            _, out, _ = self.run_tool("hours", source=b"(%s (%s))" % (name, LINE))
+            self.assertEqual(out.splitlines()[1].split()[3], name)
 
     def test_what_is_meant_as_a_line_is_never_left_out(self) -> None:
-        line = b"([f64]#401d000000000000# [f64]#3fe0000000000000# [f64]#0000000000000000#)"
-        long = line.replace(b"401d000000000000", b"4038400000000000")
+        long = LINE.replace(b"401d000000000000", b"4038400000000000")
         for node, text in (
-            (1, b"(%s %s)" % (long, line)),
+            (1, b"(%s %s)" % (long, LINE)),
             (0, long),
             (2, b"(a ([f64]#3fe0000000000000#))"),
-            (5, b"(%s ())" % line),
+            (5, b"(%s ())" % LINE),
+            # Something beside the hours, and hours without a list.
+            (0, LINE[:-1] + b" note)"),
+            (0, b"(ann " + LINE[1:]),
+            (1, b"(" + LINE[:-1] + b" (note)))"),
+            (1, b"((rate [f64]#401d000000000000#) %s)" % LINE),
+            (0, b"[f64]#401d000000000000#"),
         ):
             self.fails(1, b", node %d: refused 12: " % node, "hours", source=text)
 
-
-class Spool(Case):
-    def test_added_listed_and_taken_out(self) -> None:
-        self.file("list", LIST)
-        self.file("long", b"(" + b"abcdefghi " * 20 + b")")
-        self.gives(b"", "spool", "add", "--size", "1000", "desk", "list", "long")
-        self.gives(b"", "spool", "add", "desk", "list")
-        self.assertEqual((self.folder / "desk").stat().st_size, 1000)
-        beginning = (b"(" + b"abcdefghi " * 6)[:60]
-        lines = b'   0     14  (abc [x]"")\n   1    222  %s...\n   2     14  (abc [x]"")\n'
-        self.gives(lines % beginning, "spool", "list", "desk")
-        self.gives(LIST, "spool", "get", "desk", "2", "--to", "canonical")
-        self.gives(LIST_ADVANCED, "spool", "get", "desk", "0")
-        self.gives(b"", "spool", "check", "desk")
-
-    def test_full_grown_and_damaged(self) -> None:
-        self.file("list", LIST)
-        self.gives(b"", "spool", "add", "--size", "20", "desk", "list")
-        self.fails(1, b"desk, adding list: refused 6: ", "spool", "add", "desk", "list")
-        # Room for one more, and not for two: neither is added.
-        two = ("spool", "add", "--size", "30", "desk", "list", "list")
-        self.fails(1, b"desk, adding list: refused 6: ", *two)
-        self.assertEqual((self.folder / "desk").stat().st_size, 20)
-        self.fails(1, b"none, adding list: refused 6: ", "spool", "add", "--size", "3", "none", "list")
-        self.assertFalse((self.folder / "none").exists())
-        self.gives(b"", "spool", "add", "--size", "30", "desk", "list")
-        _, out, _ = self.run_tool("spool", "list", "desk")
-        self.assertEqual(out.count(b"\n"), 2)
-        self.file("bad", b"\x82\x00()")
-        for arguments in (["list", "bad"], ["get", "bad", "0"], ["check", "bad"], ["add", "bad", "list"]):
-            self.fails(1, b"bad", "spool", *arguments)
-            self.fails(1, b"refused 10: ", "spool", *arguments)
-        self.assertEqual((self.folder / "bad").read_bytes(), b"\x82\x00()")
-
-    def test_a_refused_file_adds_none(self) -> None:
-        self.file("list", LIST)
-        self.file("open", b"(")
-        self.fails(1, b"open: " + SYNTAX, "spool", "add", "desk", "list", "open")
-        self.assertEqual(self.names(), ["list", "open"])
-        answer = self.run_tool("spool", "add", "desk", "open", "list", "missing", "open")
-        self.assertEqual(answer[:2], (2, b""))
-        said = answer[2].splitlines()
-        line = b"etglavino: open: " + SYNTAX + b"cut short after 1 octet"
-        self.assertEqual((said[0], said[2]), (line, line))
-        self.assertTrue(said[1].startswith(b"etglavino: missing: No such file"), said)
-        self.assertEqual(said[3:], [b"4 files: 1 good, 2 refused, 1 not read"])
-        self.assertEqual(self.names(), ["list", "open"])
-
-    def test_wrong_use(self) -> None:
-        self.file("list", LIST)
-        self.run_tool("spool", "add", "desk", "list")
-        self.fails(2, b"there is no sheet 1", "spool", "get", "desk", "1")
-        self.fails(2, b"is no number", "spool", "get", "desk", "x")
-        self.fails(2, b"which?", "spool")
-        self.fails(2, b"there is no command spool open", "spool", "open")
-        self.fails(2, b"missing", "spool", "list", "missing")
-
-
-class Process(Case):
-    def test_bad_arguments(self) -> None:
-        for arguments in (
-            [],
-            ["frob"],
-            ["convert", "--to", "xml"],
-            ["convert", "--to"],
-            ["convert", "--frob"],
-            ["convert", "-x"],
-            ["convert", "a", "b"],
-            ["show", "--paths=1"],
-            ["check"],
-            ["check", "--threads", "0", "a"],
-            ["check", "--threads", "x", "a"],
-            ["replace", "0"],
-            ["same", "a"],
-            [b"\xff\xfe"],
-            ["convert", b"--\xff"],
-        ):
-            self.fails(2, b"etglavino: ", *arguments)
-
-    def test_every_command_that_reads(self) -> None:
-        self.file("empty", b"")
-        self.file("large", b"a".ljust(40_000))
-        (self.folder / "folder").mkdir()
-        before = self.names()
-        answers = (
-            ("empty", 1, SYNTAX + b"cut short after 0 octets\n"),
-            ("large", 1, b"refused 2: "),
-            ("folder", 2, b"Is a directory"),
-            ("missing", 2, b"No such file"),
-        )
-        for arguments in (
-            ["convert"],
-            ["check"],
-            ["show"],
-            ["show", "--html"],
-            ["table"],
-            ["replace", "0", "a"],
-            ["insert", "0", "0", "a"],
-            ["remove", "1"],
-            ["extract"],
-            ["hours"],
-            ["spool", "add", "desk"],
-        ):
-            for name, status, said in answers:
-                self.fails(status, name.encode() + b": " + said, *arguments, name)
-                self.assertEqual(self.names(), before)
-        self.file("list", LIST)
-        for name, status, said in answers:
-            self.fails(status, name.encode() + b": " + said, "same", "list", name)
-            self.fails(status, name.encode() + b": " + said, "same", name, "list")
-        for name, _, said in answers[2:]:
-            for arguments in (["split", name], ["spool", "list", name], ["spool", "get", name, "0"], ["spool", "check", name]):
-                self.fails(2, name.encode() + b": " + said, *arguments)
-        self.fails(1, b"large, sheet 0: " + SYNTAX + b"from octet 0 on", "split", "large")
-
-    def test_help(self) -> None:
-        _, whole, _ = self.run_tool("--help")
-        names = [line[2:14].strip() for line in whole.decode().splitlines() if line.startswith("  ")]
-        self.assertIn("spool add", names)
-        for name in names:
-            status, out, said = self.run_tool(*name.split(), "--help")
+    def test_what_is_no_f64_string_is_none_of_its_business(self) -> None:
+        for text in (b"(a [int]#01# ([f32]#3fc00000#) [F64]x ())", b"[int]#01#", b"()"):
+            status, out, said = self.run_tool("hours", source=text)
             self.assertEqual((status, said), (0, b""))
-            self.assertIn(f"usage: etglavino {name}".encode(), out)
-        status, out, _ = self.run_tool("spool", "--help")
-        self.assertEqual((status, out.count(b"\n  spool ")), (0, 4))
-        status, out, _ = self.run_tool("--version")
-        self.assertEqual((status, out[:10]), (0, b"etglavino "))
+            self.assertEqual(out.splitlines()[-1].split(), [b"all", b"0.00", b"0.00", b"0.00", b"0.00", b"0"])
 
-    def test_closed_pipes(self) -> None:
-        text = b"(" + b"a " * 4000 + b")"
-        for arguments in (["show"], ["convert"], ["table"], ["--help"]):
-            reading, writing = os.pipe()
-            os.close(reading)
-            run = subprocess.run(
-                [TOOL, *arguments], input=text, stdout=writing, stderr=subprocess.PIPE, check=False
-            )
-            os.close(writing)
-            self.assertEqual((run.returncode, run.stderr), (2, b""))
-        reading, writing = os.pipe()
-        os.close(reading)
-        run = subprocess.run([TOOL, "frob"], stdout=subprocess.PIPE, stderr=writing, check=False)
-        os.close(writing)
-        self.assertEqual((run.returncode, run.stdout), (2, b""))
-
-    def test_a_full_disk(self) -> None:
-        with open("/dev/full", "wb") as full:
-            run = subprocess.run(
-                [TOOL, "convert"], input=LIST, stdout=full, stderr=subprocess.PIPE, check=False
-            )
-        self.assertEqual(run.returncode, 2)
-        self.assertIn(b"standard output: No space left", run.stderr)
-
-    def test_files_are_read_in_parallel(self) -> None:
-        # Each of two readers waits for its own pipe: one thread could not get past the
-        # first, whose writer comes last.
-        for name in ("a", "b"):
-            os.mkfifo(self.folder / name)
-        run = subprocess.Popen(
-            [TOOL, "check", "--threads", "2", "a", "b"], cwd=self.folder, stderr=subprocess.PIPE
-        )
-        for name in ("b", "a"):
-            (self.folder / name).write_bytes(b"()")
-        _, said = run.communicate(timeout=20)
-        self.assertEqual(said, b"2 files: 2 good, 0 refused, 0 not read\n")
-
-    def bar(self, seconds: float, *command: str) -> bytes:
-        """What a terminal sees of a command on two files that takes so long."""
-        slow = self.folder / "slow"
-        os.mkfifo(slow)
-        ours, theirs = pty.openpty()
-        run = subprocess.Popen([TOOL, *command, "slow", "slow2"], cwd=self.folder, stderr=theirs)
-        os.close(theirs)
-
-        def write() -> None:
-            time.sleep(seconds)
-            slow.write_bytes(b"()")
-
-        writer = threading.Thread(target=write)
-        writer.start()
-        seen = b""
-        with contextlib.suppress(OSError):  # What a terminal gives when nobody has it any more.
-            while True:
-                seen += os.read(ours, 4096)
-        writer.join()
-        os.close(ours)
-        slow.unlink()
-        self.assertEqual(run.wait(), 0)
-        return seen
-
-    def test_a_bar_for_whoever_waits(self) -> None:
-        self.file("slow2", b"()")
-        for command in (["check"], ["spool", "add", "desk"]):
-            self.assertNotIn(b"#", self.bar(0.1, *command))
-            seen = self.bar(1.4, *command)
-            self.assertIn(b"] 1 of 2", seen)
-            self.assertIn(b"#" * 40 + b"] 2 of 2", seen)
+    def test_a_name_is_of_the_same_list(self) -> None:
+        # The last string before the second week stands in another list; nothing is before the third.
+        text = b"(ann (%s) (bob) (%s) ((%s)))" % (LINE, LINE, LINE)
+        _, out, _ = self.run_tool("hours", "--csv", source=text)
+        weeks = [row.split(b",")[1:4] for row in out.splitlines() if b",week," in row]
+        self.assertEqual(weeks, [[b"0/1", b"week", b"ann"], [b"0/3", b"week", b""], [b"0/4/0", b"week", b""]])
 
 
 if __name__ == "__main__":

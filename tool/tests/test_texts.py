@@ -27,6 +27,10 @@ class Convert(Case):
             self.gives(LIST, "convert", source=source)
             self.gives(LIST_ADVANCED, "convert", "-s", "advanced", source=source)
             self.gives(LIST_ADVANCED, "convert", "--syntax=advanced", source=source)
+            # Of several the last is heeded, however it is spelled.
+            self.gives(LIST_ADVANCED, "convert", "--to=basic", "-s", "advanced", source=source)
+            self.gives(LIST_ADVANCED, "convert", "-s", "xml", "--syntax=basic", "--to=advanced", source=source)
+            self.gives(LIST_BASIC, "convert", "--to=advanced", "--syntax=basic", source=source)
         # Nothing may stand outside the braces, and brackets and braces don't mix.
         for source in (LIST_BASIC + b"\n", b" " + LIST_BASIC, b"{", b"({MzphYmM=})"):
             self.fails(1, SYNTAX, "convert", source=source)
@@ -60,6 +64,8 @@ class Convert(Case):
             ("canonical", b"from octet 0 on", b"\xff", b"  \\xff\n  ^\n"),
             ("basic", b"from octet 5 on", b"3:abcX", b"  3:abcX\n       ^\n"),
             ("basic", b"from octet 3 on", b"{KC}", b"  {KC}\n     ^\n"),
+            ("basic", b"from octet 6 on", b"{KCk=}\n", b"  {KCk=}\\x0a\n        ^\n"),
+            ("canonical", b"from octet 2 on", b"()\n()\n", b"  ()\\x0a\n    ^\n"),
             ("advanced", b"from octet 9 on", b"(shift\n  ]ann)", b"    ]ann)\n    ^\n"),
             ("advanced", b"cut short after 8 octets", b"(a\n(b c\n", b"  (b c\\x0a\n          ^\n"),
             ("terminal", b"from octet 2 on", b"({})", b"  ({})\n    ^\n"),
@@ -170,6 +176,7 @@ class Split(Case):
         lines = LIST_ADVANCED + b'""\n' + LIST_ADVANCED
         self.gives(lines, "split", source=run)
         self.gives(run, "split", "--to", "canonical", source=run)
+        self.gives(LIST_BASIC + b"\n{MDo=}\n" + LIST_BASIC + b"\n", "split", "--to", "basic", source=run)
         self.gives(b"", "split", source=b"")
         # Longer than one source may be.
         self.gives(lines * 1000, "split", source=run * 1000)

@@ -1,6 +1,8 @@
 """What the tests of the command share: running it, and a folder for its files."""
 
+import contextlib
 import os
+import pty
 import subprocess
 import tempfile
 import unittest
@@ -19,6 +21,20 @@ SYNTAX = b"refused 3: the source is not in the form's language, "
 """Behind it stands where, in words."""
 
 
+def seen(command, folder) -> bytes:
+    """What a terminal sees on standard error of a command that is done."""
+    ours, theirs = pty.openpty()
+    run = subprocess.Popen(command, cwd=folder, stderr=theirs)
+    os.close(theirs)
+    text = b""
+    with contextlib.suppress(OSError):  # What a terminal gives when nobody has it any more.
+        while True:
+            text += os.read(ours, 4096)
+    os.close(ours)
+    assert run.wait() == 0, text
+    return text
+
+
 class Case(unittest.TestCase):
     def setUp(self) -> None:
         folder = tempfile.TemporaryDirectory()
@@ -27,9 +43,8 @@ class Case(unittest.TestCase):
 
     def run_tool(self, *arguments, source=b"", **more):
         """Exit status, standard output and standard error."""
-        done = subprocess.run(
-            [TOOL, *arguments], input=source, capture_output=True, cwd=self.folder, check=False, **more
-        )
+        given = more if "stdin" in more else {"input": source, **more}
+        done = subprocess.run([TOOL, *arguments], capture_output=True, cwd=self.folder, check=False, **given)
         return done.returncode, done.stdout, done.stderr
 
     def gives(self, out, *arguments, source=b"") -> None:

@@ -1,6 +1,6 @@
 //! Whether files are S-expressions.
 
-use crate::args::{Command, Given, FROM, THREADS};
+use crate::args::{once, Command, Given, FROM, THREADS};
 use crate::problem::Problem;
 use crate::{files, many};
 
@@ -19,6 +19,7 @@ can't be read.",
 
 fn run(given: &Given) -> Result<(), Problem> {
     given.form_of("--from", b"")?;
+    once(&given.plain)?;
     let threads = given.count("--threads")?;
     many::each(&given.plain, threads, |file| {
         files::take(given, Some(file)).map(drop)

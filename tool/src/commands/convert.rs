@@ -25,7 +25,7 @@ feed; in the other forms nothing stands behind the tree.",
         Flag {
             name: "--syntax",
             value: Some("FORM"),
-            about: "the same, as sexp-conv has it",
+            about: "the same, as sexp-conv has it; the last of them is heeded",
         },
         Flag {
             name: "-s",
@@ -38,9 +38,7 @@ feed; in the other forms nothing stands behind the tree.",
 };
 
 fn run(given: &Given) -> Result<(), Problem> {
-    let to = given.form("-s", Form::Canonical)?;
-    let to = given.form("--syntax", to)?;
-    let to = given.form("--to", to)?;
+    let to = given.form(&["--to", "--syntax", "-s"], Form::Canonical)?;
     let taken = files::take(given, given.at(0))?;
     deliver(given, &files::text(&taken.source.name, &taken.sheet, to)?)
 }

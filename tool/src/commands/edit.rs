@@ -32,7 +32,7 @@ pub fn edit(
     change: impl FnOnce(&mut OwnedSheet) -> Result<(), Refusal>,
 ) -> Result<(), Problem> {
     let mut taken = files::take(given, file)?;
-    let to = given.form("--to", taken.source.form)?;
+    let to = given.form(&["--to"], taken.source.form)?;
     change(&mut taken.sheet).map_err(|why| match why.number() {
         2 | 3 => Problem::text("TEXT".into(), why, text.0, text.1),
         _ => Problem::Refused(taken.source.name.clone(), why),

@@ -20,7 +20,7 @@ becomes ().",
 
 fn run(given: &Given) -> Result<(), Problem> {
     let taken = files::take(given, given.at(0))?;
-    let to = given.form("--to", taken.source.form)?;
+    let to = given.form(&["--to"], taken.source.form)?;
     let extract = taken.sheet.extract(Vec::new(), Vec::new());
     let extract = extract.map_err(|why| Problem::Refused(taken.source.name.clone(), why))?;
     deliver(given, &files::text(&taken.source.name, &extract, to)?)

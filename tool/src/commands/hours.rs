@@ -15,9 +15,10 @@ pub const COMMAND: Command = Command {
     about: "total shift lines and weeks, as a table or as CSV",
     details: "\
 A line is a list of three f64 strings: ordinary, night and holiday hours. A week is a
-list of lines, named by the string that stands directly before it. A list of nothing
-but f64 strings is meant as a line, and one of lists, some of them lines, as a week:
-whatever is meant so and isn't is refused with 12, and no hour is left out in silence.",
+list of lines, named by the string that stands directly before it. A list that has an
+f64 string in it is meant as a line, and one of lists, some of them lines, as a week:
+whatever is meant so and isn't is refused with 12, and so is an f64 string that is the
+whole. So no f64 string is left out in silence.",
     flags: &[
         FROM,
         Flag {
@@ -37,6 +38,7 @@ const HEAD: [&str; 9] = [
 type Row = [String; HEAD.len()];
 
 fn run(given: &Given) -> Result<(), Problem> {
+    files::apart(given, given.at(0))?;
     let sheet = files::take(given, given.at(0))?.sheet;
     let rows = rows(&sheet).map_err(|node| {
         let name = format!("{}, node {node}", files::name(given.at(0)));
@@ -80,10 +82,12 @@ fn rows(sheet: &OwnedSheet) -> Result<Vec<Row>, usize> {
     Ok(rows)
 }
 
-/// The line that a node is. A list of nothing but `f64` strings has to be one.
+/// The line that a node is. A list that has an `f64` string in it has to be one,
+/// and an `f64` string in no list is none.
 fn line(node: Node<'_>) -> Result<Option<(Line, Total)>, usize> {
-    let mut fields = node.children().map(|child| child.hint() == Some(b"f64"));
-    if node.children().next().is_none() || !fields.all(|field| field) {
+    let double = |node: Node<'_>| node.hint() == Some(b"f64");
+    let alone = node.parent().is_none() && double(node);
+    if !alone && !node.children().any(double) {
         return Ok(None);
     }
     node.line().map(Some).map_err(|_| node.number())
@@ -154,16 +158,23 @@ fn table(rows: &[Row]) -> String {
     out
 }
 
-/// RFC 4180: what has a comma, a quote or a line's end in it stands in quotes.
+/// RFC 4180: what has a comma, a quote or a line's end in it stands in quotes. A
+/// token that a spreadsheet would compute is spelled as a quoted string, which is
+/// the same string.
 fn csv(rows: &[Row]) -> String {
     let mut out = String::new();
     for row in rows {
-        let cells = row
-            .iter()
-            .map(|cell| match cell.contains([',', '"', '\r', '\n']) {
-                true => format!("\"{}\"", cell.replace('"', "\"\"")),
-                false => cell.clone(),
-            });
+        let spelled = |cell: &String| match cell.starts_with(['=', '+', '-', '@']) {
+            true => format!("\"{cell}\""),
+            false => cell.clone(),
+        };
+        let cells =
+            row.iter()
+                .map(spelled)
+                .map(|cell| match cell.contains([',', '"', '\r', '\n']) {
+                    true => format!("\"{}\"", cell.replace('"', "\"\"")),
+                    false => cell,
+                });
         out += &cells.collect::<Vec<_>>().join(",");
         out += "\r\n";
     }

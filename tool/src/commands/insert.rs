@@ -6,8 +6,8 @@ use etglavino::Slot;
 
 use super::edit::{edit, DETAILS, TEXT, TO};
 use crate::args::{Command, Given, FROM, OUTPUT};
-use crate::nodes::Named;
-use crate::problem::{usage, Problem};
+use crate::nodes::{self, Named};
+use crate::problem::{usage, word, Problem};
 
 pub const COMMAND: Command = Command {
     name: "insert",
@@ -21,9 +21,9 @@ pub const COMMAND: Command = Command {
 
 fn run(given: &Given) -> Result<(), Problem> {
     let node = Named::of(&given.plain[0])?;
-    let place = given.plain[1].to_string_lossy();
-    let Ok(k) = place.parse() else {
-        return usage(format!("insert: {place} is no number"));
+    let place = &given.plain[1];
+    let Some(k) = nodes::number(place) else {
+        return usage(format!("insert: {} is no number", word(place)));
     };
     let text = given.plain[2].as_bytes();
     let form = given.form_of("--text", text)?;

@@ -18,7 +18,7 @@ use std::ffi::OsString;
 
 use crate::args::Command;
 use crate::files;
-use crate::problem::{usage, Problem};
+use crate::problem::{usage, word, Problem};
 
 /// All commands, in the order in which help has them.
 const ALL: &[&Command] = &[
@@ -46,14 +46,15 @@ whole, elements being counted from 0. `--` ends the flags: what follows may begi
 with a hyphen.
 
 exit status: 0 done; 1 refused, with a number and a sentence on standard error and
-nothing on standard output; 2 wrong use, or a file that can't be read or written";
+nothing on standard output, or the answer `different` of `same`; 2 wrong use, or a
+file that can't be read or written";
 
 const VERSION: &str = concat!("etglavino ", env!("CARGO_PKG_VERSION"), "\n");
 
 /// Runs what is asked for.
 pub fn run(given: Vec<OsString>) -> Result<(), Problem> {
-    let words: Vec<_> = given.iter().map(|word| word.to_string_lossy()).collect();
-    let words: Vec<&str> = words.iter().map(|word| &**word).collect();
+    let words: Vec<String> = given.iter().map(|given| word(given)).collect();
+    let words: Vec<&str> = words.iter().map(String::as_str).collect();
     match words[..] {
         [] => return usage("a command is missing; see `etglavino --help`"),
         ["--help" | "-h" | "help", ..] => return files::put(help("").as_bytes()),

@@ -37,6 +37,7 @@ is wrong, and the text with the place marked.",
 };
 
 fn run(given: &Given) -> Result<(), Problem> {
+    files::apart(given, given.at(0))?;
     let source = Source::of(given, given.at(0))?;
     let html = given.has("--html");
     let out = match source.sheet() {

@@ -14,7 +14,8 @@ pub const COMMAND: Command = Command {
     about: "write canonical sheets that stand back to back one by one, a line each",
     details: "\
 The file may have any length. If a sheet in it is refused, nothing is written. With
---to canonical nothing stands between the sheets.",
+--to canonical nothing stands between the sheets. Where one goes wrong is counted from
+its own beginning.",
     flags: &[
         Flag {
             name: "--to",
@@ -27,7 +28,7 @@ The file may have any length. If a sheet in it is refused, nothing is written. W
 };
 
 fn run(given: &Given) -> Result<(), Problem> {
-    let to = given.form("--to", Form::Advanced)?;
+    let to = given.form(&["--to"], Form::Advanced)?;
     let octets = files::read_whole(given.at(0))?;
     let (mut run, mut out) = (etglavino::run(&octets), Vec::new());
     for number in 0.. {

@@ -46,12 +46,17 @@ pub fn shown(source: &[u8], place: usize) -> String {
     let start = ended.iter().rposition(|octet| *octet == b'\n');
     let near = before.len().saturating_sub(BEFORE);
     let before = spelled(&before[start.map_or(0, |at| at + 1).max(near)..]);
-    let end = after.iter().position(|octet| *octet == b'\n');
-    let after = spelled(&after[..end.unwrap_or(after.len()).min(AFTER)]);
+    // A line feed that is itself wrong is shown.
+    let end = match after.iter().position(|octet| *octet == b'\n') {
+        Some(end) => end.max(1),
+        None => after.len(),
+    };
+    let after = spelled(&after[..end.min(AFTER)]);
     format!("  {before}{after}\n  {}^", " ".repeat(before.len()))
 }
 
-fn spelled(octets: &[u8]) -> String {
+/// Octets as text; what can't be printed is spelled.
+pub fn spelled(octets: &[u8]) -> String {
     let spell = |octet: &u8| match octet {
         b' '..=b'~' => char::from(*octet).to_string(),
         _ => format!("\\x{octet:02x}"),

@@ -23,6 +23,11 @@ fn a_caret_under_the_place() {
     assert_eq!(shown(b"2:a\n(x\ny", 5), "  (x\n   ^");
     assert_eq!(shown(b"(a\n(b\n", 6), "  (b\\x0a\n        ^");
     assert_eq!(shown(b"(a\n]", 3), "  ]\n  ^");
+    // A line feed that is wrong, and then other octets that can't be printed.
+    assert_eq!(shown(b"{KCk=}\n", 6), "  {KCk=}\\x0a\n        ^");
+    assert_eq!(shown(b"3:abc\n(d)", 5), "  3:abc\\x0a\n       ^");
+    assert_eq!(shown(b"\"\n\n\"", 1), "  \"\\x0a\n   ^");
+    assert_eq!(shown(b"()\n\0a", 3), "  \\x00a\n  ^");
     let long = [b'a'; 200];
     let lines = shown(&long, 100);
     assert_eq!(
@@ -54,6 +59,34 @@ fn places_by_hand() {
         (26, "(99999999999999999999:abc)"),
     ] {
         assert_eq!(refused_at(Form::Advanced, text), Some(place), "{text}");
+    }
+}
+
+/// A text that tells a length near what can be counted, or beyond it, is cut short
+/// where it ends.
+#[test]
+fn lengths_near_what_can_be_counted() {
+    let longest = [usize::MAX, usize::MAX / 2, usize::MAX / 4 * 3];
+    for length in longest.iter().flat_map(|most| *most - 9..=*most) {
+        for digits in [length.to_string(), format!("{length}0")] {
+            for rest in [":abc", "\"abc", "#616263", "|YWJj", "|YWJ"] {
+                let text = format!("({digits}{rest}");
+                assert_eq!(
+                    refused_at(Form::Advanced, &text),
+                    Some(text.len()),
+                    "{text}"
+                );
+            }
+            // What ends before that is wrong at its end.
+            for rest in ["\"abc\"", "#616263#", "|YWJj|"] {
+                let text = format!("{digits}{rest}");
+                assert_eq!(
+                    refused_at(Form::Advanced, &text),
+                    Some(text.len() - 1),
+                    "{text}"
+                );
+            }
+        }
     }
 }
 

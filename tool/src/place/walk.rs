@@ -175,7 +175,12 @@ impl Walk<'_> {
     /// there are, and the last of them has to leave no bits over.
     fn bars(&mut self, length: Option<usize>) -> Result<(), Wrong> {
         let letters = self.letters();
-        let most = length.map(|length| (length / 3).saturating_mul(4) + [0, 2, 3][length % 3]);
+        let letters_of = |length: usize| {
+            (length / 3)
+                .saturating_mul(4)
+                .saturating_add([0, 2, 3][length % 3])
+        };
+        let most = length.map(letters_of);
         let count = letters.len();
         let values: Vec<u8> = letters.iter().map(|letter| letter.1).collect();
         let wrong = match most {
