@@ -48,6 +48,7 @@ pub fn table() {
         }
     }
     for (name, sheet) in &sheets {
+        let sheet = &with_room(sheet);
         let last = elements(sheet);
         for (place, k) in [("first", 0), ("middle", last / 2), ("last", last)] {
             inserting(
@@ -157,6 +158,19 @@ fn elements(sheet: &Sheet) -> usize {
         count += 1;
     }
     count
+}
+
+/// The sheet without its last element, so that another one fits.
+fn with_room(sheet: &Sheet) -> Sheet {
+    let mut short = sheet.clone();
+    let (mut last, mut next) = (0, 1);
+    while next < sheet.extent.nodes {
+        last = next;
+        next += sheet.table[next * RECORD + 3] as usize;
+    }
+    let answer = etglavino::remove(&mut short.canonical, &mut short.table, sheet.extent, last);
+    short.extent = answer.expect("a list with an element");
+    short
 }
 
 /// Node 0 gets an element at the place, and loses it again: two calls.

@@ -15,8 +15,8 @@ pub fn pieces_start(canonical: &[u8], table: &[u32]) -> State
     State::start(canonical.len(), table.len())
 }
 
-// S 13.2, 13.3: the next piece, which may be empty and may be cut anywhere. It goes to the sheet, while that has room and up to 16,384; the octets
-// taken so far are told. A sheet or a table of another size than at the start gives 7, and nothing changes.
+// S 13.2, 13.3: the next piece, which may be empty and may be cut anywhere. It goes to the sheet, while that has room and up to
+// 16,384; the octets taken so far are told. A sheet or a table of another size than at the start gives 7, and nothing changes.
 pub fn pieces_feed(state: State, piece: &[u8], canonical: &mut [u8], table: &[u32]) -> Fed
     ensures { λ r. ⌜ Piece state (now (piece .entry)) (now (canonical .entry)) (length (now (table .entry))) (now (canonical .exit)) r ⌝ }
 {

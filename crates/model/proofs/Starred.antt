@@ -1,4 +1,4 @@
--- The cases of S 16, shown of the definitions that every promise cites, as one list: what is answered, what is wanted.
+-- Cases of S 16 and of requests, shown of the definitions that every promise cites, as one list: what is answered, what is wanted.
 use Prim.Native.Nat.{ℕ}
 use mathlib.Core.Path.{_≡_, refl}
 use mathlib.Core.Bool.{true}

@@ -1,6 +1,6 @@
 // What an octet is to the grammar: its class, by one fixed list of 256 numbers (specs/Classes.antt says what each means),
 // and its value as a digit, a base-64 letter or an escape.
-// A constant is rebuilt at each look-up, so an entry builds a list once, by `classes` or `letters`, and lends it down.
+// A constant is rebuilt at each look-up, so that a list is built once for a text, by `classes` or `letters`, and lent down.
 ghost use mathlib.Core.Path.{_≡_};
 ghost use Rattle.model.specs.Octets.{hexval, octval, escape, letter};
 ghost use Rattle.octets.specs.Classes.{Class, Classed, Lettered};

@@ -1,4 +1,4 @@
--- Reading by steps: what is judged of a tree's sizes, and what a text's tree, if it has one, gives.
+-- Reading by steps: what a text's tree, if it has one, gives.
 use Prim.Native.Nat.{ℕ, _*_, _≤_}
 use mathlib.Core.Path.{_≡_}
 use mathlib.Core.Option.{Option}
