@@ -200,20 +200,23 @@ fn places_beside_the_library_in_quoted_strings() {
     assert!(count > 4_000, "{count}");
 }
 
-#[test]
-fn places_beside_the_library_in_hexadecimal() {
-    let (mark, end) = (strings(&["", "#"]), strings(&["#", ""]));
-    let endings = joined(&[&mark, &up_to(24, "a"), &end]);
-    let count = hold(Form::Advanced, b"#012fG ", 6, &endings);
+/// Texts of such octets between two marks, which up to `most` of a letter may
+/// complete.
+fn hold_between(mark: &str, letter: &str, most: usize, octets: &[u8]) {
+    let (begin, end) = (strings(&["", mark]), strings(&[mark, ""]));
+    let endings = joined(&[&begin, &up_to(most, letter), &end]);
+    let count = hold(Form::Advanced, octets, 6, &endings);
     assert!(count > 4_000, "{count}");
 }
 
 #[test]
+fn places_beside_the_library_in_hexadecimal() {
+    hold_between("#", "a", 24, b"#012fG ");
+}
+
+#[test]
 fn places_beside_the_library_in_bars() {
-    let (mark, end) = (strings(&["", "|"]), strings(&["|", ""]));
-    let endings = joined(&[&mark, &up_to(16, "A"), &end]);
-    let count = hold(Form::Advanced, b"|12AQR= !", 6, &endings);
-    assert!(count > 4_000, "{count}");
+    hold_between("|", "A", 16, b"|12AQR= !");
 }
 
 const LETTERS: &[u8] = b"ABCDEFGHIJKLMNOPQRSTUVWXYZabcdefghijklmnopqrstuvwxyz0123456789+/";
