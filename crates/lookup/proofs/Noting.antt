@@ -10,7 +10,8 @@ use lib.Seq.{length-take-le}
 use lib.Dec.{leb}
 use borrow.Author.Tests.{eq-eqb}
 use Rattle.base.specs.Choice.{pick, chain, isNone}
-use Rattle.base.proofs.Cases.{by-bool, differ, picked, unpicked, some-same}
+use Rattle.base.proofs.Cases.{by-bool, differ, picked, unpicked, some-same, true-both}
+use Rattle.base.proofs.Lists.{same-equal}
 use Rattle.model.specs.Limits.{maxCanonical, maxDepth, mostNodes, maxSource}
 use Rattle.model.specs.Answers.{fits, fitting, sheetTree, owns, ownTree, hintPart, dataPart}
 use Rattle.model.specs.Decode.{decode₁}
@@ -23,7 +24,8 @@ use Rattle.walk.specs.declared.Extent.{Extent}
 use Rattle.walk.specs.declared.Extent.the-variants.{Whole, Refused}
 use Rattle.sheets.specs.Notes.{Notable, Noted}
 use Rattle.tables.specs.Rows.{rowList, RowIs}
-use Rattle.tables.specs.Told.{rowAt, Readable, Holds, Fillable, Compared}
+use Rattle.tables.specs.Told.{rowAt, Readable, Holds}
+use Rattle.tables.specs.Owned.{Checkable, Checked}
 use Rattle.tables.specs.declared.rows.Row as coded
 use Rattle.tables.proofs.Held.{note-holds}
 use Rattle.tables.proofs.Telling.{holds-row}
@@ -31,7 +33,7 @@ use Rattle.answers.specs.Cases.{placed}
 use Rattle.answers.specs.declared.Place.{Place}
 use Rattle.answers.specs.declared.Place.the-variants.{Part, NoPart}
 use Rattle.lookup.specs.Noted.{Notes, Sheet, Sheeted, Owned, Owning, Readables, ShowsPlace}
-use Rattle.lookup.proofs.Sheets.{no-tree, tree-of, none-of, fitted, within, sheet-of, sheet-none, sheet-deep, Own, own-of, own-beyond, own-long, own-unlent}
+use Rattle.lookup.proofs.Sheets.{no-tree, a-tree, tree-of, none-of, fitted, within, sheet-of, sheet-none, sheet-deep, Own, own-of, own-beyond, own-long, own-unlent}
 use Rattle.lookup.proofs.Shown.{table-at, hint-unowned, hint-beyond, hint-other, hint-found, data-unowned, data-beyond, data-found}
 
 -- ---- a sheet noted
@@ -93,41 +95,47 @@ module _ (c : List ℕ) (n m k : ℕ) (before after : List ℕ) (r : Extent) (v 
           lent = held;
         }
 
--- ---- and its table compared
+-- ---- octets and a table gone through side by side
 
-module _ (c : List ℕ) (len count : ℕ) (notes table : List ℕ) (noted : Bool) (s : Sheeted c len count (length table / width) notes noted) where
-  module _ (y : noted ≡ true) where
-    sheet : Sheet c len count (length table / width) notes
-    unfolding Sheeted
-    sheet = subst (Sheeted c len count (length table / width) notes) y s
+module _ (c : List ℕ) (len : ℕ) (table : List ℕ) (count : ℕ) (notes : List ℕ) where
+  unowned : false ≡ not (isNone (ownTree c len table count)) → Owned c len table count notes false
+  unowned e = record { tells = e; sheet = λ z. differ z refl }
 
-    pub own-fillable : Fillable notes count (length table)
-    own-fillable = record { tree = sheet .tree; held = sheet .held; fits = omega (arith, sheet .lent) }
+  pub own-unsized : length c < len → Owned c len table count notes false
+  own-unsized h = unowned (own-beyond c len table count h)
 
-    told-some : (b : Bool) (t : Tree) → b ≡ not (isNone (pick b (some t) none))
-    unfolding isNone
-    told-some true t = refl
-    told-some false t = refl
+  pub own-large : maxCanonical < len → Owned c len table count notes false
+  own-large h = unowned (own-long c len table count h)
 
-    pub owned-whole : (b : Bool) → Compared notes count table b → Owned c len table count notes b
-    unfolding ownTree owns chain
-    owned-whole b f =
-        record {
-          tells = told-some b (sheet .tree)
-              ∙ ap (λ (x : Bool). not (isNone (pick x (some (sheet .tree)) none))) (f .tells (sheet .tree) (sheet .held) ∙ sym (picked _ _ (eq-eqb count (nodes (sheet .tree)) (sheet .held .counted))))
-              ∙ ap (λ (o : Option Tree). not (isNone (chain o (owns table count)))) (sym (sheet .is));
-          sheet = λ z. sheet;
-        }
+  pub own-many : mostNodes < count → Owned c len table count notes false
+  own-many h = unowned (no-tree _ (λ t e. let o : Own c len table count t = own-of c len table count t e in omega (arith, o .counted, o .sheet .fitting .many)))
 
-  unowned : {o : Option Tree} → o ≡ none → false ≡ not (isNone o)
-  unfolding isNone
-  unowned e = rw e
+  pub own-short : length table / width < count → Owned c len table count notes false
+  own-short h = unowned (own-unlent c len table count h)
 
-  pub owned-none : noted ≡ false → Owned c len table count notes false
-  unfolding Sheeted
-  owned-none y =
-      let g : (t : List ℕ) → records t ≡ length table / width → ownTree c len t count ≡ none = subst (Sheeted c len count (length table / width) notes) y s in
-      record { tells = unowned (g table refl); sheet = λ z. differ z refl }
+  module _ (lent : len ≤ length c) (short : len ≤ maxCanonical) where
+    front : length (take len c) ≡ len
+    front = length-take-le len c lent
+
+    pub own-checkable : count ≤ mostNodes → count ≤ length table / width → (room : ℕ) → Notes count room → Checkable (take len c) table count room
+    own-checkable f h room g = record { short = omega (arith, front); few = f; lent = omega arith; fits = omega (arith, g .enough) }
+
+    pub own-checked : count ≤ length table / width → (b : Bool) → Checked (take len c) table count notes b → Owned c len table count notes b
+    unfolding chain fitting owns ownTree
+    own-checked h b x = by-bool b (λ y. so y) (λ y. subst (Owned c len table count notes) (sym y) (unowned (no-tree _ (λ t e.
+        let o : Own c len table count t = own-of c len table count t e in
+        x .no y t (record { is = o .sheet .decoded; deep = o .sheet .fitting .deep; counted = o .counted; same = o .recorded })))))
+      where
+        so : b ≡ true → Owned c len table count notes b
+        so y =
+            let z = x .yes y in
+            let t : Tree = z .tree in
+            let l : length (canon t) ≡ len = sym (ap length (canon-sound (take len c) t (z .own .is))) ∙ front in
+            let f : fits t ≡ true = fitted t (z .own .deep) (omega arith) in
+            let i : sheetTree c len ≡ some t = within c len lent ∙ ap (λ (o : Option Tree). chain o fitting) (z .own .is) ∙ picked _ _ f in
+            let j : ownTree c len table count ≡ some t =
+            ap (λ (o : Option Tree). chain o (owns table count)) i ∙ picked _ _ (true-both (eq-eqb count (nodes t) (z .own .counted)) (same-equal _ _ (z .own .same))) in
+            record { tells = y ∙ a-tree _ t j; sheet = λ e. record { tree = t; is = i; held = z .held; lent = h } }
 
 -- a table's tree is the sheet that was noted
 pub owned-held : (c : List ℕ) (len : ℕ) (table : List ℕ) (count : ℕ) (notes : List ℕ) (own : Bool) → Owned c len table count notes own

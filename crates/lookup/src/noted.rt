@@ -57,11 +57,20 @@ pub fn own_notes(
     requires { ⌜ Notes nodes (size (now notes)) ⌝ }
     ensures { λ r. ⌜ Owned (now (canonical .entry)) len (now (table .entry)) nodes (now (notes .exit)) r ⌝ }
 {
-    let records = table.len() / limits::WIDTH;
-    if note_in(canonical, len, notes, records, nodes) {
-        return tables::holds(notes, nodes, table);
+    if len > canonical.len() {
+        return false;
     }
-    false
+    if len > limits::CANONICAL {
+        return false;
+    }
+    if nodes > limits::NODES {
+        return false;
+    }
+    if nodes > table.len() / limits::WIDTH {
+        return false;
+    }
+    let part = &canonical[..len];
+    tables::own(part, table, nodes, notes)
 }
 
 // Where a node's hint stands, if it is a string with a hint, or where its data stands; by the notes of a sheet, where they are told to

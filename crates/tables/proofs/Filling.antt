@@ -23,10 +23,10 @@ use Rattle.tables.proofs.Telling.{holds-few, holds-row, holds-parent, h
 
 -- ---- the first records of a tree's table
 
-abbrev front : Tree → ℕ → List ℕ
+abbrev pub front : Tree → ℕ → List ℕ
 front t k = flat (take k (rows t 0)) (take k (parents t 0 0))
 
-front-length : (t : Tree) (k : ℕ) → k ≤ nodes t → length (front t k) ≡ width * k
+pub front-length : (t : Tree) (k : ℕ) → k ≤ nodes t → length (front t k) ≡ width * k
 front-length t k h = flat-length (take k (rows t 0)) (take k (parents t 0 0)) ∙ ap (λ (n : ℕ). width * n) (length-take-le k (rows t 0) (omega (arith, rows-length t 0)))
 
 -- as many rows as parents
@@ -34,7 +34,7 @@ alike : (t : Tree) (k : ℕ) → k ≤ nodes t → length (take k (parents t 0 0
 alike t k h =
     length-take-le k (parents t 0 0) (omega (arith, parents-length t 0 0)) ∙ sym (length-take-le k (rows t 0) (omega (arith, rows-length t 0)))
 
-front-more : (t : Tree) (k : ℕ) → k < nodes t → front t (k + 1) ≡ front t k ++ recorded (rowOf t k) (parentOf t k)
+pub front-more : (t : Tree) (k : ℕ) → k < nodes t → front t (k + 1) ≡ front t k ++ recorded (rowOf t k) (parentOf t k)
 unfolding flat
 front-more t k h =
     rw (add-one k)
@@ -42,14 +42,14 @@ front-more t k h =
     ∙ flat-append (take k (rows t 0)) (rowOf t k ∷ []) (take k (parents t 0 0)) (parentOf t k ∷ []) (alike t k (omega arith)))
 
 -- they are where the table begins
-front-take : (t : Tree) (k : ℕ) → k ≤ nodes t → take (width * k) (tableOf t) ≡ front t k
+pub front-take : (t : Tree) (k : ℕ) → k ≤ nodes t → take (width * k) (tableOf t) ≡ front t k
 unfolding tableOf
 front-take t k h =
     ap₂ (λ (l : List Row) (p : List ℕ). take (width * k) (flat l p)) (sym (take-append-drop k (rows t 0))) (sym (take-append-drop k (parents t 0 0)))
     ∙ ap (take (width * k)) (flat-append (take k (rows t 0)) (drop k (rows t 0)) (take k (parents t 0 0)) (drop k (parents t 0 0)) (alike t k h))
     ∙ take-at (front t k) (flat (drop k (rows t 0)) (drop k (parents t 0 0))) (width * k) (front-length t k h)
 
-front-all : (t : Tree) (k : ℕ) → nodes t ≤ k → front t k ≡ tableOf t
+pub front-all : (t : Tree) (k : ℕ) → nodes t ≤ k → front t k ≡ tableOf t
 unfolding tableOf
 front-all t k h = ap₂ flat (take-all k (rows t 0) (omega (arith, rows-length t 0))) (take-all k (parents t 0 0) (omega (arith, parents-length t 0 0)))
 

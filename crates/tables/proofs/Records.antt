@@ -16,11 +16,11 @@ use Rattle.walk.specs.Events.{recordAt}
 use Rattle.tables.specs.Rows.{recordList}
 use Rattle.tables.specs.declared.rows.Row.{Row}
 
-unequal : (x y : List ℕ) (k : ℕ) → (getD x k 0 ≡ getD y k 0 → ⊥) → false ≡ equal x y
+pub unequal : (x y : List ℕ) (k : ℕ) → (getD x k 0 ≡ getD y k 0 → ⊥) → false ≡ equal x y
 unequal x y k n = by-bool (equal x y) (λ t. absurd (n (ap (λ (l : List ℕ). getD l k 0) (equal-true x y t)))) (λ t. sym t)
 
 -- the k-th number of a record
-record-at : (table : List ℕ) (n k : ℕ) → k < 9 → getD (recordAt table n) k 0 ≡ getD table (n * 9 + k) 0
+pub record-at : (table : List ℕ) (n k : ℕ) → k < 9 → getD (recordAt table n) k 0 ≡ getD table (n * 9 + k) 0
 record-at table n k h =
     let e : 9 * n + k ≡ n * 9 + k = omega arith in
     getD-take 9 (drop (9 * n) table) k 0 h ∙ getD-drop (9 * n) table k 0 ∙ ap (λ (i : ℕ). getD table i 0) e
@@ -31,7 +31,7 @@ differs k h table n row up d = unequal (recordAt table n) (recordList row up) k 
 pub differs-first : (table : List ℕ) (n : ℕ) (row : Row) (up : ℕ) → (getD table (n * 9) 0 ≡ row .kind → ⊥) → false ≡ equal (recordAt table n) (recordList row up)
 differs-first table n row up d = let z : n * 9 + 0 ≡ n * 9 = omega arith in differs 0 (omega arith) table n row up (λ e. d (ap (λ (i : ℕ). getD table i 0) (sym z) ∙ e))
 
-record-length : (table : List ℕ) (n : ℕ) → width * (n + 1) ≤ length table → length (recordAt table n) ≡ 9
+pub record-length : (table : List ℕ) (n : ℕ) → width * (n + 1) ≤ length table → length (recordAt table n) ≡ 9
 record-length table n h = length-take-le 9 (drop (9 * n) table) (omega (arith, length-drop (9 * n) table))
 
 -- two lists of nine numbers

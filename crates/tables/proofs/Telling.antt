@@ -214,13 +214,13 @@ unfolding noted
 noted-at t k h = note-at (rows t 0) (parents t 0 0) k (plainRow 0 0 0) (omega (arith, rows-length t 0))
 
 -- the parts of a note
-record Parts (m a b x p : ℕ) : Type 0 where
-  start : startPart m ≡ a
-  end : endPart m ≡ b
-  third : thirdPart m ≡ x
-  up : parentPart m ≡ p
+pub record Parts (m a b x p : ℕ) : Type 0 where
+  pub start : startPart m ≡ a
+  pub end : endPart m ≡ b
+  pub third : thirdPart m ≡ x
+  pub up : parentPart m ≡ p
 
-parted : (m a b x p : ℕ) → (a < shift) × (b < shift) × (x < shift) → p < shift → m ≡ noteBy (spanBy a b) x p → Parts m a b x p
+pub parted : (m a b x p : ℕ) → (a < shift) × (b < shift) × (x < shift) → p < shift → m ≡ noteBy (spanBy a b) x p → Parts m a b x p
 parted m a b x p s l e = record { start = omega arith; end = omega arith; third = omega arith; up = omega arith }
 
 module _ (notes : List ℕ) (n : ℕ) (t : Tree) (g : Holds notes n t) where

@@ -1,2 +1,5 @@
 pub mod Rows
 pub mod Told
+pub mod Owned
+pub mod Wanted
+pub mod Going

@@ -1,10 +1,16 @@
 // The table of a sheet, told by its notes: filled from them, and compared with them.
+mod beside; // beside.rt: octets and a table side by side
 mod rows; // rows.rt: a node's record
 mod told; // told.rt: the record that a note tells
 
 ghost use mathlib.Core.Path.{_≡_};
 ghost use lib.ListN.{length};
 ghost use Rattle.tables.specs.Told.{Fillable, Filled, Compared};
+pub use beside::around;
+pub use beside::begins;
+pub use beside::closes;
+pub use beside::hints;
+pub use beside::own;
 pub use rows::Row;
 use rows::put_row;
 use rows::row_is;

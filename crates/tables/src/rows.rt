@@ -1,13 +1,13 @@
 // A node's record: made of places, stored, and compared.
 ghost use mathlib.Core.Path.{_≡_};
 ghost use Prim.Native.Nat.{_+_, _*_, _≤_, _<_};
-ghost use lib.ListN.{length};
+ghost use lib.ListN.{length, getD};
 ghost use lib.Seq.{sets};
 ghost use Rattle.base.specs.Choice.{equal};
 ghost use Rattle.model.specs.Limits.{maxSource};
 ghost use Rattle.model.specs.Table.{width, plainRow, hintedRow, listRow};
 ghost use Rattle.walk.specs.Events.{recordAt};
-ghost use Rattle.tables.specs.Rows.{recordList, RowIs};
+ghost use Rattle.tables.specs.Rows.{recordList, RowIs, RowAt};
 
 // A record: 0 string, 1 string with hint, 2 list; offsets are into the canonical octets.
 pub struct Row {
@@ -70,6 +70,63 @@ pub fn list_row(start: usize, end: usize, nodes: usize) -> Row
         data_start: (start + 1) as u32,
         data_end: (end - 1) as u32,
     }
+}
+
+// A node's record in a table, but for its last number.
+pub fn row_at(table: &[u32], node: usize) -> Row
+    requires { ⌜ (node ≤ maxSource) × (width * (node + 1) ≤ length (now table)) ⌝ }
+    ensures { λ r. ⌜ RowAt (now (table .entry)) node r ⌝ }
+{
+    let at = node * limits::WIDTH;
+    Row {
+        kind: table[at],
+        start: table[at + 1],
+        end: table[at + 2],
+        nodes: table[at + 3],
+        hint_start: table[at + 4],
+        hint_end: table[at + 5],
+        data_start: table[at + 6],
+        data_end: table[at + 7],
+    }
+}
+
+// The last: the number of the list around the node.
+pub fn parent_at(table: &[u32], node: usize) -> u32
+    requires { ⌜ (node ≤ maxSource) × (width * (node + 1) ≤ length (now table)) ⌝ }
+    ensures { λ r. ⌜ r ≡ getD (now (table .entry)) (node * width + 8) 0 ⌝ }
+{
+    table[node * limits::WIDTH + 8]
+}
+
+// Whether two records, each with the number of the list around, are the same.
+pub fn same_row(one: Row, up: u32, other: Row, over: u32) -> bool
+    ensures { λ r. ⌜ r ≡ equal (recordList one up) (recordList other over) ⌝ }
+{
+    if one.kind != other.kind {
+        return false;
+    }
+    if one.start != other.start {
+        return false;
+    }
+    if one.end != other.end {
+        return false;
+    }
+    if one.nodes != other.nodes {
+        return false;
+    }
+    if one.hint_start != other.hint_start {
+        return false;
+    }
+    if one.hint_end != other.hint_end {
+        return false;
+    }
+    if one.data_start != other.data_start {
+        return false;
+    }
+    if one.data_end != other.data_end {
+        return false;
+    }
+    up == over
 }
 
 // A record stored, with the number of the list around its node.

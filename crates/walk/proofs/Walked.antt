@@ -165,7 +165,7 @@ mutual
       ∙ forest-walk f ls (after c (depth t) (nodes t)) o (omega arith)
       ∙ ap (walk ls) (same-count refl (omega arith) (omega arith))
 
-nodes-pos : (t : Tree) → 0 < nodes t
+pub nodes-pos : (t : Tree) → 0 < nodes t
 unfolding nodes
 nodes-pos (plain d) = omega arith
 nodes-pos (hinted h d) = omega arith
