@@ -36,9 +36,10 @@ use Rattle.tables.proofs.Wanted.{lexeme-next, lexeme-back, no-lexeme}
 pub open-more : (R : ℕ → List ℕ) (k m : ℕ) → k ≤ m → (st : List ℕ) → Open R k st → Open R m st
 unfolding Open
 open-more R k m h [] o = tt
-open-more R k m h (u ∷ us) o =
-    (record { start = o .0 .start; end = o .0 .end; count = o .0 .count; is = o .0 .is; begun = o .0 .begun; ends = o .0 .ends; few = o .0 .few; before = omega (arith, o .0 .before) },
-    open-more R k m h us (o .1))
+open-more R k m h (u ∷ us) o = (
+  record { start = o .0 .start; end = o .0 .end; count = o .0 .count; is = o .0 .is; begun = o .0 .begun; ends = o .0 .ends; few = o .0 .few; before = omega (arith, o .0 .before) },
+  open-more R k m h us (o .1),
+)
 
 -- none, or an innermost one
 pub stack-cases : {G : Type 0} (st : List ℕ) (o : ℕ) → length st ≡ o → (o ≡ 0 → st ≡ [] → G) → ((u : ℕ) (us : List ℕ) → st ≡ u ∷ us → o ≡ length us + 1 → G) → G

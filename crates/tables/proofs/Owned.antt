@@ -89,15 +89,17 @@ module _ (R : ℕ → List ℕ) where
     each-told : (t : Tree) (at k up : ℕ) → Each k (nodes t) (rows t at) (parents t k up) → Told R t at k up
     each-told (plain d) at k up x = only k _ up [] [] 0 x
     each-told (hinted h d) at k up x = only k _ up [] [] 0 x
-    each-told (list f) at k up x =
-        (only k _ up (rowss f (at + 1)) (parentss f (k + 1) k) (nodess f) x,
-        each-tolds f (at + 1) (k + 1) k (second-part k 1 (nodess f) (_ ∷ []) (rowss f (at + 1)) (up ∷ []) (parentss f (k + 1) k) refl refl x))
+    each-told (list f) at k up x = (
+      only k _ up (rowss f (at + 1)) (parentss f (k + 1) k) (nodess f) x,
+      each-tolds f (at + 1) (k + 1) k (second-part k 1 (nodess f) (_ ∷ []) (rowss f (at + 1)) (up ∷ []) (parentss f (k + 1) k) refl refl x),
+    )
 
     each-tolds : (f : Forest) (at k up : ℕ) → Each k (nodess f) (rowss f at) (parentss f k up) → Tolds R f at k up
     each-tolds nil at k up x = tt
-    each-tolds (cons t f) at k up x =
-        (each-told t at k up (first-part k (nodes t) (nodess f) (rows t at) (rowss f (at + length (canon t))) (parents t k up) (parentss f (k + nodes t) up) (rows-length t at) (parents-length t k up) x),
-        each-tolds f (at + length (canon t)) (k + nodes t) up (second-part k (nodes t) (nodess f) (rows t at) (rowss f (at + length (canon t))) (parents t k up) (parentss f (k + nodes t) up) (rows-length t at) (parents-length t k up) x))
+    each-tolds (cons t f) at k up x = (
+      each-told t at k up (first-part k (nodes t) (nodess f) (rows t at) (rowss f (at + length (canon t))) (parents t k up) (parentss f (k + nodes t) up) (rows-length t at) (parents-length t k up) x),
+      each-tolds f (at + length (canon t)) (k + nodes t) up (second-part k (nodes t) (nodess f) (rows t at) (rowss f (at + length (canon t))) (parents t k up) (parentss f (k + nodes t) up) (rows-length t at) (parents-length t k up) x),
+    )
 
 -- ---- a table's records
 

@@ -216,17 +216,19 @@ module _ (src table : List ℕ) (n : ℕ) (notes : List ℕ) (at up opened k : �
               deep = omega (arith, w .deep);
               low = omega arith;
               top = refl;
-              lists = (record {
-                start = at;
-                end = e;
-                count = c;
-                is = is ∙ ap (recorded (listRow at e c)) (sym (w .top));
-                begun = a;
-                ends = omega (arith, w .given .short);
-                few = omega (arith, w .given .few);
-                before = omega arith;
-              },
-              open-more R k (k + 1) (omega arith) (w .st) (w .lists));
+              lists = (
+                record {
+                  start = at;
+                  end = e;
+                  count = c;
+                  is = is ∙ ap (recorded (listRow at e c)) (sym (w .top));
+                  begun = a;
+                  ends = omega (arith, w .given .short);
+                  few = omega (arith, w .given .few);
+                  before = omega arith;
+                },
+                open-more R k (k + 1) (omega arith) (w .st) (w .lists),
+              );
               kept = kept-more g notes′ z;
               to = λ t o. v .1 (opened-by (w .to t o) .on);
               from = λ u.

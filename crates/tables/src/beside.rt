@@ -161,7 +161,12 @@ pub fn own(src: &[u8], table: &[u32], nodes: usize, notes: &mut [usize]) -> bool
         }
         let s = string_at(src, at);
         if s > 0 {
-            if row_is(table, seen, plain_row(at, start_of(s), end_of(s)), up as u32) {
+            if row_is(
+                table,
+                seen,
+                plain_row(at, start_of(s), end_of(s)),
+                up as u32,
+            ) {
                 keep(notes, seen, s, 0, up);
                 seen += 1;
                 at = end_of(s);
