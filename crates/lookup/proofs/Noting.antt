@@ -24,7 +24,7 @@ use Rattle.walk.specs.declared.Extent.{Extent}
 use Rattle.walk.specs.declared.Extent.the-variants.{Whole, Refused}
 use Rattle.sheets.specs.Notes.{Notable, Noted}
 use Rattle.tables.specs.Rows.{rowList, RowIs}
-use Rattle.tables.specs.Told.{rowAt, Readable, Holds}
+use Rattle.tables.specs.Told.{rowAt, Readable, Holds, Fillable, Compared}
 use Rattle.tables.specs.Owned.{Checkable, Checked}
 use Rattle.tables.specs.declared.rows.Row as coded
 use Rattle.tables.proofs.Held.{note-holds}
@@ -94,6 +94,42 @@ module _ (c : List ℕ) (n m k : ℕ) (before after : List ℕ) (r : Extent) (v 
           held = subst (λ (i : ℕ). Holds after i t) (sym (wholly .counted) ∙ z) (note-holds (take n c) before after r v (omega (arith, length-take-le n c lent)) g);
           lent = held;
         }
+
+-- ---- and its table compared
+
+module _ (c : List ℕ) (len count : ℕ) (notes table : List ℕ) (noted : Bool) (s : Sheeted c len count (length table / width) notes noted) where
+  module _ (y : noted ≡ true) where
+    sheet : Sheet c len count (length table / width) notes
+    unfolding Sheeted
+    sheet = subst (Sheeted c len count (length table / width) notes) y s
+
+    pub own-fillable : Fillable notes count (length table)
+    own-fillable = record { tree = sheet .tree; held = sheet .held; fits = omega (arith, sheet .lent) }
+
+    told-some : (b : Bool) (t : Tree) → b ≡ not (isNone (pick b (some t) none))
+    unfolding isNone
+    told-some true t = refl
+    told-some false t = refl
+
+    pub owned-whole : (b : Bool) → Compared notes count table b → Owned c len table count notes b
+    unfolding ownTree owns chain
+    owned-whole b f =
+        record {
+          tells = told-some b (sheet .tree)
+              ∙ ap (λ (x : Bool). not (isNone (pick x (some (sheet .tree)) none))) (f .tells (sheet .tree) (sheet .held) ∙ sym (picked _ _ (eq-eqb count (nodes (sheet .tree)) (sheet .held .counted))))
+              ∙ ap (λ (o : Option Tree). not (isNone (chain o (owns table count)))) (sym (sheet .is));
+          sheet = λ z. sheet;
+        }
+
+  unowned-none : {o : Option Tree} → o ≡ none → false ≡ not (isNone o)
+  unfolding isNone
+  unowned-none e = rw e
+
+  pub owned-none : noted ≡ false → Owned c len table count notes false
+  unfolding Sheeted
+  owned-none y =
+      let g : (t : List ℕ) → records t ≡ length table / width → ownTree c len t count ≡ none = subst (Sheeted c len count (length table / width) notes) y s in
+      record { tells = unowned-none (g table refl); sheet = λ z. differ z refl }
 
 -- ---- octets and a table gone through side by side
 

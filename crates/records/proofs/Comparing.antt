@@ -1,29 +1,26 @@
 -- The records compared with notes, one by one, are a table compared with a tree's.
 use mathlib.Core.Path.{_≡_, refl, sym, _∙_, ap, ap₂, subst}
-use mathlib.Core.Bool.{Bool, true, false, not}
-use mathlib.Core.Option.{Option, none, some}
+use mathlib.Core.Bool.{Bool, true, false}
 use mathlib.Core.List.{List, [], _∷_, _++_}
-use Prim.Native.Nat.{ℕ, zero, suc, _*_, _≤_, _<_}
+use Prim.Native.Nat.{ℕ, zero, suc, _/_, _≤_, _<_}
 use native.Mathlib.Omega.{arith}
 use native.Mathlib.Numerals.{add-one}
 use lib.Dec.{eqb}
-use lib.ListN.{length, take, getD}
+use lib.ListN.{length, getD}
 use borrow.Author.Tests.{eq-eqb, ne-eqb}
-use Rattle.base.specs.Choice.{pick, equal, chain, isNone}
-use Rattle.base.proofs.Cases.{by-bool, by-eq, differ, picked, unpicked, some-same, none-some}
+use Rattle.base.specs.Choice.{equal}
+use Rattle.base.proofs.Cases.{by-bool, by-eq, picked, unpicked}
 use Rattle.base.proofs.Lists.{equal-true, same-equal}
-use Rattle.model.specs.Tree.{Tree, nodes}
-use Rattle.model.specs.Table.{Row, width, tableOf}
+use Rattle.model.specs.Table.{Row, width}
 use Rattle.model.specs.Table as table
-use Rattle.model.specs.Answers.{owns, ownTree}
 use Rattle.walk.specs.Events.{recordAt}
 use Rattle.tables.specs.Rows.{recordList, RowIs}
-use Rattle.tables.specs.Told.{rowAt, Holds, Fillable, Compared}
+use Rattle.tables.specs.Told.{rowAt, Fillable, Compared}
 use Rattle.tables.specs.declared.rows.Row as coded
 use Rattle.tables.proofs.Filling.{Comparing, compare-start, compare-on, compare-off, compare-end}
 use Rattle.tables.proofs.Telling.{holds-readable}
-use Rattle.lookup.specs.Noted.{Sheet, Sheeted, Owning, Readables}
-use Rattle.plan.specs.Planned.{Known, Lends}
+use Rattle.lookup.specs.Noted.{Sheeted, Owned}
+use Rattle.lookup.proofs.Noting.{own-fillable, owned-whole, owned-none}
 use Rattle.records.specs.declared.Record.{Record}
 use Rattle.records.specs.Numbers.{nine, numbers}
 use Rattle.records.specs.Told.{nil, parentAt, agrees, agreed, looked, Comparable}
@@ -118,48 +115,15 @@ module _ (c : List ℕ) (len count : ℕ) (ys : List Record) (notes : List ℕ) 
   sheet-comparable true s = record { lent = s .lent; read = λ i h. holds-readable notes count (s .tree) (s .held) i h }
   sheet-comparable false s = record { lent = omega arith; read = λ i h. absurd (omega arith) }
 
-  module _ (s : Sheet c len count (length ys) notes) where
-    abbrev same : Bool
-    same = agreed ys notes true count
+  recorded : length ys ≡ length (numbers ys) / width
+  recorded = omega (arith, length-numbers ys)
 
-    same-is : same ≡ equal (take (width * count) (numbers ys)) (tableOf (s .tree))
-    same-is = compared ys notes count (record { tree = s .tree; held = s .held; fits = omega (arith, s .lent, length-numbers ys) }) (s .lent) .tells (s .tree) (s .held)
-
-    own-is : ownTree c len (numbers ys) count ≡ pick same (some (s .tree)) none
-    unfolding ownTree owns chain
-    own-is =
-        ap (λ (o : Option Tree). chain o (owns (numbers ys) count)) (s .is)
-        ∙ ap (λ (b : Bool). pick b (some (s .tree)) none) (picked _ _ (eq-eqb count (nodes (s .tree)) (s .held .counted)) ∙ sym same-is)
-
-  told-some : (b : Bool) (t : Tree) → b ≡ not (isNone (pick b (some t) none))
-  unfolding isNone
-  told-some true t = refl
-  told-some false t = refl
-
-  some-tree : (b : Bool) (t u : Tree) → pick b (some t) none ≡ some u → t ≡ u
-  some-tree true t u e = some-same (λ (v : Tree). t ≡ v) e refl
-  some-tree false t u e = none-some e
-
-  pub sheet-owning : (noted : Bool) → Sheeted c len count (length ys) notes noted → (own : Bool) → own ≡ agreed ys notes noted (looked noted count) → Owning c len (numbers ys) count notes own
-  unfolding Sheeted looked agreed isNone
-  sheet-owning true s own e =
-      record {
-        tells = e ∙ told-some (same s) (s .tree) ∙ ap (λ (o : Option Tree). not (isNone o)) (sym (own-is s));
-        held = λ t f. subst (Holds notes count) (some-tree (same s) (s .tree) t (sym (own-is s) ∙ f)) (s .held);
-      }
-  sheet-owning false s own e =
-      let z : ownTree c len (numbers ys) count ≡ none = s (numbers ys) (omega (arith, length-numbers ys)) in
-      record { tells = e ∙ ap (λ (o : Option Tree). not (isNone o)) (sym z); held = λ t f. none-some (sym z ∙ f) }
-
-  pub sheet-readables : (noted : Bool) → Sheeted c len count (length ys) notes noted → (own : Bool) → own ≡ agreed ys notes noted (looked noted count) → Readables notes count own
+  -- so the records are the sheet's own, or not
+  pub sheet-owned : (noted : Bool) → Sheeted c len count (length ys) notes noted → (own : Bool) → own ≡ agreed ys notes noted (looked noted count) → Owned c len (numbers ys) count notes own
   unfolding Sheeted looked agreed
-  sheet-readables true s own e = record { read = λ y i h. holds-readable notes count (s .tree) (s .held) i h }
-  sheet-readables false s own e = record { read = λ y i h. differ y e }
-
-  pub sheet-known : (noted : Bool) → Sheeted c len count (length ys) notes noted → (own : Bool) → own ≡ agreed ys notes noted (looked noted count) → Known c len count (length ys) notes own
-  unfolding Sheeted looked agreed
-  sheet-known true s own e = record { sheet = λ y. s }
-  sheet-known false s own e = record { sheet = λ y. differ y e }
-
-  pub sheet-lends : (noted : Bool) → Sheeted c len count (length ys) notes noted → (own : Bool) → own ≡ agreed ys notes noted (looked noted count) → Lends c len count (length ys) own (numbers ys)
-  sheet-lends noted s own e = record { recorded = omega (arith, length-numbers ys); tells = sheet-owning noted s own e .tells }
+  sheet-owned true s own e =
+      let z : Sheeted c len count (length (numbers ys) / width) notes true = subst (λ (n : ℕ). Sheeted c len count n notes true) recorded s in
+      subst (Owned c len (numbers ys) count notes) (sym e)
+      (owned-whole c len count notes (numbers ys) true z refl (agreed ys notes true count) (compared ys notes count (own-fillable c len count notes (numbers ys) true z refl) (s .lent)))
+  sheet-owned false s own e =
+      subst (Owned c len (numbers ys) count notes) (sym e) (owned-none c len count notes (numbers ys) false (subst (λ (n : ℕ). Sheeted c len count n notes false) recorded s) refl)

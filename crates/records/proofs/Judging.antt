@@ -3,16 +3,17 @@ use Prim.Native.Nat.{ℕ}
 use mathlib.Core.Bool.{Bool}
 use mathlib.Core.List.{List}
 use Rattle.model.specs.Answers.{ownTree}
-use Rattle.lookup.specs.Noted.{Owning}
+use Rattle.lookup.specs.Noted.{Owned}
+use Rattle.lookup.proofs.Noting.{owned-held}
 use Rattle.reader.specs.Stored.{Puts}
 use Rattle.answers.specs.declared.Reading.{Reading}
 use Rattle.extracts.specs.Extracting.{extractingOwn}
 use Rattle.extracts.proofs.Answered.{own-sheet}
 use Rattle.extract.specs.Given.{Judges, Judged, Gives}
 
-module _ (c : List ℕ) (len : ℕ) (table : List ℕ) (count : ℕ) (notes : List ℕ) (own : Bool) (o : Owning c len table count notes own) where
+module _ (c : List ℕ) (len : ℕ) (table : List ℕ) (count : ℕ) (notes : List ℕ) (own : Bool) (o : Owned c len table count notes own) where
   judges : Judges (ownTree c len table count) c len notes count own
-  judges = record { tells = o .tells; sheeted = λ t e. own-sheet c len table count t e; held = o .held }
+  judges = record { tells = o .tells; sheeted = λ t e. own-sheet c len table count t e; held = owned-held c len table count notes own o }
 
   pub own-judged : Judged c len notes count own
   own-judged = record { found = ownTree c len table count; judges = judges }

@@ -5,6 +5,7 @@ pub mod Sizes
 pub mod Tables
 pub mod Tabling
 pub mod Comparing
+pub mod Owning
 pub mod Shared
 pub mod Again
 pub mod Local

@@ -1,4 +1,4 @@
-// A sheet changed as asked: noted, its records compared, its octets changed, and the records told by the new notes. These stand in
+// A sheet changed as asked: its records compared with it, its octets changed, and the records told by the new notes. These stand in
 // local space, in three sizes by the sheet's node count and the text's length.
 ghost use mathlib.Core.Path.{_≡_};
 ghost use Prim.Native.Nat.{_*_};
@@ -9,7 +9,7 @@ ghost use Rattle.plan.specs.declared.Asked.the-variants.{Replace, Insert, Remov
 ghost use Rattle.editor.specs.Given.{Noteable};
 ghost use Rattle.records.specs.Numbers.{numbers};
 use crate::Record;
-use crate::holds;
+use crate::owned::own_by;
 use crate::tell_by;
 use answers::Reading;
 use plan::Asked;
@@ -55,8 +55,7 @@ pub fn change_in(
     requires { ⌜ Noteable held (2 * length (now text)) (length (now notes)) ⌝ }
     ensures { λ r. ⌜ outcome r (now (canonical .exit)) (numbers (now (records .exit))) ≡ changing asked form (now (text .entry)) (now (canonical .entry)) (numbers (now (records .entry))) old held ⌝ }
 {
-    let noted = lookup::note_in(canonical, old, notes, records.len(), held);
-    let own = holds(records, notes, noted, held);
+    let own = own_by(canonical, old, records, held, notes);
     let r = editor::change_by(
         form,
         text,

@@ -7,7 +7,7 @@ ghost use Rattle.extracts.specs.Extracting.{extracting, extractingOwn};
 ghost use Rattle.records.specs.Numbers.{numbers};
 ghost use Rattle.records.specs.Places.{Extractable};
 use crate::Record;
-use crate::holds;
+use crate::owned::own_by;
 use crate::tell_by;
 use answers::Reading;
 
@@ -87,8 +87,7 @@ pub fn extract_own_in(
     requires { ⌜ Extractable len nodes (size (now notes)) ⌝ }
     ensures { λ r. ⌜ outcome r (now (canonical .exit)) (numbers (now (records .exit))) ≡ extractingOwn (now (sheet .entry)) len (numbers (now (rows .entry))) nodes (now (canonical .entry)) (numbers (now (records .entry))) ⌝ }
 {
-    let noted = lookup::note_in(sheet, len, notes, rows.len(), nodes);
-    let own = holds(rows, notes, noted, nodes);
+    let own = own_by(sheet, len, rows, nodes, notes);
     let r = extract::give(sheet, len, notes, nodes, own, canonical, records.len());
     tell_by(records, notes, r, 0);
     r

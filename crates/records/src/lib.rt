@@ -3,6 +3,7 @@
 mod asked; // asked.rt: a sheet changed as asked
 mod corrections; // corrections.rt: elements put into lists, and nodes removed
 mod foremen; // foremen.rt: extracts
+pub mod owned; // owned.rt: whether records are a sheet's own
 mod piecing; // piecing.rt: texts in pieces
 mod told; // told.rt: the record that a note tells
 
@@ -24,6 +25,7 @@ pub use corrections::insert;
 pub use corrections::remove;
 pub use foremen::extract;
 pub use foremen::extract_own;
+pub use owned::own_by;
 pub use piecing::pieces_end;
 
 // A node's record: its nine numbers, in the order of S 4.1.
@@ -69,7 +71,7 @@ fn tell_by(records: &mut [Record], notes: &[usize], r: Reading, old: usize)
 }
 
 // Whether the records in use are those that notes tell.
-pub fn holds(records: &[Record], notes: &[usize], noted: bool, nodes: usize) -> bool
+fn holds(records: &[Record], notes: &[usize], noted: bool, nodes: usize) -> bool
     requires { ⌜ Comparable (now notes) noted nodes (size (now records)) ⌝ }
     ensures { λ b. ⌜ b ≡ agreed (now (records .entry)) (now (notes .entry)) noted (looked noted nodes) ⌝ }
 {
@@ -169,8 +171,7 @@ fn place_in(
     requires { ⌜ Notes nodes (size (now notes)) ⌝ }
     ensures { λ r. ⌜ placed r ≡ partOf hinted (now (canonical .entry)) len (numbers (now (records .entry))) nodes node ⌝ }
 {
-    let noted = lookup::note_in(canonical, len, notes, records.len(), nodes);
-    let own = holds(records, notes, noted, nodes);
+    let own = own_by(canonical, len, records, nodes, notes);
     lookup::place_by(notes, nodes, node, own, hinted)
 }
 

@@ -1,4 +1,3 @@
-pub mod Knowing
 pub mod Asked
 pub mod InWalk
 pub mod LongWalk

@@ -1,5 +1,5 @@
-// A node's value, a shift line and a list of lines, with the table lent as records: the sheet is noted, the records compared with the
-// notes, and the node looked at by them. Notes stand in local space, in three sizes by the node count.
+// A node's value, a shift line and a list of lines, with the table lent as records: the records are compared with the sheet, and the
+// node looked at by its notes. Notes stand in local space, in three sizes by the node count.
 ghost use mathlib.Core.Path.{_≡_};
 ghost use lib.ListN.{length as size};
 ghost use Rattle.typed.specs.Cases.{valued, lined, summed};
@@ -23,8 +23,7 @@ fn value_in(
     requires { ⌜ Notes nodes (size (now notes)) ⌝ }
     ensures { λ r. ⌜ valued r ≡ valuing (now (canonical .entry)) len (numbers (now (records .entry))) nodes node ⌝ }
 {
-    let noted = lookup::note_in(canonical, len, notes, records.len(), nodes);
-    let own = records::holds(records, notes, noted, nodes);
+    let own = records::own_by(canonical, len, records, nodes, notes);
     shifts::value_by(canonical, notes, nodes, node, own)
 }
 
@@ -95,8 +94,7 @@ fn line_in(
     requires { ⌜ Notes nodes (size (now notes)) ⌝ }
     ensures { λ r. ⌜ lined r ≡ lining (now (canonical .entry)) len (numbers (now (records .entry))) nodes node ⌝ }
 {
-    let noted = lookup::note_in(canonical, len, notes, records.len(), nodes);
-    let own = records::holds(records, notes, noted, nodes);
+    let own = records::own_by(canonical, len, records, nodes, notes);
     shifts::line_by(canonical, notes, nodes, node, own)
 }
 
@@ -167,8 +165,7 @@ fn week_in(
     requires { ⌜ Notes nodes (size (now notes)) ⌝ }
     ensures { λ r. ⌜ summed r ≡ summing (now (canonical .entry)) len (numbers (now (records .entry))) nodes node ⌝ }
 {
-    let noted = lookup::note_in(canonical, len, notes, records.len(), nodes);
-    let own = records::holds(records, notes, noted, nodes);
+    let own = records::own_by(canonical, len, records, nodes, notes);
     shifts::week_by(canonical, notes, nodes, node, own)
 }
 
