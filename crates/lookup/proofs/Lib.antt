@@ -7,3 +7,4 @@ pub mod SideBySide
 pub mod Spans
 pub mod Answered
 pub mod Noting
+pub mod Pacing

@@ -4,3 +4,4 @@ pub mod Tokens
 pub mod Agreed
 pub mod Strings
 pub mod Noted
+pub mod Pacing

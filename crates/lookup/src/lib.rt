@@ -1,6 +1,7 @@
 // Sheets looked into: whether octets are one, whether a table is its own, what a node shows, and two of them compared.
 mod alike; // alike.rt: lexeme by lexeme
 pub mod noted; // noted.rt: a sheet by its notes
+pub mod turns; // turns.rt: a sheet and its records, one node at a time
 mod parts; // parts.rt: octets compared
 mod tiers; // tiers.rt: notes in local space
 
@@ -20,6 +21,10 @@ use answers::refused_comparing;
 pub use noted::note_in;
 pub use noted::own_notes;
 pub use noted::place_by;
+pub use tables::node_of;
+pub use turns::answer;
+pub use turns::bound;
+pub use turns::turn;
 use walk::Extent;
 
 // Whether the first `length` octets are one fitting canonical form (S 1.1: a sheet).

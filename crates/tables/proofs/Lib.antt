@@ -10,3 +10,5 @@ pub mod Turning
 pub mod Alike
 pub mod Meeting
 pub mod Owning
+pub mod Pacing
+pub mod Coming

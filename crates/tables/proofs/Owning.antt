@@ -171,10 +171,10 @@ module _ (src table : List ℕ) (n : ℕ) (notes₀ notes : List ℕ) (at up ope
 
           -- ---- a record from the table
 
-          module _ (row : coded.Row) (t : RowAt table k row) (parent : ℕ) (u : parent ≡ getD table (k * width + 8) 0) where
-            given : R k ≡ recordList row parent
-            given = taken table k row parent (own-record .1) t u
+          pub own-taken : (row : coded.Row) → RowAt table k row → (parent : ℕ) → parent ≡ getD table (k * width + 8) 0 → R k ≡ recordList row parent
+          own-taken row t parent u = taken table k row parent (own-record .1) t u
 
+          module _ (row : coded.Row) (parent : ℕ) (given : R k ≡ recordList row parent) where
             -- a list begins
             module _ (b : getD src at 0 ≡ 40) (notes′ : List ℕ) (r : Bool) (c : Begins (recordList row parent) at up opened k n (length src) notes notes′ r) where
               pub begin-off : r ≡ false → Checked src table n notes′ false

@@ -3,3 +3,4 @@ pub mod Told
 pub mod Owned
 pub mod Wanted
 pub mod Going
+pub mod Turns

@@ -1,6 +1,7 @@
 // The table of a sheet, told by its notes: filled from them, and compared with them.
 mod beside; // beside.rt: octets and a table side by side
 mod rows; // rows.rt: a node's record
+mod turns; // turns.rt: the same one node at a time
 mod told; // told.rt: the record that a note tells
 
 ghost use mathlib.Core.Path.{_≡_};
@@ -17,6 +18,9 @@ use rows::row_is;
 pub use told::over;
 pub use told::parent_of;
 pub use told::row_of;
+pub use turns::TOP;
+pub use turns::node_of;
+pub use turns::turn;
 
 // The table that the first notes tell, written from the front; what lies past it stays.
 pub fn fill(notes: &[usize], count: usize, table: &mut [u32])

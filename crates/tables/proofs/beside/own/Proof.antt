@@ -1,6 +1,6 @@
 use Prim.Native.Nat.{_-_}
 use lib.ListN.{length}
-use Rattle.tables.proofs.Owning.{Owning, own-start, own-up, own-inside, own-long, own-more, own-whole, own-short, own-full, shut-none, shut-ready, shut-off, shut-on, own-meets, own-unread, own-record, own-row, own-small, own-less, plain-off, plain-on, begin-off, begin-on, hint-off, hint-less, hint-on}
+use Rattle.tables.proofs.Owning.{Owning, own-start, own-up, own-inside, own-long, own-more, own-whole, own-short, own-full, shut-none, shut-ready, shut-off, shut-on, own-meets, own-unread, own-record, own-taken, own-row, own-small, own-less, plain-off, plain-on, begin-off, begin-on, hint-off, hint-less, hint-on}
 use native.Mathlib.Omega.{arith}
 use borrow.Author.Needs.{needs}
 use Rattle.tables.proofs.beside.own.Statement.{statement}
@@ -136,13 +136,13 @@ loop-less-3 : tie.Need-loop-less-3 Inv-loop μ-loop
 loop-less-3 c = search needs
 
 loop-again-3 : tie.Need-loop-again-3 Inv-loop μ-loop
-loop-again-3 c = begin-on _ _ _ _ _ _ _ _ _ (c .before .before .before .before .before .before .before .before .before .before .before .before .before .before .before .before .loop .inv) _ (c .before .before .before .before .before .before .before .before .before .before .before .before .before .before .before .closed .ensures) (c .before .before .before .before .before .before .before .before .before .before .before .before .before .before .if1 .left) (c .before .before .before .before .before .before .before .before .before .before .before .before .before .if3 .left) (c .before .before .before .before .before .before .before .before .before .before .if7 .left) _ (c .before .before .before .before .before .before .before .row-at .ensures) _ (c .before .before .before .before .before .before .parent-at .ensures) (c .before .before .before .before .before .if10 .taken) _ _ (c .before .before .before .begins .ensures) (c .if11 .taken)
+loop-again-3 c = begin-on _ _ _ _ _ _ _ _ _ (c .before .before .before .before .before .before .before .before .before .before .before .before .before .before .before .before .loop .inv) _ (c .before .before .before .before .before .before .before .before .before .before .before .before .before .before .before .closed .ensures) (c .before .before .before .before .before .before .before .before .before .before .before .before .before .before .if1 .left) (c .before .before .before .before .before .before .before .before .before .before .before .before .before .if3 .left) (c .before .before .before .before .before .before .before .before .before .before .if7 .left) _ _ (own-taken _ _ _ _ _ _ _ _ _ (c .before .before .before .before .before .before .before .before .before .before .before .before .before .before .before .before .loop .inv) _ (c .before .before .before .before .before .before .before .before .before .before .before .before .before .before .before .closed .ensures) (c .before .before .before .before .before .before .before .before .before .before .before .before .before .before .if1 .left) (c .before .before .before .before .before .before .before .before .before .before .before .before .before .if3 .left) (c .before .before .before .before .before .before .before .before .before .before .if7 .left) _ (c .before .before .before .before .before .before .before .row-at .ensures) _ (c .before .before .before .before .before .before .parent-at .ensures)) (c .before .before .before .before .before .if10 .taken) _ _ (c .before .before .before .begins .ensures) (c .if11 .taken)
 
 same-length-8 : tie.Need-same-length-8 Inv-loop μ-loop
 same-length-8 c = search (own-long, arith)
 
 returns-8 : tie.Need-returns-8 Inv-loop μ-loop
-returns-8 c = search (begin-off, arith)
+returns-8 c = begin-off _ _ _ _ _ _ _ _ _ (c .before .before .before .before .before .before .before .before .before .before .before .before .before .before .before .before .loop .inv) _ (c .before .before .before .before .before .before .before .before .before .before .before .before .before .before .before .closed .ensures) (c .before .before .before .before .before .before .before .before .before .before .before .before .before .before .if1 .left) (c .before .before .before .before .before .before .before .before .before .before .before .before .before .if3 .left) (c .before .before .before .before .before .before .before .before .before .before .if7 .left) _ _ (own-taken _ _ _ _ _ _ _ _ _ (c .before .before .before .before .before .before .before .before .before .before .before .before .before .before .before .before .loop .inv) _ (c .before .before .before .before .before .before .before .before .before .before .before .before .before .before .before .closed .ensures) (c .before .before .before .before .before .before .before .before .before .before .before .before .before .before .if1 .left) (c .before .before .before .before .before .before .before .before .before .before .before .before .before .if3 .left) (c .before .before .before .before .before .before .before .before .before .before .if7 .left) _ (c .before .before .before .before .before .before .before .row-at .ensures) _ (c .before .before .before .before .before .before .parent-at .ensures)) (c .before .before .before .before .before .if10 .taken) _ _ (c .before .before .before .begins .ensures) (c .if11 .left)
 
 hints-requires : tie.Need-hints-requires Inv-loop μ-loop
 hints-requires c κs = (own-meets _ _ _ _ _ _ _ _ _ (c .before .before .before .before .before .before .before .before .before .before .before .before .loop .inv) _ (c .before .before .before .before .before .before .before .before .before .before .before .closed .ensures) (c .before .before .before .before .before .before .before .before .before .before .if1 .left) (c .before .before .before .before .before .before .before .before .before .if3 .left) (c .before .before .before .before .before .before .if7 .left), own-unread _ _ _ _ _ _ _ _ _ (c .before .before .before .before .before .before .before .before .before .before .before .before .loop .inv) _ (c .before .before .before .before .before .before .before .before .before .before .before .closed .ensures) (c .before .before .before .before .before .before .before .before .before .before .if1 .left) (c .before .before .before .before .before .before .before .before .before .if3 .left) (c .before .before .before .before .before .before .before .if4 .left) _ (c .before .before .before .before .before .string-at .ensures) (c .before .before .before .before .if8 .left) (c .before .if10 .left))
@@ -151,16 +151,16 @@ same-length-9 : tie.Need-same-length-9 Inv-loop μ-loop
 same-length-9 c = search (own-long, arith)
 
 returns-9 : tie.Need-returns-9 Inv-loop μ-loop
-returns-9 c = search (hint-off, arith)
+returns-9 c = hint-off _ _ _ _ _ _ _ _ _ (c .before .before .before .before .before .before .before .before .before .before .before .before .before .before .before .before .loop .inv) _ (c .before .before .before .before .before .before .before .before .before .before .before .before .before .before .before .closed .ensures) (c .before .before .before .before .before .before .before .before .before .before .before .before .before .before .if1 .left) (c .before .before .before .before .before .before .before .before .before .before .before .before .before .if3 .left) (c .before .before .before .before .before .before .before .before .before .before .if7 .left) _ _ (own-taken _ _ _ _ _ _ _ _ _ (c .before .before .before .before .before .before .before .before .before .before .before .before .before .before .before .before .loop .inv) _ (c .before .before .before .before .before .before .before .before .before .before .before .before .before .before .before .closed .ensures) (c .before .before .before .before .before .before .before .before .before .before .before .before .before .before .if1 .left) (c .before .before .before .before .before .before .before .before .before .before .before .before .before .if3 .left) (c .before .before .before .before .before .before .before .before .before .before .if7 .left) _ (c .before .before .before .before .before .before .before .row-at .ensures) _ (c .before .before .before .before .before .before .parent-at .ensures)) _ _ (c .before .before .before .hints .ensures) (c .if12 .taken)
 
 add-seen-3 : tie.Need-add-seen-3 Inv-loop μ-loop
 add-seen-3 c = search needs
 
 loop-less-4 : tie.Need-loop-less-4 Inv-loop μ-loop
-loop-less-4 c = search (hint-less, arith)
+loop-less-4 c = hint-less _ _ _ _ _ _ _ _ _ (c .before .before .before .before .before .before .before .before .before .before .before .before .before .before .before .before .loop .inv) _ (c .before .before .before .before .before .before .before .before .before .before .before .before .before .before .before .closed .ensures) (c .before .before .before .before .before .before .before .before .before .before .before .before .before .before .if1 .left) (c .before .before .before .before .before .before .before .before .before .before .before .before .before .if3 .left) (c .before .before .before .before .before .before .before .before .before .before .if7 .left) _ _ (own-taken _ _ _ _ _ _ _ _ _ (c .before .before .before .before .before .before .before .before .before .before .before .before .before .before .before .before .loop .inv) _ (c .before .before .before .before .before .before .before .before .before .before .before .before .before .before .before .closed .ensures) (c .before .before .before .before .before .before .before .before .before .before .before .before .before .before .if1 .left) (c .before .before .before .before .before .before .before .before .before .before .before .before .before .if3 .left) (c .before .before .before .before .before .before .before .before .before .before .if7 .left) _ (c .before .before .before .before .before .before .before .row-at .ensures) _ (c .before .before .before .before .before .before .parent-at .ensures)) _ _ (c .before .before .before .hints .ensures) (c .if12 .left)
 
 loop-again-4 : tie.Need-loop-again-4 Inv-loop μ-loop
-loop-again-4 c = hint-on _ _ _ _ _ _ _ _ _ (c .before .before .before .before .before .before .before .before .before .before .before .before .before .before .before .before .loop .inv) _ (c .before .before .before .before .before .before .before .before .before .before .before .before .before .before .before .closed .ensures) (c .before .before .before .before .before .before .before .before .before .before .before .before .before .before .if1 .left) (c .before .before .before .before .before .before .before .before .before .before .before .before .before .if3 .left) (c .before .before .before .before .before .before .before .before .before .before .if7 .left) _ (c .before .before .before .before .before .before .before .row-at .ensures) _ (c .before .before .before .before .before .before .parent-at .ensures) _ _ (c .before .before .before .hints .ensures) (c .if12 .left)
+loop-again-4 c = hint-on _ _ _ _ _ _ _ _ _ (c .before .before .before .before .before .before .before .before .before .before .before .before .before .before .before .before .loop .inv) _ (c .before .before .before .before .before .before .before .before .before .before .before .before .before .before .before .closed .ensures) (c .before .before .before .before .before .before .before .before .before .before .before .before .before .before .if1 .left) (c .before .before .before .before .before .before .before .before .before .before .before .before .before .if3 .left) (c .before .before .before .before .before .before .before .before .before .before .if7 .left) _ _ (own-taken _ _ _ _ _ _ _ _ _ (c .before .before .before .before .before .before .before .before .before .before .before .before .before .before .before .before .loop .inv) _ (c .before .before .before .before .before .before .before .before .before .before .before .before .before .before .before .closed .ensures) (c .before .before .before .before .before .before .before .before .before .before .before .before .before .before .if1 .left) (c .before .before .before .before .before .before .before .before .before .before .before .before .before .if3 .left) (c .before .before .before .before .before .before .before .before .before .before .if7 .left) _ (c .before .before .before .before .before .before .before .row-at .ensures) _ (c .before .before .before .before .before .before .parent-at .ensures)) _ _ (c .before .before .before .hints .ensures) (c .if12 .left)
 
 pub own-spec : {M : Type 1} → statement M
 own-spec =
