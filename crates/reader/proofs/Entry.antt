@@ -6,11 +6,13 @@ use mathlib.Core.Bool.{Bool, true}
 use mathlib.Core.List.{List}
 use lib.ListN.{length}
 use lib.Seq.{sets}
+use lib.Dec.{eqb}
+use borrow.Author.Tests.{eqb-true}
 use Rattle.model.specs.Answers.{unchanged, placeOf, telling, noForm, textChecks, readingChecks, reading}
 use Rattle.model.specs.Decode.{decode}
 use Rattle.model.specs.Limits.{maxSource, mostNodes}
 use Rattle.sheets.specs.Places.{shift}
-use Rattle.texts.specs.Texts.{textVerdict, Formed, Bare}
+use Rattle.texts.specs.Texts.{textVerdict, Formed, Literal, Bare}
 use Rattle.model.proofs.Telling.{telling-same}
 use Rattle.texts.proofs.Rows.{row-other, text-refused, text-taken}
 use Rattle.texts.proofs.Sizes.{small-takes, long-takes}
@@ -39,6 +41,10 @@ module _ (form n s m : ℕ) where
 
   pub long-spaced : Formed form n maxSource → maxSource + 16448 ≤ s → s < shift → mostNodes ≤ m → Spaced form n s m
   long-spaced f h j k = noted-long f h j (most k)
+
+-- ---- canonical text
+pub literal-so : (form n : ℕ) → Formed form n maxSource → (b : Bool) → b ≡ eqb form 1 → b ≡ true → Literal form n
+literal-so form n f b e y = record { is = eqb-true form 1 (sym e ∙ y); short = f .short }
 
 -- ---- basic text outside braces is canonical text
 module _ (form : ℕ) (source : List ℕ) (b : Bool) (g : Bare form source b) (e : b ≡ true) where

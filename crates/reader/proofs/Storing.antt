@@ -26,7 +26,7 @@ use Rattle.answers.specs.declared.Refusal.{Refusal}
 use Rattle.answers.specs.declared.Reading.{Reading}
 use Rattle.answers.specs.declared.Reading.the-variants as reading
 use Rattle.rooms.specs.Rooms.{roomVerdict}
-use Rattle.reader.specs.Stored.{readTree, Noteable, halved, most, Spaced, Accepting, Puts}
+use Rattle.reader.specs.Stored.{readTree, Noteable, halved, most, Accepting, Puts}
 use Rattle.rooms.proofs.Rooms.{Lodged, roomy}
 use Rattle.reader.proofs.Judged.{tree-none, tree-refused, tree-accepted, settled-front}
 
@@ -94,9 +94,9 @@ module _ (form : ℕ) (source canonical scratch : List ℕ) (n : ℕ) (notes not
         put-room = omega (arith, lodged .lent)
 
         -- the notes have room for the tree, whichever size they have
-        module _ (space : ℕ) (s : Spaced form (length source) space (length notes)) where
+        module _ (s : Noteable (length source) (length notes)) where
           room : nodes tree ≤ length notes
-          room = by (s .room)
+          room = by s
             where
               by : Noteable (length source) (length notes) → nodes tree ≤ length notes
               by (halved z) = omega (arith, nodes-within-half tree, tripled form source tree (whole .is))

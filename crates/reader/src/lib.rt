@@ -7,6 +7,7 @@ ghost use lib.ListN.{length};
 ghost use Rattle.model.specs.Decode.{decode};
 ghost use Rattle.model.specs.Answers.{placeOf, reading};
 ghost use Rattle.answers.specs.Cases.{outcome};
+ghost use Rattle.texts.specs.Texts.{Literal};
 ghost use Rattle.reader.specs.Stored.{readTree, Noteable, Spaced, Puts};
 use answers::Reading;
 use answers::refused;
@@ -32,6 +33,31 @@ pub fn put(
                 return refused(row);
             }
             scan::copy(scratch, 0, len, canonical, 0);
+            Reading::Accepted { length: len, nodes }
+        }
+        Extent::Refused { place } => refused_at(3, place),
+    }
+}
+
+// The same of canonical text, whose octets are its own: no scratch is asked for.
+pub fn put_literal(
+    form: u32,
+    source: &[u8],
+    canonical: &mut [u8],
+    records: usize,
+    notes: &mut [usize],
+) -> Reading
+    requires { ⌜ Literal form (length (now source)) ⌝ }
+    requires { ⌜ Noteable (length (now source)) (length (now notes)) ⌝ }
+    ensures { λ r. ⌜ Puts (readTree (decode form (now (source .entry))) (placeOf form (now (source .entry))) (now (canonical .entry))) (now (canonical .exit)) records (now (notes .exit)) r ⌝ }
+{
+    match texts::take_literal(form, source, notes) {
+        Extent::Whole { len, nodes, depth } => {
+            let row = rooms::room(len, nodes, depth, canonical.len(), records);
+            if row > 0 {
+                return refused(row);
+            }
+            scan::copy(source, 0, len, canonical, 0);
             Reading::Accepted { length: len, nodes }
         }
         Extent::Refused { place } => refused_at(3, place),

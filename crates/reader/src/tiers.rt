@@ -5,9 +5,10 @@ ghost use Rattle.model.specs.Answers.{placeOf};
 ghost use Rattle.model.specs.Decode.{decode};
 ghost use Rattle.model.specs.Limits.{maxSource};
 ghost use Rattle.answers.specs.Cases.{outcome};
-ghost use Rattle.texts.specs.Texts.{Formed};
+ghost use Rattle.texts.specs.Texts.{Formed, Literal};
 ghost use Rattle.reader.specs.Stored.{readTree, Noteable, Puts};
 use crate::put;
+use crate::put_literal;
 use crate::read_in;
 use answers::Reading;
 
@@ -45,10 +46,29 @@ pub fn read_middle(form: u32, source: &[u8], canonical: &mut [u8], table: &mut [
     read_in(form, source, canonical, table, &mut scratch, &mut notes)
 }
 
+// Canonical text of any length: notes alone.
+fn read_literal(form: u32, source: &[u8], canonical: &mut [u8], table: &mut [u32]) -> Reading
+    requires { ⌜ Literal form (length (now source)) ⌝ }
+    ensures { λ r. ⌜ outcome r (now (canonical .exit)) (now (table .exit)) ≡ readTree (decode form (now (source .entry))) (placeOf form (now (source .entry))) (now (canonical .entry)) (now (table .entry)) ⌝ }
+{
+    let mut notes: [usize; limits::NODES] = [0; limits::NODES];
+    let records = table.len() / limits::WIDTH;
+    match put_literal(form, source, canonical, records, &mut notes) {
+        Reading::Accepted { length, nodes } => {
+            tables::fill(&notes, nodes, table);
+            Reading::Accepted { length, nodes }
+        }
+        Reading::Refused { refusal } => Reading::Refused { refusal },
+    }
+}
+
 pub fn read_long(form: u32, source: &[u8], canonical: &mut [u8], table: &mut [u32]) -> Reading
     requires { ⌜ Formed form (length (now source)) maxSource ⌝ }
     ensures { λ r. ⌜ outcome r (now (canonical .exit)) (now (table .exit)) ≡ readTree (decode form (now (source .entry))) (placeOf form (now (source .entry))) (now (canonical .entry)) (now (table .entry)) ⌝ }
 {
+    if texts::literal(form) {
+        return read_literal(form, source, canonical, table);
+    }
     let mut scratch: [u8; limits::LONG_SCRATCH] = [0; limits::LONG_SCRATCH];
     let mut notes: [usize; limits::NODES] = [0; limits::NODES];
     read_in(form, source, canonical, table, &mut scratch, &mut notes)
@@ -95,6 +115,9 @@ fn put_long(
     requires { ⌜ Noteable (length (now source)) (length (now notes)) ⌝ }
     ensures { λ r. ⌜ Puts (readTree (decode form (now (source .entry))) (placeOf form (now (source .entry))) (now (canonical .entry))) (now (canonical .exit)) records (now (notes .exit)) r ⌝ }
 {
+    if texts::literal(form) {
+        return put_literal(form, source, canonical, records, notes);
+    }
     let mut scratch: [u8; limits::LONG_SCRATCH] = [0; limits::LONG_SCRATCH];
     put(form, source, canonical, records, &mut scratch, notes)
 }

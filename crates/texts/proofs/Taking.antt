@@ -10,7 +10,8 @@ use lib.Seq.{take-length, take-at}
 use Rattle.base.proofs.Cases.{none-some}
 use Rattle.base.proofs.Stores.{sets-all}
 use Rattle.model.specs.Automaton.{place}
-use Rattle.model.specs.Decode.{decode₁}
+use Rattle.model.specs.Answers.{placeOf}
+use Rattle.model.specs.Decode.{decode₁, decode}
 use Rattle.model.specs.Limits.{maxSource, maxCanonical, maxDepth}
 use Rattle.model.specs.Tree.{Tree, canon, nodes, depth}
 use Rattle.model.proofs.Canonical.{canon-sound, canon-complete}
@@ -26,7 +27,7 @@ use Rattle.tables.specs.Told.{Holds}
 use Rattle.sheets.proofs.Keeping.{noted-length}
 use Rattle.tables.proofs.Held.{note-holds}
 use Rattle.sheets.proofs.Noting.{whole-refused}
-use Rattle.texts.specs.Texts.{Taken}
+use Rattle.texts.specs.Texts.{Literal, Taken}
 
 -- scratch has room for the text as it stands, and more
 pub lent-room : (n room : ℕ) → Lent n room → n + 64 ≤ room
@@ -73,6 +74,12 @@ module _ (text scratch : List ℕ) (g : Lent (length text) (length scratch)) whe
 
     pub canonical-copied : (r′ : Extent) → r ≡ r′ → Taken (decode₁ text) (place text) scratch′ notes notes′ r′
     canonical-copied r′ e = subst (Taken (decode₁ text) (place text) scratch′ notes notes′) e copied
+
+-- its own octets
+pub literal-taken : (form : ℕ) (text notes notes′ : List ℕ) (r : Extent) → Literal form (length text) → Noted text notes notes′ r → Taken (decode form text) (placeOf form text) text notes notes′ r
+unfolding decode placeOf
+literal-taken form text notes notes′ r g v =
+    rw (g .is) (through (decode₁ text) text text notes notes′ r v (g .short) refl (place text) r (v .measures) (v .fails) (λ _. take-length text))
 
 -- ---- advanced text
 pub converted : (β : Bool) (o : Option Tree) (scratch notes notes′ : List ℕ) (r : Extent) → Converts β o scratch notes notes′ r → β ≡ false → Taken o 0 scratch notes notes′ r

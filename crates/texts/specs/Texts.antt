@@ -38,6 +38,11 @@ pub record Formed (form n bound : ℕ) : Type 0 where
   pub high : form ≤ 4
   pub short : n ≤ bound
 
+-- canonical text of n octets, to which row 2 doesn't apply
+pub record Literal (form n : ℕ) : Type 0 where
+  pub is : form ≡ 1
+  pub short : n ≤ maxSource
+
 -- a text that begins with a brace
 pub record Braced (text : List ℕ) : Type 0 where
   pub more : 0 < length text

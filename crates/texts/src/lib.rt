@@ -2,13 +2,14 @@
 // takes a text takes it through these, and sees nothing of its form.
 ghost use mathlib.Core.Path.{_≡_};
 ghost use lib.ListN.{length};
+ghost use lib.Dec.{eqb};
 ghost use Rattle.model.specs.Grammar.{rules};
 ghost use Rattle.model.specs.Answers.{placeOf};
 ghost use Rattle.model.specs.Automaton.{place};
 ghost use Rattle.model.specs.Decode.{decode₁, decode₂, decode₃, decode};
 ghost use Rattle.octets.specs.Classes.{Classed, Lettered};
 ghost use Rattle.advanced.specs.Converted.{Lent};
-ghost use Rattle.texts.specs.Texts.{textVerdict, Takeable, Braced, Coded, Opens, Bare, Taken};
+ghost use Rattle.texts.specs.Texts.{textVerdict, Takeable, Literal, Braced, Coded, Opens, Bare, Taken};
 use walk::Extent;
 
 // Row 1 or 2, of a form and a text's length; 0 where neither applies.
@@ -54,6 +55,21 @@ pub fn bare(form: u32, text: &[u8]) -> bool
         return false;
     }
     true
+}
+
+// Whether a text of the form is its own octets, whatever it holds: canonical text.
+pub fn literal(form: u32) -> bool
+    ensures { λ r. ⌜ r ≡ eqb form 1 ⌝ }
+{
+    form == 1
+}
+
+// Such a text: its octets stand for those in scratch, and nothing is copied.
+pub fn take_literal(form: u32, text: &[u8], notes: &mut [usize]) -> Extent
+    requires { ⌜ Literal form (length (now text)) ⌝ }
+    ensures { λ r. ⌜ Taken (decode form (now (text .entry))) (placeOf form (now (text .entry))) (now (text .entry)) (now (notes .entry)) (now (notes .exit)) r ⌝ }
+{
+    sheets::note(text, notes)
 }
 
 // Canonical text is its own octets.
