@@ -1,4 +1,4 @@
-use Rattle.splice.proofs.Moving.{growing-low, grown-held, grown-aside}
+use Rattle.splice.proofs.Noting.{growing-low, grown-held, grown-aside}
 use native.Mathlib.Omega.{arith}
 use borrow.Author.Needs.{needs}
 use Rattle.splice.proofs.notes.grown.Statement.{statement}
@@ -17,6 +17,10 @@ pub grown-spec : {M : Type 1} → statement M
 grown-spec =
     tie.close
     (tie.spec
+    (λ c. search needs)
+    (λ c. search needs)
+    (λ c. search needs)
+    (λ c. search needs)
     (λ c. search needs)
     sub-result
     returns

@@ -1,4 +1,4 @@
-use Rattle.splice.proofs.Moving.{moved-plain, moved-hinted, moved-list, moving-hinted}
+use Rattle.splice.proofs.Noting.{moved-plain, moved-hinted, moved-list, moving-hinted}
 use native.Mathlib.Omega.{arith}
 use borrow.Author.Needs.{needs}
 use Rattle.splice.proofs.notes.moved.Statement.{statement}
