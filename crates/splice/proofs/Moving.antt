@@ -3,7 +3,7 @@ use Prim.Native.Nat.{ℕ, suc, _+_, _-_, _≤_, _<_}
 use native.Mathlib.Omega.{arith}
 use native.Mathlib.Numerals.{add-one}
 use mathlib.Core.Path.{_≡_, refl, sym, ap, ap₂, _∙_, subst}
-use mathlib.Core.Bool.{Bool}
+use mathlib.Core.Bool.{Bool, true, false}
 use mathlib.Core.List.{List}
 use lib.ListN.{length, getD, set, length-set}
 use lib.Seq.{getD-set-same, getD-set-other}
@@ -12,7 +12,8 @@ use borrow.Author.Tests.{ne-eqb}
 use Rattle.base.specs.Choice.{pick}
 use Rattle.base.proofs.Cases.{by-bool, by-eq, picked, unpicked}
 use Rattle.edits.specs.Levels.{latest}
-use Rattle.splice.specs.Moved.{laterNote, ownNote, listOver, grownNote, lastOf, Later, Owning, Growing, overAt, Growable, Growths, Grown, Shiftable, Shifted, ownAt, Puttable, Put}
+use Rattle.splice.specs.Moved.{laterNote, ownNote, listOver, grownNote, keptNote, Later, Owning, Growing, overAt, Growable, Growths, Grown, Shiftable, Shifted, ownAt, Puttable, Put}
+use Rattle.splice.proofs.Noting.{kept-grown, kept-aside}
 use Rattle.splice.specs.declared.notes.Growth.{Growth}
 
 -- ---- a store
@@ -56,33 +57,41 @@ module _ (notes : List ℕ) (first e : ℕ) (b : Growth) where
       here : getD cur j 0 ≡ getD notes j 0
       here = a .is .rest j (omega arith)
 
+      -- one more, stored or not: up is then the last so far
+      on : (after : List ℕ) → length after ≡ length cur → getD after j 0 ≡ keptNote (getD notes j 0) e b → ((i : ℕ) → (i ≡ j → ⊥) → getD after i 0 ≡ getD cur i 0)
+          → (up′ : ℕ) → pick (overAt notes e j) j up ≡ up′ → up′ ≤ j + 1 → Around notes first e b after up′ (j + 1)
+      unfolding latest
+      on after long q others up′ w near =
+          let z : first - j ≡ suc (first - (j + 1)) = omega arith in
+          record {
+            given = a .given;
+            inside = omega arith;
+            fits = omega (arith, a .fits);
+            is = record {
+              long = long ∙ a .is .long;
+              done = λ i k. by-eq i j (λ p. rw p q) (λ p. others i p ∙ a .is .done i (omega arith));
+              rest = λ i k. others i (λ p. omega arith) ∙ a .is .rest i (omega arith);
+            };
+            near = near;
+            inner = ap₂ (λ (k u : ℕ). latest (overAt notes e) (first - (j + 1)) k u) (add-one j) (sym w)
+                ∙ sym (ap (λ (n : ℕ). latest (overAt notes e) n j up) z) ∙ a .inner;
+          }
+
       module _ (o : Bool) (f : o ≡ listOver (getD cur j 0) e) where
-        over-is : o ≡ overAt notes e j
-        over-is = f ∙ ap (λ (m : ℕ). listOver m e) here
+        over-is : overAt notes e j ≡ o
+        over-is = sym (f ∙ ap (λ (m : ℕ). listOver m e) here)
 
-        pub grow-growing : Growing (getD cur j 0) o b
-        grow-growing = rw (here, over-is) (a .given .each j h)
+        pub grow-growing : o ≡ true → Growing (getD cur j 0) b
+        grow-growing y = rw here (a .given .each j h (over-is ∙ y))
 
-        pub grow-on : (v : ℕ) → v ≡ grownNote (getD cur j 0) o b → (up′ : ℕ) → up′ ≡ lastOf o j up → Around notes first e b (set cur j v) up′ (j + 1)
-        unfolding latest
-        grow-on v q up′ w =
-            let z : first - j ≡ suc (first - (j + 1)) = omega arith in
-            record {
-              given = a .given;
-              inside = omega arith;
-              fits = omega (arith, length-set cur j v, a .fits);
-              is = record {
-                long = length-set cur j v ∙ a .is .long;
-                done = λ i k.
-                    by-eq i j
-                    (λ p. rw p (getD-set-same cur j v 0 (omega (arith, a .fits)) ∙ q ∙ ap₂ (λ (m : ℕ) (c : Bool). grownNote m c b) here over-is))
-                    (λ p. stored-other cur j v i p ∙ a .is .done i (omega arith));
-                rest = λ i k. stored-other cur j v i (λ p. omega arith) ∙ a .is .rest i (omega arith);
-              };
-              near = by-bool o (λ y. omega (arith, w, picked j up y)) (λ y. omega (arith, w, unpicked j up y, a .near));
-              inner = ap₂ (λ (k u : ℕ). latest (overAt notes e) (first - (j + 1)) k u) (add-one j) (w ∙ ap (λ (c : Bool). lastOf c j up) over-is)
-                  ∙ sym (ap (λ (n : ℕ). latest (overAt notes e) n j up) z) ∙ a .inner;
-            }
+        pub grow-over : o ≡ true → (v : ℕ) → v ≡ grownNote (getD cur j 0) b → Around notes first e b (set cur j v) j (j + 1)
+        grow-over y v q =
+            on (set cur j v) (length-set cur j v)
+            (getD-set-same cur j v 0 (omega (arith, a .fits)) ∙ q ∙ ap (λ (m : ℕ). grownNote m b) here ∙ kept-grown (getD notes j 0) e b (over-is ∙ y))
+            (λ i p. stored-other cur j v i p) j (picked _ _ (over-is ∙ y)) (omega arith)
+
+        pub grow-aside : o ≡ false → Around notes first e b cur up (j + 1)
+        grow-aside y = on cur refl (here ∙ kept-aside (getD notes j 0) e b (over-is ∙ y)) (λ i p. refl) up (unpicked _ _ (over-is ∙ y)) (omega (arith, a .near))
 
 -- ---- the notes behind it
 

@@ -4,34 +4,34 @@ use mir.Val.{Fits}
 use Prim.Native.Nat.{ℕ, _+_, _*_, _-_, _/_, _≤_, _<_}
 use native.Mathlib.Omega.{arith}
 use mathlib.Core.Path.{_≡_, sym, ap, _∙_}
-use mathlib.Core.Bool.{Bool, true, false}
+use mathlib.Core.Bool.{true, false}
 use lib.Dec.{leb}
 use borrow.Author.Tests.{lt-ltb, le-ltb, eq-eqb, ne-eqb}
 use Rattle.base.proofs.Cases.{by-eq, by-le, picked, unpicked}
 use Rattle.sheets.specs.Notes.{listMark}
 use Rattle.tables.specs.Told.{endPart, thirdPart}
-use Rattle.splice.specs.Moved.{span, hinting, node, top, movedNote, laterNote, ownNote, listOver, grownNote, lastOf, Moving, Later, Owning, Growing}
+use Rattle.splice.specs.Moved.{span, third, top, plainly, hintedly, movedNote, laterNote, ownNote, listOver, grownNote, keptNote, Moving, Later, Owning}
 use Rattle.splice.specs.declared.notes.Growth.{Growth}
 
 -- ---- a node that moves
 module _ (m l l′ : ℕ) where
-  pub moved-plain : thirdPart m ≡ 0 → m + l′ * span - l * span ≡ movedNote m l l′
+  pub moved-plain : thirdPart m ≡ 0 → plainly m l l′ ≡ movedNote m l l′
   unfolding movedNote
   moved-plain z = sym (picked _ _ (eq-eqb (thirdPart m) 0 z))
 
   module _ (n : thirdPart m ≡ 0 → ⊥) where
-    pub moved-hinted : thirdPart m < listMark → m + l′ * hinting - l * hinting ≡ movedNote m l l′
+    pub moved-hinted : thirdPart m < listMark → hintedly m l l′ ≡ movedNote m l l′
     unfolding movedNote
     moved-hinted h = sym (unpicked _ _ (ne-eqb (thirdPart m) 0 n) ∙ picked _ _ (lt-ltb (thirdPart m) listMark h))
 
-    pub moved-list : listMark ≤ thirdPart m → m + l′ * span - l * span ≡ movedNote m l l′
+    pub moved-list : listMark ≤ thirdPart m → plainly m l l′ ≡ movedNote m l l′
     unfolding movedNote
     moved-list h = sym (unpicked _ _ (ne-eqb (thirdPart m) 0 n) ∙ unpicked _ _ (le-ltb (thirdPart m) listMark h))
 
-  pub moving-hinted : Moving m l l′ → (thirdPart m ≡ 0 → ⊥) → thirdPart m < listMark → l * hinting ≤ m + l′ * hinting
+  pub moving-hinted : Moving m l l′ → (thirdPart m ≡ 0 → ⊥) → thirdPart m < listMark → l * third ≤ plainly m l l′ + l′ * third
   moving-hinted g n h = g .hinted n h
 
-  moved-most : movedNote m l l′ ≤ m + l′ * hinting
+  moved-most : movedNote m l l′ ≤ m + l′ * (span + third)
   moved-most =
       by-eq (thirdPart m) 0
       (λ z. rw (← moved-plain z) (omega arith))
@@ -82,21 +82,11 @@ module _ (m e : ℕ) where
   unfolding listOver
   over-list h = sym (unpicked _ _ (le-ltb (thirdPart m) listMark h))
 
-module _ (m : ℕ) (around : Bool) (b : Growth) where
-  pub grown-held : around ≡ true → m + (b .len + b .count * node) - (b .old + b .held * node) ≡ grownNote m around b
-  unfolding grownNote
-  grown-held y = sym (picked _ _ y)
+module _ (m e : ℕ) (b : Growth) where
+  pub kept-grown : listOver m e ≡ true → grownNote m b ≡ keptNote m e b
+  unfolding keptNote
+  kept-grown y = sym (picked _ _ y)
 
-  pub grown-aside : around ≡ false → m ≡ grownNote m around b
-  unfolding grownNote
-  grown-aside y = sym (unpicked _ _ y)
-
-  pub growing-low : Growing m around b → around ≡ true → b .old + b .held * node ≤ m + (b .len + b .count * node)
-  growing-low g y = g .low y
-
-module _ (around : Bool) (node up : ℕ) where
-  pub last-held : around ≡ true → node ≡ lastOf around node up
-  last-held y = sym (picked _ _ y)
-
-  pub last-aside : around ≡ false → up ≡ lastOf around node up
-  last-aside y = sym (unpicked _ _ y)
+  pub kept-aside : listOver m e ≡ false → m ≡ keptNote m e b
+  unfolding keptNote
+  kept-aside y = sym (unpicked _ _ y)

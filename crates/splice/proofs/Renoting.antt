@@ -9,7 +9,7 @@ use lib.Seq.{take-all}
 use lib.Dec.{eqb}
 use borrow.Author.Tests.{lt-ltb, le-ltb, eq-eqb, ne-eqb, le-leb, lt-leb}
 use Rattle.base.specs.Choice.{pick}
-use Rattle.base.proofs.Cases.{by-bool, by-eq, by-le, picked, unpicked, differ}
+use Rattle.base.proofs.Cases.{by-bool, by-eq, by-le, picked, unpicked}
 use Rattle.model.specs.Limits.{mostNodes, maxSource}
 use Rattle.model.specs.Table.{Row, plainRow, rows, rowss, parents, parentss, rowOf, parentOf}
 use Rattle.model.specs.Tree.{Tree, Forest, canon, canons, nodes, nodess, depth, depths}
@@ -32,9 +32,9 @@ use Rattle.edits.proofs.Above.{root-up, inner-up, change-up-before, change-up-n
 use Rattle.edits.proofs.Inner.{change-inner}
 use Rattle.edits.proofs.Parents.{parentss-one, up-stays, up-shifts}
 use Rattle.edits.proofs.Whole.{canons-one, nodess-one, depths-one, rowss-one}
-use Rattle.splice.specs.Moved.{span, hinting, top, node, roomy, movedNote, laterNote, ownNote, listOver, grownNote, Later, Growing, overAt, ownAt}
+use Rattle.splice.specs.Moved.{span, third, top, plainly, roomy, movedNote, laterNote, ownNote, listOver, keptNote, Later, Growing, overAt, ownAt}
 use Rattle.splice.specs.Renoted.{Renotable}
-use Rattle.splice.proofs.Noting.{moved-plain, moved-hinted, moved-list, later-inside, later-behind, over-string, over-list, grown-held, grown-aside}
+use Rattle.splice.proofs.Noting.{moved-plain, moved-hinted, moved-list, later-inside, later-behind, over-string, over-list, kept-grown, kept-aside}
 use Rattle.splice.specs.declared.notes.Growth.{Growth}
 
 -- ---- a note and its row
@@ -80,7 +80,7 @@ third-other r e = unpicked _ _ (ne-eqb (r .kind) 2 e)
 record Moves (m l l′ : ℕ) (r′ : Row) (up : ℕ) : Type 0 where
   pub is : noteOf r′ up ≡ movedNote m l l′
   pub low : l * span ≤ m + l′ * span
-  pub far : (thirdPart m ≡ 0 → ⊥) → thirdPart m < listMark → l * hinting ≤ m + l′ * hinting
+  pub far : (thirdPart m ≡ 0 → ⊥) → thirdPart m < listMark → l * third ≤ plainly m l l′ + l′ * third
 
 shifts : (b m l l′ : ℕ) (r r′ : Row) (up : ℕ) → m ≡ noteOf r up → Kinded b (thirdPart m) r → Shifts r r′ l l′ → Moves m l l′ r′ up
 shifts b m l l′ r r′ up e (bare z k c) s =
@@ -93,8 +93,8 @@ shifts b m l l′ r r′ up e (marked n i k c) s =
     let h = s .withHint k in
     let p = third-other r (λ q. omega (arith, q, k)) in
     let p′ = third-other r′ (λ q. omega (arith, q, k, s .kind)) in
-    let x : noteOf r′ up + l * hinting ≡ m + l′ * hinting = omega (arith, e, p, p′, h .0, s .dataStart, s .dataEnd) in
     let y : l * span ≤ m + l′ * span = omega (arith, e, s .dataStart, s .dataEnd) in
+    let x : noteOf r′ up + l * third ≡ plainly m l l′ + l′ * third = omega (arith, y, e, p, p′, h .0, s .dataStart, s .dataEnd) in
     record { is = omega (arith, x) ∙ moved-hinted m l l′ n i; low = y; far = λ u v. omega (arith, x) }
 shifts b m l l′ r r′ up e (listed n i k c) s =
     let p = third-list r k in
@@ -127,7 +127,7 @@ over-side m k n i s e r (bare u k′ q) o (round y z w x p) = absurd (omega (ari
 over-side m k n i s e r (marked u v k′ q) o (aside y z) = sym (over-string m e v) ∙ sym (is-aside s (e - s) r y)
 over-side m k n i s e r (marked u v k′ q) o (round y z w x p) = absurd (omega (arith, y, k′))
 
-grows : (m l l′ c c′ : ℕ) (r r′ : Row) (up : ℕ) → m ≡ noteOf r up → r .kind ≡ 2 → Grows r r′ l l′ c c′ → noteOf r′ up + (l + c * node) ≡ m + (l′ + c′ * node)
+grows : (m l l′ c c′ : ℕ) (r r′ : Row) (up : ℕ) → m ≡ noteOf r up → r .kind ≡ 2 → Grows r r′ l l′ c c′ → noteOf r′ up + (l + c * third) ≡ m + (l′ + c′ * third)
 grows m l l′ c c′ r r′ up e k g =
     let p = third-list r k in
     let p′ = third-list r′ (g .kind ∙ k) in
@@ -166,31 +166,27 @@ module _ (octets notes : List ℕ) (first start end count : ℕ) (b : Growth) (w
       let z : start + (end - start) ≡ end = omega (arith, w .ordered) in
       over-side (getD notes i 0) first (w .given) i start end (rowOf t i) (at-kinded i (omega (arith, sums .0))) (w .ordered) (rw z at (change-side (w .change) i h))
 
-  record Ahead (i : ℕ) : Type 0 where
-    pub is : noteOf (rowOf new i) (parentOf new i) ≡ grownNote (getD notes i 0) (overAt notes end i) b
-    pub low : overAt notes end i ≡ true → b .old + b .held * node ≤ getD notes i 0 + (b .len + b .count * node)
+  -- a list around it, whose note grows
+  module _ (i : ℕ) (h : i < first) where
+    up-same : parentOf new i ≡ parentOf t i
+    up-same = change-up-before (w .change) i h
 
-  ahead : (i : ℕ) → i < first → Ahead i
-  ahead i h =
-      let u = change-up-before (w .change) i h in
-      by-bool (overAt notes end i)
-      (λ y.
-      let q = sym (over-is i h) ∙ y in
-      let x : noteOf (rowOf new i) (parentOf t i) + (b .old + b .held * node) ≡ getD notes i 0 + (b .len + b .count * node) =
-      grows (getD notes i 0) (b .old) (b .len) (b .held) (b .count) (rowOf t i) (rowOf new i) (parentOf t i) (at-note i (omega (arith, sums .0))) (change-list (w .change) i h q)
-      (rw (← w .oldLong, ← w .newLong, ← w .held .counted, ← w .newCounted) at (change-grows (w .change) i h q)) in
-      record { is = omega (arith, x, u) ∙ grown-held (getD notes i 0) (overAt notes end i) b y; low = λ z. omega (arith, x) })
-      (λ y.
-      record {
-        is = ap₂ noteOf (change-stays (w .change) i h (sym (over-is i h) ∙ y)) u ∙ sym (at-note i (omega (arith, sums .0))) ∙ grown-aside (getD notes i 0) (overAt notes end i) b y;
-        low = λ z. differ z y;
-      })
+    grew : overAt notes end i ≡ true → noteOf (rowOf new i) (parentOf t i) + (b .old + b .held * third) ≡ getD notes i 0 + (b .len + b .count * third)
+    grew y =
+        let q = sym (over-is i h) ∙ y in
+        grows (getD notes i 0) (b .old) (b .len) (b .held) (b .count) (rowOf t i) (rowOf new i) (parentOf t i) (at-note i (omega (arith, sums .0))) (change-list (w .change) i h q)
+        (rw (← w .oldLong, ← w .newLong, ← w .held .counted, ← w .newCounted) at (change-grows (w .change) i h q))
 
-  pub ahead-growing : (i : ℕ) → i < first → Growing (getD notes i 0) (overAt notes end i) b
-  ahead-growing i h = record { fit = w .fit; small = at-small i (omega (arith, sums .0)); low = ahead i h .low }
+    pub ahead-growing : overAt notes end i ≡ true → Growing (getD notes i 0) b
+    ahead-growing y = record { fit = w .fit; small = at-small i (omega (arith, sums .0)); low = omega (arith, grew y) }
 
-  pub ahead-is : (i : ℕ) → i < first → grownNote (getD notes i 0) (overAt notes end i) b ≡ noteOf (rowOf new i) (parentOf new i)
-  ahead-is i h = sym (ahead i h .is)
+    pub ahead-is : keptNote (getD notes i 0) end b ≡ noteOf (rowOf new i) (parentOf new i)
+    ahead-is =
+        by-bool (overAt notes end i)
+        (λ y. sym (kept-grown (getD notes i 0) end b y) ∙ omega (arith, grew y, up-same))
+        (λ y.
+        sym (kept-aside (getD notes i 0) end b y) ∙ at-note i (omega (arith, sums .0))
+        ∙ sym (ap₂ noteOf (change-stays (w .change) i h (sym (over-is i h) ∙ y)) up-same))
 
   -- ---- behind it: node j is then node j′
   module _ (j j′ : ℕ) (h : first + w .given ≤ j) (i : j < b .held) (e : j′ + b .held ≡ j + b .count) where

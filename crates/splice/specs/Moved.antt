@@ -18,16 +18,13 @@ use Rattle.splice.specs.declared.notes.Growth.{Growth}
 
 -- ---- one note
 
--- what a note grows by where data move by one octet, and where the hint does besides
+-- what a note grows by where its data move by one octet; where its hint does besides, or its list has one node more; and where the list
+-- around it has the next number
 abbrev pub span : ℕ
 span = shift + 1
 
-abbrev pub hinting : ℕ
-hinting = shift * shift + span
-
--- a list's node count stands above its data, and above what else a note tells the number of the list around its node
-abbrev pub node : ℕ
-node = shift * shift
+abbrev pub third : ℕ
+third = shift * shift
 
 abbrev pub top : ℕ
 top = shift * shift * shift
@@ -36,11 +33,15 @@ top = shift * shift * shift
 abbrev pub roomy : ℕ
 roomy = 16384 * top
 
--- the note of a node that moves by l′ less l
+-- the note of a node whose data move by l′ less l, and that of one whose hint does besides
+abbrev pub plainly : ℕ → ℕ → ℕ → ℕ
+plainly m l l′ = m + l′ * span - l * span
+
+abbrev pub hintedly : ℕ → ℕ → ℕ → ℕ
+hintedly m l l′ = plainly m l l′ + l′ * third - l * third
+
 unfoldable pub movedNote : ℕ → ℕ → ℕ → ℕ
-movedNote m l l′ =
-    pick (eqb (thirdPart m) 0) (m + l′ * span - l * span)
-    (pick (ltb (thirdPart m) listMark) (m + l′ * hinting - l * hinting) (m + l′ * span - l * span))
+movedNote m l l′ = pick (eqb (thirdPart m) 0) (plainly m l l′) (pick (ltb (thirdPart m) listMark) (hintedly m l l′) (plainly m l l′))
 
 -- S 15.6: that of a node behind a spot that begins at node k; the list around it keeps its number where it begins before the spot
 unfoldable pub laterNote : ℕ → ℕ → Growth → ℕ
@@ -55,11 +56,12 @@ unfoldable pub listOver : ℕ → ℕ → Bool
 listOver m e = pick (ltb (thirdPart m) listMark) false (leb e (endPart m))
 
 -- its note then
-unfoldable pub grownNote : ℕ → Bool → Growth → ℕ
-grownNote m around b = pick around (m + (b .len + b .count * node) - (b .old + b .held * node)) m
+abbrev pub grownNote : ℕ → Growth → ℕ
+grownNote m b = m + (b .len + b .count * third) - (b .old + b .held * third)
 
-abbrev pub lastOf : Bool → ℕ → ℕ → ℕ
-lastOf around node up = pick around node up
+-- S 15.5, earlier records: they stay, or are those of the lists around
+unfoldable pub keptNote : ℕ → ℕ → Growth → ℕ
+keptNote m e b = pick (listOver m e) (grownNote m b) m
 
 -- both are sheets
 pub record Fit (b : Growth) : Type 0 where
@@ -71,7 +73,7 @@ pub record Moving (m l l′ : ℕ) : Type 0 where
   pub small : m < roomy
   pub short : (l ≤ maxSource) × (l′ ≤ maxSource)
   pub low : l * span ≤ m + l′ * span
-  pub hinted : (thirdPart m ≡ 0 → ⊥) → thirdPart m < listMark → l * hinting ≤ m + l′ * hinting
+  pub hinted : (thirdPart m ≡ 0 → ⊥) → thirdPart m < listMark → l * third ≤ plainly m l l′ + l′ * third
 
 pub record Later (m k : ℕ) (b : Growth) : Type 0 where
   pub fit : Fit b
@@ -83,10 +85,10 @@ pub record Owning (m start up : ℕ) : Type 0 where
   pub short : start ≤ maxSource
   pub few : up ≤ mostNodes
 
-pub record Growing (m : ℕ) (around : Bool) (b : Growth) : Type 0 where
+pub record Growing (m : ℕ) (b : Growth) : Type 0 where
   pub fit : Fit b
   pub small : m < roomy
-  pub low : around ≡ true → b .old + b .held * node ≤ m + (b .len + b .count * node)
+  pub low : b .old + b .held * third ≤ m + (b .len + b .count * third)
 
 -- ---- the notes before a spot
 
@@ -95,12 +97,12 @@ overAt notes e i = listOver (getD notes i 0) e
 
 pub record Growable (notes : List ℕ) (first e : ℕ) (b : Growth) : Type 0 where
   pub fits : first ≤ length notes
-  pub each : (i : ℕ) → i < first → Growing (getD notes i 0) (overAt notes e i) b
+  pub each : (i : ℕ) → i < first → overAt notes e i ≡ true → Growing (getD notes i 0) b
 
 -- those before j are done
 pub record Growths (notes : List ℕ) (e : ℕ) (b : Growth) (j : ℕ) (after : List ℕ) : Type 0 where
   pub long : length after ≡ length notes
-  pub done : (i : ℕ) → i < j → getD after i 0 ≡ grownNote (getD notes i 0) (overAt notes e i) b
+  pub done : (i : ℕ) → i < j → getD after i 0 ≡ keptNote (getD notes i 0) e b
   pub rest : (i : ℕ) → j ≤ i → getD after i 0 ≡ getD notes i 0
 
 -- the innermost list around is told

@@ -2,18 +2,16 @@
 ghost use mathlib.Core.Path.{_≡_};
 ghost use Prim.Native.Nat.{_≤_};
 ghost use lib.ListN.{length};
-ghost use Rattle.splice.specs.Moved.{movedNote, laterNote, ownNote, listOver, grownNote, lastOf, Moving, Later, Owning, Growing, Growable, Grown, Shiftable, Shifted, Puttable, Put, Enterable, Entered};
+ghost use Rattle.splice.specs.Moved.{movedNote, laterNote, ownNote, listOver, grownNote, Moving, Later, Owning, Growing, Growable, Grown, Shiftable, Shifted, Puttable, Put, Enterable, Entered};
 ghost use Rattle.splice.specs.Renoted.{Renotable, Renoted};
 use sheets::notes::LIST;
 use sheets::places::SHIFT;
 
-// What a note grows by where its data move by one octet, and where its hint does besides.
+// What a note grows by where its data move by one octet; where its hint does besides, or its list has one node more; and where the list
+// around it has the next number.
 const SPAN: usize = SHIFT + 1;
 
-const HINTED: usize = SHIFT * SHIFT + SPAN;
-
-// A list's node count stands above its data, and above what else a note tells the number of the list around its node.
-const NODE: usize = SHIFT * SHIFT;
+const THIRD: usize = SHIFT * SHIFT;
 
 const TOP: usize = SHIFT * SHIFT * SHIFT;
 
@@ -30,14 +28,15 @@ fn moved(note: usize, l: usize, l2: usize) -> usize
     requires { ⌜ Moving note l l2 ⌝ }
     ensures { λ r. ⌜ r ≡ movedNote note l l2 ⌝ }
 {
+    let to = note + l2 * SPAN - l * SPAN;
     let third = note / SHIFT / SHIFT % SHIFT;
     if third == 0 {
-        return note + l2 * SPAN - l * SPAN;
+        return to;
     }
     if third < LIST {
-        return note + l2 * HINTED - l * HINTED;
+        return to + l2 * THIRD - l * THIRD;
     }
-    note + l2 * SPAN - l * SPAN
+    to
 }
 
 // The note of a node behind the spot. The list around it has another number too, if it begins behind the spot.
@@ -70,25 +69,12 @@ fn over(note: usize, end: usize) -> bool
     end <= note % SHIFT
 }
 
-// The note of a list whose end and node count grow, if they do.
-fn grown(note: usize, around: bool, by: Growth) -> usize
-    requires { ⌜ Growing note around by ⌝ }
-    ensures { λ r. ⌜ r ≡ grownNote note around by ⌝ }
+// The note of a list around it, whose end and node count grow.
+fn grown(note: usize, by: Growth) -> usize
+    requires { ⌜ Growing note by ⌝ }
+    ensures { λ r. ⌜ r ≡ grownNote note by ⌝ }
 {
-    if around {
-        return note + (by.len + by.count * NODE) - (by.old + by.held * NODE);
-    }
-    note
-}
-
-// The last of the lists around so far.
-fn last(around: bool, node: usize, up: usize) -> usize
-    ensures { λ r. ⌜ r ≡ lastOf around node up ⌝ }
-{
-    if around {
-        return node;
-    }
-    up
+    note + (by.len + by.count * THIRD) - (by.old + by.held * THIRD)
 }
 
 // The notes before a spot: those of the lists around it grow. The number of the innermost, 0 where there is none.
@@ -99,9 +85,13 @@ fn around(notes: &mut [usize], first: usize, end: usize, by: Growth) -> usize
     let mut up: usize = 0;
     let mut j: usize = 0;
     while j < first {
-        let held = over(notes[j], end);
-        notes[j] = grown(notes[j], held, by);
-        up = last(held, j, up);
+        // A list ends its turn by itself: no branches meet, and no other note is stored.
+        if over(notes[j], end) {
+            notes[j] = grown(notes[j], by);
+            up = j;
+            j += 1;
+            continue;
+        }
         j += 1;
     }
     up

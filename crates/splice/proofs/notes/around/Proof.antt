@@ -1,7 +1,7 @@
 use Prim.Native.Nat.{_-_}
-use borrow.Author.Needs.{needs}
-use Rattle.splice.proofs.Moving.{Around, grow-start, grow-growing, grow-on, grow-long, grow-end}
+use Rattle.splice.proofs.Moving.{Around, grow-start, grow-growing, grow-over, grow-aside, grow-long, grow-end}
 use native.Mathlib.Omega.{arith}
+use borrow.Author.Needs.{needs}
 use Rattle.splice.proofs.notes.around.Statement.{statement}
 use Rattle.splice.proofs.notes.around.Tie as tie
 
@@ -18,7 +18,10 @@ grown-requires : tie.Need-grown-requires Inv-loop μ-loop
 grown-requires c κs = search (grow-growing, arith)
 
 loop-again : tie.Need-loop-again Inv-loop μ-loop
-loop-again c = search (grow-on, arith)
+loop-again c = search (grow-over, arith)
+
+loop-again-2 : tie.Need-loop-again-2 Inv-loop μ-loop
+loop-again-2 c = search (grow-aside, arith)
 
 same-length : tie.Need-same-length Inv-loop μ-loop
 same-length c = search (grow-long, arith)
@@ -41,9 +44,11 @@ around-spec =
     grown-requires
     (λ c. search needs)
     (λ c. search needs)
-    (λ c κs. search needs)
     (λ c. search needs)
     (λ c. search needs)
     loop-again
+    (λ c. search needs)
+    (λ c. search needs)
+    loop-again-2
     same-length
     returns)
