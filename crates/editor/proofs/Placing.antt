@@ -1,21 +1,19 @@
 -- A text taken, the change judged, the octets put in place and the rest rewritten, whatever the form and whatever is asked.
-use Prim.Native.Nat.{ℕ, _+_, _*_, _-_, _≤_}
+use Prim.Native.Nat.{ℕ, _+_, _*_, _-_, _≤_, _<_}
 use native.Mathlib.Omega.{arith}
 use mathlib.Core.Path.{_≡_, refl, sym, ap, ap₂, _∙_, subst}
 use mathlib.Core.Bool.{Bool, true, false}
 use mathlib.Core.Option.{Option, none, some}
-use mathlib.Core.List.{List, [], _∷_, _++_}
-use lib.ListN.{length, take, drop, getD, replicate, length-take}
+use mathlib.Core.List.{List, [], _++_}
+use lib.ListN.{length, take, drop, replicate, length-take}
 use lib.Seq.{sets, length-sets}
 use Rattle.base.specs.Choice.{isNone}
 use Rattle.base.proofs.Cases.{differ, untrue, some-same}
 use Rattle.model.specs.Answers.{the, Outcome, unchangedAt, unchanged, placeOf, telling, filled}
-use Rattle.model.specs.Decode.{decode₁, decode}
+use Rattle.model.specs.Decode.{decode}
 use Rattle.model.specs.Edit.{one, replace, insert}
 use Rattle.model.specs.Limits.{Accepted, maxCanonical}
-use Rattle.model.specs.Table.{rowOf}
-use Rattle.model.specs.Tree.{Tree, list, Forest, nil, canon, canons, nodes, nodess, depth, depths}
-use Rattle.model.proofs.Exact.{canon-complete}
+use Rattle.model.specs.Tree.{Tree, list, nil, canon, canons, nodes, nodess, depth, depths}
 use Rattle.model.proofs.Laws.{canonical-unique, nodes-within-half}
 use Rattle.model.proofs.Judging.{judged-refused, verdict-here}
 use Rattle.model.proofs.Telling.{other-row, other-past, rooms-other, telling-judged}
@@ -31,16 +29,15 @@ use Rattle.edits.proofs.Whole.{canons-one, nodess-one, depths-one}
 use Rattle.lookup.proofs.Sheets.{sheet-of}
 use Rattle.lookup.proofs.Sheets as good
 use Rattle.tables.specs.Told.{Holds}
-use Rattle.sheets.proofs.Keeping.{noted-length}
 use Rattle.lookup.specs.Noted.{Sheet}
 use Rattle.plan.specs.Asked.{changed, given, texted, newTree, changeChecks, changeTree}
-use Rattle.plan.specs.Spots.{Replaces}
 use Rattle.plan.specs.Planned.{Known, AtSpot, Taking, Fitting, Misfitting, Plans}
 use Rattle.editor.specs.Given.{Noteable, Gives, GivesTree, GivesMeant}
 use Rattle.editor.specs.Placed.{Standing, Placeable, Placed}
 use Rattle.plan.proofs.Resizing.{depth-few, moves, ordered}
-use Rattle.splice.specs.Rewritten.{Movable, Rewritable, Reworkable, Alone, Workable, Rewritten}
-use Rattle.splice.proofs.Spliced.{spliced, front-written, zeroed}
+use Rattle.splice.specs.Rewritten.{Movable, Ending, Ended}
+use Rattle.splice.specs.Renoted.{Renotable, Renoted}
+use Rattle.splice.proofs.Spliced.{spliced, zeroed}
 use Rattle.answers.specs.declared.Reading.{Reading}
 use Rattle.answers.specs.declared.Reading.the-variants as reading
 use Rattle.walk.specs.declared.Extent.{Extent}
@@ -90,8 +87,14 @@ told-some p a canonical len table count t =
     telling-judged p (changeChecks a (some t) canonical len table count) (filled (newTree a (some t) canonical len table count) len count canonical table) canonical table
     (other-past refl (other-row refl (other-row refl (other-row refl (rooms-other (newTree a (some t) canonical len table count) canonical table))))) refl
 
+given-some : (a : Asked) (u : Tree) → 0 < nodess (given a u) → given a u ≡ one u
+unfolding given nodess
+given-some (Replace node) u h = refl
+given-some (Insert node k) u h = refl
+given-some (Remove node) u h = absurd (omega arith)
+
 -- ---- what a change puts in, known by its sizes, of which the canonical form stands at the front of scratch
-module _ (canonical : List ℕ) (len count room : ℕ) (own : Bool) (a : Asked) (notes : List ℕ) (scratch : List ℕ) (sizes : Sizes) (note : ℕ) (g : Placeable a scratch sizes note) (p : Plan) (w : Plans canonical len count room own a sizes p) where
+module _ (canonical : List ℕ) (len count room : ℕ) (own : Bool) (a : Asked) (notes : List ℕ) (scratch : List ℕ) (sizes : Sizes) (g : Placeable a scratch sizes) (p : Plan) (w : Plans canonical len count room own a sizes p) where
   abbrev n : ℕ
   n = sizes .len
 
@@ -152,6 +155,36 @@ module _ (canonical : List ℕ) (len count room : ℕ) (own : Bool) (a : Asked) 
     pub place-source : 0 + n ≤ length scratch
     place-source = omega (arith, length-take n scratch, ap length stands, g .is .sized .long)
 
+    pub place-octets : n ≡ length (take n scratch)
+    place-octets = omega (arith, ap length stands, g .is .sized .long)
+
+    -- the notes are the old tree's, and are to be the new one's
+    pub place-renotable : Known canonical len count room notes own → Noteable count (sizes .nodes) (length notes)
+        → Renotable (take n scratch) notes first start end (sizes .nodes) (record { old = len; len = len′; held = count; count = count′ })
+    place-renotable known e =
+        let s : Sheet canonical len count room notes = known .sheet (fitting .good) in
+        let q : s .tree ≡ t = some-same (λ (v : Tree). s .tree ≡ v) (sym (s .is) ∙ fitting .is) refl in
+        record {
+          old = t;
+          new = new;
+          given = fitting .number;
+          level = fitting .level;
+          comes = given a u;
+          text = u;
+          change = at-spot .spot .change u;
+          single = λ h. given-some a u (omega (arith, g .is .sized .counted));
+          ordered = in-order .0;
+          is = stands;
+          counted = g .is .sized .counted;
+          held = subst (Holds notes count) q (s .held);
+          oldLong = at-spot .long;
+          newLong = takes .long;
+          newCounted = takes .counted;
+          deep = takes .shallow;
+          fit = record { short = (at-spot .short, takes .short); few = (at-spot .few, takes .few) };
+          room = omega (arith, e .enough, fitting .grows, takes .few);
+        }
+
     module _ (canonical₁ : List ℕ) (g₁ : canonical₁ ≡ sets canonical (start + n) (take (len - end) (drop end canonical))) where
       pub place-room : start + n ≤ length canonical₁
       place-room = omega (arith, ap length g₁, length-sets canonical (start + n) (take (len - end) (drop end canonical)), place-gap .fits)
@@ -173,60 +206,15 @@ module _ (canonical : List ℕ) (len count room : ℕ) (own : Bool) (a : Asked) 
         new-fits : length (canon new) ≤ length canonical
         new-fits = omega (arith, takes .long, takes .lent)
 
-        front-is : take len′ canonical₂ ≡ canon new
-        front-is = ap₂ take (takes .long) written ∙ front-written canonical (canon new) new-fits
+        pub place-end : Ending (length canonical₂) len len′
+        place-end = record { lent = omega (arith, kept-long, takes .lent); oldLent = omega (arith, kept-long, sheet .lent) }
 
-        front-decodes : decode₁ (take len′ canonical₂) ≡ some new
-        front-decodes = ap decode₁ front-is ∙ canon-complete new
-
-        pub place-rewritable : Noteable count (sizes .nodes) (length notes) → Rewritable canonical₂ (length notes) len len′ count′
-        place-rewritable e =
-            record {
-              tree = new;
-              is = front-decodes;
-              deep = takes .shallow;
-              counted = takes .counted;
-              noted = omega (arith, e .enough, fitting .grows, takes .few);
-              short = takes .short;
-              lent = omega (arith, kept-long, takes .lent);
-              oldLent = omega (arith, kept-long, sheet .lent);
-            }
-
-        -- one node for one: a node is replaced, every node keeps its number, and the notes move
-        works : Known canonical len count room notes own → sizes .nodes ≡ 1 → count ≡ count′ → Reworkable canonical₂ notes len len′ count′ first start note
-        unfolding changed given
-        works known one same =
-            let s : Sheet canonical len count room notes = known .sheet (fitting .good) in
-            let q : s .tree ≡ t = some-same (λ (v : Tree). s .tree ≡ v) (sym (s .is) ∙ fitting .is) refl in
-            let o : nodess (given a u) ≡ 1 = sym (g .is .sized .counted) ∙ one in
-            let r : Replaces a first start t = at-spot .spot .single u o (omega (arith, moved .count, o, takes .counted, at-spot .counted, same)) in
-            let z : new ≡ replace t first u = ap (λ (b : Asked). changed b t u) (r .is) ∙ ap (λ (i : ℕ). replace t i u) (sym (r .here)) in
-            record {
-              tree = t;
-              text = u;
-              inside = omega (arith, r .here, r .inside);
-              single = sym (nodess-one u) ∙ ap (λ (b : Asked). nodess (given b u)) (sym (r .is)) ∙ o;
-              same = omega (arith, ap nodes z, takes .counted, at-spot .counted, same);
-              held = subst (λ (c : ℕ). Holds notes c t) same (subst (Holds notes count) q (s .held));
-              entry = g .noted one short;
-              starts = r .begins ∙ ap (λ (i : ℕ). (rowOf t i) .start) (sym (r .here));
-              oldLong = at-spot .long;
-              long = takes .long ∙ ap (λ (v : Tree). length (canon v)) z;
-              is = front-decodes ∙ ap some z;
-              few = takes .few;
-              short = takes .short;
-              oldShort = at-spot .short;
-              lent = omega (arith, kept-long, takes .lent);
-              oldLent = omega (arith, kept-long, sheet .lent);
-            }
-
-        pub place-workable : Known canonical len count room notes own → (b : Bool) → Alone (sizes .nodes) count count′ b → Workable canonical₂ notes len len′ count′ first start note b
-        place-workable known b c = record { works = λ y. works known (c .single y) (c .same y) }
-
-        pub place-accepted : (canonical₃ notes′ : List ℕ) (r : Reading) → Rewritten canonical₂ len len′ count′ canonical₃ notes′ r
+        pub place-accepted : Known canonical len count room notes own → Noteable count (sizes .nodes) (length notes) → (notes′ : List ℕ)
+            → Renoted (take n scratch) notes first start end (sizes .nodes) (record { old = len; len = len′; held = count; count = count′ }) notes′
+            → (canonical₃ : List ℕ) (r : Reading) → Ended canonical₂ len len′ count′ canonical₃ r
             → Placed a scratch sizes canonical canonical₃ len count room own notes′ r
-        unfolding Gives outcome filled
-        place-accepted canonical₃ notes′ r f =
+        unfolding Gives outcome filled place-renotable
+        place-accepted known e notes′ h canonical₃ r f =
             record {
               is = λ v s. subst (GivesTree a (some v) canonical len count room own canonical₃ notes′) (sym (f .tells)) (giving v s);
             }
@@ -236,7 +224,7 @@ module _ (canonical : List ℕ) (len count room : ℕ) (own : Bool) (a : Asked) 
                 let same : new ≡ changed a t v = changed-by a t u v (sym stands ∙ s .octets short) in
                 record {
                   tree = new;
-                  held = f .held new front-decodes;
+                  held = h .held (place-renotable known e);
                   recorded = (takes .recorded, fitting .recorded);
                   few = (takes .few, at-spot .few);
                   is = λ table l.
@@ -278,9 +266,8 @@ module _ (a : Asked) (f : texted a ≡ false) (scratch : List ℕ) where
   unfolding canons nodess depths
   leaves = rw (given-none a (list nil) f) (record { sized = record { long = refl; counted = refl; deepest = refl }; octets = λ h. refl })
 
-  pub strike-placeable : (note : ℕ) → Placeable a scratch nothing note
-  strike-placeable note =
-      record { tree = list nil; is = leaves; small = record { len = omega arith; nodes = omega arith; depth = omega arith }; noted = λ c s. absurd (omega (arith, c)) }
+  pub strike-placeable : Placeable a scratch nothing
+  strike-placeable = record { tree = list nil; is = leaves; small = record { len = omega arith; nodes = omega arith; depth = omega arith } }
 
   pub strike-noteable : (count more room : ℕ) → Noteable count more room → Noteable count 0 room
   strike-noteable count more room h = record { enough = omega (arith, h .enough) }
@@ -325,18 +312,11 @@ module _ (form : ℕ) (text : List ℕ) (space : ℕ) (k : Takeable form (length
           octets = λ h. ap (λ (i : ℕ). take i scratch) (whole .long) ∙ m .octets w (whole .is) (omega (arith, whole .long)) ∙ sym (canons-one w);
         })
 
-    alone : (l : List ℕ) → Holds l 1 (whole .tree) → Holds (getD l 0 0 ∷ []) 1 (whole .tree)
-    alone [] h = absurd (omega (arith, ap length (h .kept), noted-length (whole .tree), h .counted))
-    alone (y ∷ l) h = record { counted = h .counted; kept = h .kept; short = h .short }
-
-    pub change-placeable : 1 ≤ length first → Placeable a scratch told (getD first′ 0 0)
-    change-placeable room =
+    pub change-placeable : Placeable a scratch told
+    change-placeable =
         record {
           tree = whole .tree;
           is = standing;
-          noted = λ c s.
-              let one-node : nodes (whole .tree) ≡ 1 = sym (whole .counted) ∙ c in
-              alone first′ (subst (λ (i : ℕ). Holds first′ i (whole .tree)) one-node (m .noted (whole .tree) (whole .is) (omega (arith, whole .long)) (omega (arith, depth-few (whole .tree))) (omega arith)));
           small = record {
             len = omega (arith, few, whole .long);
             nodes = omega (arith, few, whole .counted, nodes-half (whole .tree));

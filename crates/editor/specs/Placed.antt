@@ -3,11 +3,10 @@ use Prim.Native.Nat.{ℕ, _≤_}
 use mathlib.Core.Path.{_≡_}
 use mathlib.Core.Bool.{Bool}
 use mathlib.Core.Option.{some}
-use mathlib.Core.List.{List, [], _∷_}
+use mathlib.Core.List.{List}
 use lib.ListN.{take}
 use Rattle.model.specs.Limits.{maxCanonical}
 use Rattle.model.specs.Tree.{Tree, Forest, canons}
-use Rattle.tables.specs.Told.{Holds}
 use Rattle.plan.specs.Asked.{given}
 use Rattle.plan.specs.Planned.{Sized, Small}
 use Rattle.plan.specs.declared.Asked.{Asked}
@@ -20,12 +19,11 @@ pub record Standing (scratch : List ℕ) (text : Sizes) (g : Forest) : Type 0 wh
   pub sized : Sized g text
   pub octets : text .len ≤ maxCanonical → take (text .len) scratch ≡ canons g
 
--- what the change puts in; where it is one node, the note is its own
-pub record Placeable (a : Asked) (scratch : List ℕ) (text : Sizes) (note : ℕ) : Type 0 where
+-- what the change puts in
+pub record Placeable (a : Asked) (scratch : List ℕ) (text : Sizes) : Type 0 where
   pub tree : Tree
   pub is : Standing scratch text (given a tree)
   pub small : Small text
-  pub noted : text .nodes ≡ 1 → text .len ≤ maxCanonical → Holds (note ∷ []) 1 tree
 
 -- the answer, the octets and the notes are those of the change, by every tree that stands there
 pub record Placed (a : Asked) (scratch : List ℕ) (text : Sizes) (c c′ : List ℕ) (len count n : ℕ) (own : Bool) (notes′ : List ℕ) (r : Reading) : Type 0 where

@@ -24,10 +24,10 @@ pub use numbers::replace;
 use plan::Asked;
 use plan::Plan;
 use plan::Sizes;
+use splice::Growth;
 use walk::Extent;
 
-// A sheet of `old` octets and `held` nodes is changed: what comes has these sizes, its octets stand in scratch, and its first note is
-// given.
+// A sheet of `old` octets and `held` nodes is changed: what comes has these sizes, and its octets stand in scratch.
 fn place(
     canonical: &mut [u8],
     notes: &mut [usize],
@@ -38,9 +38,8 @@ fn place(
     asked: Asked,
     scratch: &[u8],
     text: Sizes,
-    note: usize,
 ) -> Reading
-    requires { ⌜ Placeable asked (now scratch) text note ⌝ }
+    requires { ⌜ Placeable asked (now scratch) text ⌝ }
     requires { ⌜ Known (now canonical) old held records (now notes) own ⌝ }
     requires { ⌜ Noteable held (text .nodes) (length (now notes)) ⌝ }
     ensures { λ r. ⌜ Placed asked (now (scratch .entry)) text (now (canonical .entry)) (now (canonical .exit)) old held records own (now (notes .exit)) r ⌝ }
@@ -56,24 +55,21 @@ fn place(
         } => {
             splice::gap(canonical, start, end, old, len);
             scan::copy(scratch, 0, len, canonical, start);
-            let alone = splice::alone(text.nodes, held, nodes);
-            splice::settle(
-                canonical,
-                notes,
+            let by = Growth {
                 old,
-                length,
-                nodes,
-                first,
-                start,
-                note,
-                alone,
-            )
+                len: length,
+                held,
+                count: nodes,
+            };
+            let octets = &scratch[..len];
+            splice::renote(octets, notes, first, start, end, text.nodes, by);
+            splice::end(canonical, old, length, nodes)
         }
         Plan::Misfit { number } => refused(number),
     }
 }
 
-// By a text that rows 1 and 2 don't apply to, in the local space lent. Of the text's notes only the first is asked for.
+// By a text that rows 1 and 2 don't apply to, in the local space lent. Its notes are made where they belong, once it has its place.
 fn change_in(
     form: u32,
     text: &[u8],
@@ -92,8 +88,8 @@ fn change_in(
     requires { ⌜ texted asked ≡ true ⌝ }
     ensures { λ r. ⌜ GivesMeant asked form (now (text .entry)) (now (canonical .entry)) old held records own (now (canonical .exit)) (now (notes .exit)) r ⌝ }
 {
-    let mut one: [usize; 1] = [0; 1];
-    match texts::take(form, text, scratch, &mut one) {
+    let mut none: [usize; 1] = [0; 1];
+    match texts::take(form, text, scratch, &mut none) {
         Extent::Whole { len, nodes, depth } => {
             let sizes = Sizes { len, nodes, depth };
             place(
@@ -106,7 +102,6 @@ fn change_in(
                 asked,
                 scratch,
                 sizes,
-                one[0],
             )
         }
         Extent::Refused { place } => refused_at(3, place),
@@ -174,7 +169,6 @@ fn strike(
         asked,
         &none,
         sizes,
-        0,
     )
 }
 

@@ -89,3 +89,18 @@ module _ {t t' : Tree} {k n s l d : ℕ} {g : Forest} (c : Change t t' k n s l d
 pub change-up-at : {t t' : Tree} {k n s l d : ℕ} {g : Forest} (c : Change t t' k n s l d g) → 0 < n → parentOf t k ≡ upAt (c .place) 0 0
 change-up-at {t} {k = k} c h =
     ap (parentOf t) (sym (add-zero k)) ∙ change-up-new (change-back c) 0 (omega (arith, c .some)) ∙ first-up (c .old) k (upAt (c .place) 0 0) (omega (arith, c .some))
+
+-- a later node's parent that is shifted is not shifted past 0
+pub change-up-fits : {t t' : Tree} {k n s l d : ℕ} {g : Forest} (c : Change t t' k n s l d g) (j j' : ℕ)
+    → k + n ≤ j → j < nodes t → j' + nodes t ≡ j + nodes t' → k ≤ parentOf t j → n ≤ parentOf t j + nodess g
+change-up-fits {t} {t'} {k} {n} {g = g} c j j' h i e a =
+    let m = change-moves c in
+    let up = sym (up-shifts k n (nodess g) (parentOf t j) a) in
+    let there = change-up-later c j j' h i e in
+    let back = rw (c .some) at (change-up-later (change-back c) j' j (omega (arith, m .count)) (omega (arith, m .count)) (sym e)) in
+    by-le n (parentOf t j + nodess g)
+    (λ y. y)
+    (λ y.
+    by-le k (parentOf t' j')
+    (λ z. absurd (omega (arith, up, there, back, up-shifts k (nodess g) n (parentOf t' j') z)))
+    (λ z. absurd (omega (arith, up, there, back, up-stays k (nodess g) n (parentOf t' j') z))))

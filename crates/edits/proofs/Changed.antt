@@ -64,7 +64,7 @@ module _ {t t' : Tree} {k n s l d : ℕ} {g : Forest} (c : Change t t' k n s l d
       ap (λ (n : ℕ). getD (canon t') n 0) x ∙ octet-after change-moves i h
 
   -- ---- the rows before the place and after it
-  change-side : (j : ℕ) → j < k → Side (rowOf t j) j k n s (s + l)
+  pub change-side : (j : ℕ) → j < k → Side (rowOf t j) j k n s (s + l)
   change-side j h = rw (c .at, c .some, c .start, c .long) at (sides t (c .place) (c .old) (c .was) j (omega (arith, c .at)))
 
   change-later : (j : ℕ) → k + n ≤ j → j < nodes t → BeginsFrom (rowOf t j) (s + l)

@@ -11,6 +11,7 @@ pub mod Holds
 pub mod Parents
 pub mod Changed
 pub mod Above
+pub mod Inner
 pub mod Gives
 pub mod Levels
 pub mod Changes

@@ -13,7 +13,7 @@ use Rattle.base.proofs.Cases.{by-le, picked, unpicked}
 use Rattle.model.specs.Limits.{mostNodes}
 use Rattle.model.specs.Node.{nodeAt, hasPlace}
 use Rattle.model.specs.Table.{Row, rows, rowOf, rowNumbers}
-use Rattle.model.specs.Tree.{Tree, Forest, nil, nodes, nodess}
+use Rattle.model.specs.Tree.{Tree, Forest, nil, nodes}
 use Rattle.tables.specs.Rows.{rowList, RowIs}
 use Rattle.tables.specs.Told.{rowAt, Readable, Holds}
 use Rattle.tables.specs.declared.rows.Row as coded
@@ -26,7 +26,7 @@ use Rattle.edits.proofs.Demand.{entry-in, entry-some}
 use Rattle.edits.proofs.Find.{nodes-pos}
 use Rattle.edits.proofs.Hop.{element-same}
 use Rattle.plan.specs.Asked.{changed, given, nodeOf, placeless}
-use Rattle.plan.specs.Spots.{Recorded, Levels, NodeAt, Kept, EntryAt, NoEntry, Entry, Hoppable, Hops, Shown, SlotAt, NoSlot, Slot, Replaces, SpotOf, Finding, Finds, Findable}
+use Rattle.plan.specs.Spots.{Recorded, Levels, NodeAt, Kept, EntryAt, NoEntry, Entry, Hoppable, Hops, Shown, SlotAt, NoSlot, Slot, SpotOf, Finding, Finds, Findable}
 use Rattle.plan.specs.declared.Asked.{Asked}
 use Rattle.plan.specs.declared.Asked.the-variants.{Replace, Insert, Remove}
 use Rattle.plan.specs.declared.Found.{Found}
@@ -99,17 +99,15 @@ module _ (notes : List ℕ) (count : ℕ) (kept : Kept notes count) (node : ℕ)
           ordered = in-order;
           low = low-enough;
           change = λ u. gives-way _ _ (replace-change t node here u);
-          single = λ u p q. record { node = node; is = refl; here = e .is; inside = here; begins = at .begins };
         }
 
     remove-spot : 0 < node → SpotOf first n start end level (Remove node) t
-    unfolding changed given nodess
+    unfolding changed given
     remove-spot p =
         record {
           ordered = in-order;
           low = low-enough;
           change = λ u. gives-way _ _ (remove-change t node here p);
-          single = λ u q r. absurd (omega (arith, q));
         }
 
   pub replace-found : (r : Found) → Entry notes count node r → Finds notes count true (Replace node) r
@@ -173,7 +171,6 @@ module _ (notes : List ℕ) (count : ℕ) (node k : ℕ) (h : node < count) wher
           change = λ u.
               change-as refl (sym (e .none)) (sym (same-octet first) ∙ sym (e .begins)) (omega (arith, e .empty)) (sym (e .lies t g))
               (insert-change t node here-in k first (sym same-placed ∙ e .is) u);
-          single = λ u p q. absurd (omega (arith, q, e .none));
         }
 
   pub insert-found : (r : Found) → Slot notes count node k r → Finds notes count true (Insert node k) r

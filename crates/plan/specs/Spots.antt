@@ -7,7 +7,7 @@ use mathlib.Core.List.{List}
 use lib.ListN.{length, take}
 use lib.Dec.{ltb}
 use Rattle.base.specs.Choice.{pick, isNone}
-use Rattle.model.specs.Tree.{Tree, nodes, nodess}
+use Rattle.model.specs.Tree.{Tree, nodes}
 use Rattle.model.specs.Table.{rows, rowOf}
 use Rattle.model.specs.Limits.{mostNodes}
 use Rattle.model.specs.Answers.{ownTree, unchanged}
@@ -18,7 +18,6 @@ use Rattle.edits.specs.Element.{element, placed, placeOctet}
 use Rattle.edits.specs.Moves.{Change}
 use Rattle.plan.specs.Asked.{changed, given, nodeOf, placeless, changeTree}
 use Rattle.plan.specs.declared.Asked.{Asked}
-use Rattle.plan.specs.declared.Asked.the-variants.{Replace}
 use Rattle.plan.specs.declared.Found.{Found}
 use Rattle.plan.specs.declared.Found.the-variants.{Spot, Unfound}
 use Rattle.plan.specs.declared.spots.Reached.{Reached}
@@ -111,20 +110,11 @@ Slot notes count node k (Unfound number) = NoSlot notes node k number
 
 -- ---- the spot of a change
 
--- a node is replaced, and it is the first of those that give way
-pub record Replaces (a : Asked) (first start : ℕ) (t : Tree) : Type 0 where
-  pub node : ℕ
-  pub is : a ≡ Replace node
-  pub here : first ≡ node
-  pub inside : node < nodes t
-  pub begins : start ≡ (rowOf t node) .start
-
--- n nodes from the first on, the octets from `start` to `end`, give way, under so many lists. One node for one is a replacing
+-- n nodes from the first on, the octets from `start` to `end`, give way, under so many lists
 pub record SpotOf (first n start end level : ℕ) (a : Asked) (t : Tree) : Type 0 where
   pub ordered : start ≤ end
   pub low : level ≤ nodes t
   pub change : (u : Tree) → Change t (changed a t u) first n start (end - start) level (given a u)
-  pub single : (u : Tree) → nodess (given a u) ≡ 1 → n ≡ 1 → Replaces a first start t
 
 -- it is told, in every tree that has these notes
 pub record Finding (notes : List ℕ) (count : ℕ) (own : Bool) (a : Asked) (first n start end level : ℕ) : Type 0 where

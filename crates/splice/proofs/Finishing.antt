@@ -1,28 +1,15 @@
 -- The functions' needs.
 use Prim.Native.Nat.{ℕ, _+_, _*_, _-_, _≤_, _<_, max}
 use native.Mathlib.Omega.{arith}
-use mathlib.Core.Path.{_≡_, refl, sym, ap, ap₂, _∙_, subst}
-use mathlib.Core.Bool.{Bool, true, false}
+use mathlib.Core.Path.{_≡_, refl, ap, ap₂, _∙_}
 use mathlib.Core.List.{List}
 use lib.ListN.{length, take, drop, replicate}
-use lib.Seq.{sets, length-take-le}
-use lib.Dec.{eqb}
-use borrow.Author.Tests.{eqb-true}
-use Rattle.base.proofs.Cases.{some-same, untrue}
-use Rattle.model.specs.Limits.{maxSource}
+use lib.Seq.{sets}
 use Rattle.model.specs.Table.{width, tableOf}
-use Rattle.model.specs.Edit.{replace}
-use Rattle.model.specs.Tree.{Tree, canon}
-use Rattle.walk.specs.declared.Extent.{Extent}
 use Rattle.walk.proofs.Tabled.{table-length}
-use Rattle.sheets.specs.Notes.{Notable, Noted}
-use Rattle.tables.specs.Told.{Holds, Filled}
-use Rattle.tables.proofs.Held.{note-holds}
-use Rattle.splice.specs.Rewritten.{Movable, Ended, Rewritable, Reworkable, Alone, Workable, Rewritten, Retellable, Retold}
-use Rattle.splice.specs.Moved.{Renotable, Renoted}
-use Rattle.splice.proofs.Renoting.{renotable, renoted-holds}
+use Rattle.tables.specs.Told.{Filled}
+use Rattle.splice.specs.Rewritten.{Movable, Ended, Retellable, Retold}
 use Rattle.splice.proofs.Spliced.{zeroed}
-use Rattle.answers.specs.declared.Reading.{Reading}
 use Rattle.answers.specs.declared.Reading.the-variants as reading
 
 -- ---- gap
@@ -38,65 +25,6 @@ pub ended : (canonical : List ℕ) (old len count m : ℕ) → m ≡ max old len
 ended canonical old len count m e canonical′ z =
     let a : m - len ≡ old - len = omega arith in
     record { octets = z ∙ ap (λ (n : ℕ). sets canonical len (replicate n 0)) a; tells = refl }
-
--- ---- finish
-module _ (canonical notes : List ℕ) (old len count : ℕ) (g : Rewritable canonical (length notes) old len count) where
-  pub finish-part : len ≡ length (take len canonical)
-  finish-part = sym (length-take-le len canonical (g .lent))
-
-  pub finish-short : length (take len canonical) ≤ maxSource
-  finish-short = omega (arith, length-take-le len canonical (g .lent), g .short)
-
-  abbrev notable : Notable (take len canonical) (length notes)
-  notable = record { tree = g .tree; is = g .is; deep = g .deep; fits = omega (arith, g .counted, g .noted) }
-
-  module _ (notes′ : List ℕ) (x : Extent) (v : Noted (take len canonical) notes notes′ x) (canonical′ : List ℕ) (r : Reading) (z : Ended canonical old len count canonical′ r) where
-    mine : Holds notes′ count (g .tree)
-    mine = subst (λ (n : ℕ). Holds notes′ n (g .tree)) (sym (g .counted)) (note-holds (take len canonical) notes notes′ x v finish-short notable)
-
-    pub finished : Rewritten canonical old len count canonical′ notes′ r
-    finished =
-        record {
-          octets = z .octets;
-          held = λ t i. subst (Holds notes′ count) (some-same (λ (u : Tree). g .tree ≡ u) (sym (g .is) ∙ i) refl) mine;
-          tells = z .tells;
-        }
-
--- ---- refinish
-module _ (canonical notes : List ℕ) (old len count node start note : ℕ) (g : Reworkable canonical notes old len count node start note) where
-  short : length (canon (replace (g .tree) node (g .text))) ≤ maxSource
-  short = omega (arith, g .long, g .short)
-
-  pub refinish-renotable : Renotable notes node count start old len note
-  refinish-renotable =
-      rw (g .starts, g .oldLong, g .long)
-      (renotable (g .tree) node (g .inside) (g .text) (g .single) (g .same) notes count (g .held) note (g .entry) short (g .few) (omega (arith, g .oldLong, g .oldShort)))
-
-  module _ (notes′ : List ℕ) (w : Renoted notes node count start old len note notes′) (canonical′ : List ℕ) (r : Reading) (z : Ended canonical old len count canonical′ r) where
-    its : Holds notes′ count (replace (g .tree) node (g .text))
-    its =
-        renoted-holds (g .tree) node (g .inside) (g .text) (g .single) (g .same) notes count (g .held) note (g .entry) short notes′
-        (rw (sym (g .starts), sym (g .oldLong), sym (g .long)) w)
-
-    pub refinished : Rewritten canonical old len count canonical′ notes′ r
-    refinished =
-        record {
-          octets = z .octets;
-          held = λ t i. subst (Holds notes′ count) (some-same (λ (u : Tree). replace (g .tree) node (g .text) ≡ u) (sym (g .is) ∙ i) refl) its;
-          tells = z .tells;
-        }
-
--- ---- settle
-module _ (canonical notes : List ℕ) (old len count node start note : ℕ) (b : Bool) (g : Workable canonical notes old len count node start note b) where
-  pub settle-works : b ≡ true → Reworkable canonical notes old len count node start note
-  settle-works y = g .works y
-
-module _ (new held count : ℕ) where
-  pub alone-is : new ≡ 1 → Alone new held count (eqb held count)
-  alone-is e = record { single = λ y. e; same = λ y. eqb-true held count y }
-
-  pub alone-not : Alone new held count false
-  alone-not = record { single = λ y. untrue y; same = λ y. untrue y }
 
 -- ---- retell
 module _ (notes table : List ℕ) (held count : ℕ) (g : Retellable notes (length table) held count) where

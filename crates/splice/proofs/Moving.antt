@@ -1,64 +1,20 @@
--- The functions over notes: what each does at one place, and what its loop keeps.
-use mir.Syntax.{w64}
-use mir.Val.{Fits}
-use Prim.Native.Nat.{ℕ, _+_, _*_, _-_, _/_, _≤_, _<_}
+-- What the loops over notes keep.
+use Prim.Native.Nat.{ℕ, suc, _+_, _-_, _≤_, _<_}
 use native.Mathlib.Omega.{arith}
+use native.Mathlib.Numerals.{add-one}
 use mathlib.Core.Path.{_≡_, refl, sym, ap, ap₂, _∙_, subst}
 use mathlib.Core.Bool.{Bool, true, false}
 use mathlib.Core.List.{List}
 use lib.ListN.{length, getD, set, length-set}
 use lib.Seq.{getD-set-same, getD-set-other}
-use lib.Dec.{ltb}
-use borrow.Author.Tests.{lt-ltb, le-ltb, eq-eqb, ne-eqb}
-use Rattle.base.proofs.Cases.{by-eq, picked, unpicked}
-use Rattle.model.specs.Limits.{mostNodes}
-use Rattle.sheets.specs.Notes.{listMark}
-use Rattle.tables.specs.Told.{rowBy, rowAt, startPart, endPart, thirdPart, Countable}
-use Rattle.splice.specs.Moved.{span, hinting, top, movedNote, ownNote, grownNote, Moving, Owning, Growing, holds, Growable, Growths, Shiftable, Shifted, Renotable, Renoted}
-
--- ---- one note
-
-module _ (m l l′ : ℕ) where
-  pub moved-plain : thirdPart m ≡ 0 → m + l′ * span - l * span ≡ movedNote m l l′
-  unfolding movedNote
-  moved-plain z = sym (picked _ _ (eq-eqb (thirdPart m) 0 z))
-
-  module _ (n : thirdPart m ≡ 0 → ⊥) where
-    pub moved-hinted : thirdPart m < listMark → m + l′ * hinting - l * hinting ≡ movedNote m l l′
-    unfolding movedNote
-    moved-hinted h = sym (unpicked _ _ (ne-eqb (thirdPart m) 0 n) ∙ picked _ _ (lt-ltb (thirdPart m) listMark h))
-
-    pub moved-list : listMark ≤ thirdPart m → m + l′ * span - l * span ≡ movedNote m l l′
-    unfolding movedNote
-    moved-list h = sym (unpicked _ _ (ne-eqb (thirdPart m) 0 n) ∙ unpicked _ _ (le-ltb (thirdPart m) listMark h))
-
-  pub moving-hinted : Moving m l l′ → (thirdPart m ≡ 0 → ⊥) → thirdPart m < listMark → l * hinting ≤ m + l′ * hinting
-  moving-hinted g n h = g .hinted n h
-
-  module _ (b : Bool) where
-    pub grown-held : b ≡ true → m + l′ - l ≡ grownNote m b l l′
-    unfolding grownNote
-    grown-held y = sym (picked _ _ y)
-
-    pub grown-aside : b ≡ false → m ≡ grownNote m b l l′
-    unfolding grownNote
-    grown-aside y = sym (unpicked _ _ y)
-
-    pub growing-low : Growing m b l l′ → b ≡ true → l ≤ m + l′
-    growing-low g y = g .low y
-
--- ---- the node's own
-
-module _ (note start m : ℕ) where
-  pub own-moving : Owning note start m → Moving note 0 start
-  own-moving g = g .moving
-
-  pub own-fits : Owning note start m → (r : ℕ) → r ≡ movedNote note 0 start → Fits w64 (r + m / top * top)
-  own-fits g r e = omega (arith, g .low, g .small, e)
-
-  pub own-note : (r : ℕ) → r ≡ movedNote note 0 start → r + m / top * top ≡ ownNote note start m
-  unfolding ownNote
-  own-note r e = ap (λ (x : ℕ). x + m / top * top) e
+use lib.Dec.{eqb}
+use borrow.Author.Tests.{ne-eqb}
+use Rattle.base.specs.Choice.{pick}
+use Rattle.base.proofs.Cases.{by-bool, by-eq, picked, unpicked}
+use Rattle.edits.specs.Levels.{latest}
+use Rattle.splice.specs.Moved.{laterNote, ownNote, listOver, grownNote, keptNote, Later, Owning, Growing, overAt, Growable, Growths, Grown, Shiftable, Shifted, ownAt, Puttable, Put}
+use Rattle.splice.proofs.Noting.{kept-grown, kept-aside}
+use Rattle.splice.specs.declared.notes.Growth.{Growth}
 
 -- ---- a store
 
@@ -66,142 +22,204 @@ module _ (notes : List ℕ) (j v i : ℕ) where
   pub stored-other : (i ≡ j → ⊥) → getD (set notes j v) i 0 ≡ getD notes i 0
   stored-other d = getD-set-other notes j i v 0 d
 
--- ---- the notes before a node
+-- ---- the notes before a spot
 
-pub record Around (notes : List ℕ) (node l l′ : ℕ) (cur : List ℕ) (j : ℕ) : Type 0 where
-  pub given : Growable notes node l l′
-  pub inside : j ≤ node
-  pub fits : node ≤ length cur
-  pub few : node ≤ mostNodes
-  pub is : Growths notes node l l′ j cur
+pub record Around (notes : List ℕ) (first e : ℕ) (b : Growth) (cur : List ℕ) (up j : ℕ) : Type 0 where
+  pub given : Growable notes first e b
+  pub inside : j ≤ first
+  pub fits : first ≤ length cur
+  pub is : Growths notes e b j cur
+  pub near : up ≤ j
+  pub inner : latest (overAt notes e) (first - j) j up ≡ latest (overAt notes e) first 0 0
 
-module _ (notes : List ℕ) (node l l′ : ℕ) where
-  pub grow-start : Growable notes node l l′ → Around notes node l l′ notes 0
-  grow-start g = record { given = g; inside = omega arith; fits = g .fits; few = g .few; is = record { long = refl; done = λ i h. absurd (omega arith); rest = λ i h. refl } }
+module _ (notes : List ℕ) (first e : ℕ) (b : Growth) where
+  pub grow-start : Growable notes first e b → Around notes first e b notes 0 0
+  grow-start g =
+      let z : first - 0 ≡ first = omega arith in
+      record { given = g; inside = omega arith; fits = g .fits; is = record { long = refl; done = λ i h. absurd (omega arith); rest = λ i h. refl }; near = omega arith; inner = rw z }
 
-  module _ (cur : List ℕ) (j : ℕ) (a : Around notes node l l′ cur j) where
+  module _ (cur : List ℕ) (up j : ℕ) (a : Around notes first e b cur up j) where
     pub grow-long : length cur ≡ length notes
     grow-long = a .is .long
 
-    pub grow-end : node ≤ j → Growths notes node l l′ node cur
-    grow-end h = let z : j ≡ node = omega (arith, a .inside) in subst (λ (k : ℕ). Growths notes node l l′ k cur) z (a .is)
+    pub grow-end : first ≤ j → Grown notes first e b cur up
+    unfolding latest
+    grow-end h =
+        let z : j ≡ first = omega (arith, a .inside) in
+        let y : first - j ≡ 0 = omega arith in
+        record {
+          grew = subst (λ (k : ℕ). Growths notes e b k cur) z (a .is);
+          inner = sym (ap (λ (n : ℕ). latest (overAt notes e) n j up) y) ∙ a .inner;
+          near = omega (arith, a .near);
+        }
 
-    module _ (h : j < node) where
-      pub grow-countable : Countable (length cur) j (node - j)
-      grow-countable = record { inside = omega (arith, a .fits); some = omega arith; few = omega (arith, a .few) }
-
+    module _ (h : j < first) where
       here : getD cur j 0 ≡ getD notes j 0
       here = a .is .rest j (omega arith)
 
-      held-is : holds cur node j ≡ holds notes node j
-      held-is = ap (λ (m : ℕ). ltb (node - j) ((rowBy (startPart m) (endPart m) (thirdPart m)) .count)) here
-
-      module _ (b : Bool) (e : b ≡ ltb (node - j) ((rowAt cur j) .count)) where
-        pub grow-growing : Growing (getD cur j 0) b l l′
-        grow-growing = rw (here, e ∙ held-is) (a .given .each j h)
-
-        pub grow-on : (v : ℕ) → v ≡ grownNote (getD cur j 0) b l l′ → Around notes node l l′ (set cur j v) (j + 1)
-        grow-on v f =
-            record {
-              given = a .given;
-              inside = omega arith;
-              fits = omega (arith, length-set cur j v, a .fits);
-              few = a .few;
-              is = record {
-                long = length-set cur j v ∙ a .is .long;
-                done = λ i k.
-                    by-eq i j
-                    (λ q. rw q (getD-set-same cur j v 0 (omega (arith, a .fits)) ∙ f ∙ ap₂ (λ (m : ℕ) (c : Bool). grownNote m c l l′) here (e ∙ held-is)))
-                    (λ q. stored-other cur j v i q ∙ a .is .done i (omega arith));
-                rest = λ i k. stored-other cur j v i (λ q. omega arith) ∙ a .is .rest i (omega arith);
-              };
-            }
-
--- ---- notes from one on
-
-pub record After (notes : List ℕ) (from to l l′ : ℕ) (cur : List ℕ) (j : ℕ) : Type 0 where
-  pub given : Shiftable notes from to l l′
-  pub low : from ≤ j
-  pub inside : j ≤ to
-  pub fits : to ≤ length cur
-  pub is : Shifted notes from j l l′ cur
-
-module _ (notes : List ℕ) (from to l l′ : ℕ) where
-  pub shift-start : Shiftable notes from to l l′ → After notes from to l l′ notes from
-  shift-start g =
-      record { given = g; low = omega arith; inside = g .ordered; fits = g .fits; is = record { long = refl; first = λ i h. refl; done = λ i h k. absurd (omega arith); rest = λ i h. refl } }
-
-  module _ (cur : List ℕ) (j : ℕ) (a : After notes from to l l′ cur j) where
-    pub shift-long : length cur ≡ length notes
-    shift-long = a .is .long
-
-    pub shift-end : to ≤ j → Shifted notes from to l l′ cur
-    shift-end h = let z : j ≡ to = omega (arith, a .inside) in subst (λ (k : ℕ). Shifted notes from k l l′ cur) z (a .is)
-
-    module _ (h : j < to) where
-      now-is : getD cur j 0 ≡ getD notes j 0
-      now-is = a .is .rest j (omega arith)
-
-      pub shift-moving : Moving (getD cur j 0) l l′
-      shift-moving = rw now-is (a .given .each j (a .low) h)
-
-      pub shift-on : (v : ℕ) → v ≡ movedNote (getD cur j 0) l l′ → After notes from to l l′ (set cur j v) (j + 1)
-      shift-on v f =
+      -- one more, stored or not: up is then the last so far
+      on : (after : List ℕ) → length after ≡ length cur → getD after j 0 ≡ keptNote (getD notes j 0) e b → ((i : ℕ) → (i ≡ j → ⊥) → getD after i 0 ≡ getD cur i 0)
+          → (up′ : ℕ) → pick (overAt notes e j) j up ≡ up′ → up′ ≤ j + 1 → Around notes first e b after up′ (j + 1)
+      unfolding latest
+      on after long q others up′ w near =
+          let z : first - j ≡ suc (first - (j + 1)) = omega arith in
           record {
             given = a .given;
-            low = omega (arith, a .low);
             inside = omega arith;
-            fits = omega (arith, length-set cur j v, a .fits);
+            fits = omega (arith, a .fits);
             is = record {
-              long = length-set cur j v ∙ a .is .long;
-              first = λ i k. stored-other cur j v i (λ q. omega (arith, a .low)) ∙ a .is .first i k;
-              done = λ i k e.
-                  by-eq i j
-                  (λ q. rw q (getD-set-same cur j v 0 (omega (arith, a .fits)) ∙ f ∙ ap (λ (m : ℕ). movedNote m l l′) now-is))
-                  (λ q. stored-other cur j v i q ∙ a .is .done i k (omega arith));
-              rest = λ i k. stored-other cur j v i (λ q. omega arith) ∙ a .is .rest i (omega arith);
+              long = long ∙ a .is .long;
+              done = λ i k. by-eq i j (λ p. rw p q) (λ p. others i p ∙ a .is .done i (omega arith));
+              rest = λ i k. others i (λ p. omega arith) ∙ a .is .rest i (omega arith);
             };
+            near = near;
+            inner = ap₂ (λ (k u : ℕ). latest (overAt notes e) (first - (j + 1)) k u) (add-one j) (sym w)
+                ∙ sym (ap (λ (n : ℕ). latest (overAt notes e) n j up) z) ∙ a .inner;
           }
 
--- ---- all of them
+      module _ (o : Bool) (f : o ≡ listOver (getD cur j 0) e) where
+        over-is : overAt notes e j ≡ o
+        over-is = sym (f ∙ ap (λ (m : ℕ). listOver m e) here)
 
-module _ (notes : List ℕ) (node count start l l′ note : ℕ) (g : Renotable notes node count start l l′ note) where
-  pub renote-growable : Growable notes node l l′
-  renote-growable = record { fits = omega (arith, g .inside, g .fits); few = omega (arith, g .inside, g .few); each = g .grows }
+        pub grow-growing : o ≡ true → Growing (getD cur j 0) b
+        grow-growing y = rw here (a .given .each j h (over-is ∙ y))
 
-  module _ (notes₁ : List ℕ) (w : Growths notes node l l′ node notes₁) where
-    pub renote-inside : node < length notes₁
-    renote-inside = omega (arith, w .long, g .inside, g .fits)
+        pub grow-over : o ≡ true → (v : ℕ) → v ≡ grownNote (getD cur j 0) b → Around notes first e b (set cur j v) j (j + 1)
+        grow-over y v q =
+            on (set cur j v) (length-set cur j v)
+            (getD-set-same cur j v 0 (omega (arith, a .fits)) ∙ q ∙ ap (λ (m : ℕ). grownNote m b) here ∙ kept-grown (getD notes j 0) e b (over-is ∙ y))
+            (λ i p. stored-other cur j v i p) j (picked _ _ (over-is ∙ y)) (omega arith)
 
-    renote-same : getD notes₁ node 0 ≡ getD notes node 0
-    renote-same = w .rest node (omega arith)
+        pub grow-aside : o ≡ false → Around notes first e b cur up (j + 1)
+        grow-aside y = on cur refl (here ∙ kept-aside (getD notes j 0) e b (over-is ∙ y)) (λ i p. refl) up (unpicked _ _ (over-is ∙ y)) (omega (arith, a .near))
 
-    pub renote-owning : Owning note start (getD notes₁ node 0)
-    renote-owning = rw renote-same (g .entry)
+-- ---- the notes behind it
 
-    module _ (v : ℕ) (e : v ≡ ownNote note start (getD notes₁ node 0)) where
-      abbrev notes₂ : List ℕ
-      notes₂ = set notes₁ node v
+-- of n notes, D are done, and L are left and not yet written over
+pub record Shifting (notes : List ℕ) (first from to n : ℕ) (b : Growth) (D L : ℕ → Type 0) (cur : List ℕ) : Type 0 where
+  pub given : Shiftable notes first from to n b
+  pub long : length cur ≡ length notes
+  pub before : (i : ℕ) → i < from → i < to → getD cur i 0 ≡ getD notes i 0
+  pub done : (i : ℕ) → i < n → D i → getD cur (to + i) 0 ≡ laterNote (getD notes (from + i) 0) first b
+  pub left : (i : ℕ) → i < n → L i → getD cur (from + i) 0 ≡ getD notes (from + i) 0
 
-      above : (i : ℕ) → node < i → getD notes₂ i 0 ≡ getD notes i 0
-      above i h = stored-other notes₁ node v i (λ q. omega arith) ∙ w .rest i (omega arith)
+module _ (notes : List ℕ) (first from to n : ℕ) (b : Growth) where
+  begin : (D L : ℕ → Type 0) → ((i : ℕ) → i < n → D i → ⊥) → Shiftable notes first from to n b → Shifting notes first from to n b D L notes
+  begin D L none g = record { given = g; long = refl; before = λ i h k. refl; done = λ i h d. absurd (none i h d); left = λ i h l. refl }
 
-      pub renote-shiftable : Shiftable (set notes₁ node v) (node + 1) count l l′
-      renote-shiftable =
+  module _ (D L : ℕ → Type 0) (cur : List ℕ) (a : Shifting notes first from to n b D L cur) where
+    all : ((i : ℕ) → i < n → D i) → Shifted notes first from to n b cur
+    all every = record { long = a .long; before = a .before; done = λ i h. a .done i h (every i h) }
+
+    module _ (k : ℕ) (h : k < n) (l : L k) where
+      pub shift-later : Later (getD cur (from + k) 0) first b
+      shift-later = rw (a .left k h l) (a .given .each k h)
+
+      -- one more
+      step : (v : ℕ) → v ≡ laterNote (getD cur (from + k) 0) first b → (D′ L′ : ℕ → Type 0) → ((i : ℕ) → D′ i → (i ≡ k → ⊥) → D i) → ((i : ℕ) → L′ i → L i)
+          → ((i : ℕ) → L′ i → from + i ≡ to + k → ⊥) → Shifting notes first from to n b D′ L′ (set cur (to + k) v)
+      step v e D′ L′ dones lefts apart =
           record {
-            ordered = omega (arith, g .inside);
-            fits = omega (arith, length-set notes₁ node v, w .long, g .fits);
-            each = λ i h k. rw (above i (omega arith)) (g .shifts i (omega arith) k);
+            given = a .given;
+            long = length-set cur (to + k) v ∙ a .long;
+            before = λ i p q. stored-other cur (to + k) v i (λ z. omega arith) ∙ a .before i p q;
+            done = λ i p d.
+                by-eq i k
+                (λ z. rw z (getD-set-same cur (to + k) v 0 (omega (arith, a .long, a .given .fits)) ∙ e ∙ ap (λ (m : ℕ). laterNote m first b) (a .left k h l)))
+                (λ z. stored-other cur (to + k) v (to + i) (λ y. z (omega arith)) ∙ a .done i p (dones i d z));
+            left = λ i p q. stored-other cur (to + k) v (from + i) (apart i q) ∙ a .left i p (lefts i q);
           }
 
-      pub renote-long : (notes₃ : List ℕ) → Shifted (set notes₁ node v) (node + 1) count l l′ notes₃ → length notes₃ ≡ length notes
-      renote-long notes₃ s = s .long ∙ length-set notes₁ node v ∙ w .long
+-- from the first on
+abbrev pub Lowering : List ℕ → ℕ → ℕ → ℕ → ℕ → Growth → List ℕ → ℕ → Type 0
+Lowering notes first from to n b cur j = Shifting notes first from to n b (λ (i : ℕ). i < j) (λ (i : ℕ). j ≤ i) cur
 
-      pub renoted : (notes₃ : List ℕ) → Shifted (set notes₁ node v) (node + 1) count l l′ notes₃ → Renoted notes node count start l l′ note notes₃
-      renoted notes₃ s =
+-- from the last on
+pub record Raising (notes : List ℕ) (first from to n : ℕ) (b : Growth) (cur : List ℕ) (j : ℕ) : Type 0 where
+  pub inside : j ≤ n
+  pub is : Shifting notes first from to n b (λ (i : ℕ). j ≤ i) (λ (i : ℕ). i < j) cur
+
+module _ (notes : List ℕ) (first from to n : ℕ) (b : Growth) where
+  pub lower-start : Shiftable notes first from to n b → Lowering notes first from to n b notes 0
+  lower-start g = begin notes first from to n b _ _ (λ i h d. omega arith) g
+
+  pub raise-start : Shiftable notes first from to n b → Raising notes first from to n b notes n
+  raise-start g = record { inside = omega arith; is = begin notes first from to n b _ _ (λ i h d. omega arith) g }
+
+  module _ (cur : List ℕ) (j : ℕ) where
+    pub lower-long : Lowering notes first from to n b cur j → length cur ≡ length notes
+    lower-long a = a .long
+
+    pub raise-long : Raising notes first from to n b cur j → length cur ≡ length notes
+    raise-long a = a .is .long
+
+    pub lower-end : Lowering notes first from to n b cur j → n ≤ j → Shifted notes first from to n b cur
+    lower-end a h = all notes first from to n b _ _ cur a (λ i k. omega arith)
+
+    pub raise-end : Raising notes first from to n b cur j → j ≤ 0 → Shifted notes first from to n b cur
+    raise-end a h = all notes first from to n b _ _ cur (a .is) (λ i k. omega arith)
+
+    pub lower-later : Lowering notes first from to n b cur j → j < n → Later (getD cur (from + j) 0) first b
+    lower-later a h = shift-later notes first from to n b _ _ cur a j h (omega arith)
+
+    pub lower-on : Lowering notes first from to n b cur j → j < n → to ≤ from → (v : ℕ) → v ≡ laterNote (getD cur (from + j) 0) first b
+        → Lowering notes first from to n b (set cur (to + j) v) (j + 1)
+    lower-on a h o v e = step notes first from to n b _ _ cur a j h (omega arith) v e _ _ (λ i d z. omega arith) (λ i l. omega arith) (λ i l z. omega arith)
+
+    pub raise-later : Raising notes first from to n b cur j → 0 < j → Later (getD cur (from + (j - 1)) 0) first b
+    raise-later a h = shift-later notes first from to n b _ _ cur (a .is) (j - 1) (omega (arith, a .inside)) (omega arith)
+
+    pub raise-on : Raising notes first from to n b cur j → 0 < j → from ≤ to → (v : ℕ) → v ≡ laterNote (getD cur (from + (j - 1)) 0) first b
+        → Raising notes first from to n b (set cur (to + (j - 1)) v) (j - 1)
+    raise-on a h o v e =
+        record {
+          inside = omega (arith, a .inside);
+          is = step notes first from to n b _ _ cur (a .is) (j - 1) (omega (arith, a .inside)) (omega arith) v e _ _ (λ i d z. omega arith) (λ i l. omega arith) (λ i l z. omega arith);
+        }
+
+-- ---- the notes of what comes
+
+pub record Putting (notes : List ℕ) (start first up : ℕ) (cur : List ℕ) (above j : ℕ) : Type 0 where
+  pub given : Puttable notes start first up
+  pub inside : j ≤ length notes
+  pub long : length cur ≡ length notes
+  pub next : above ≡ pick (eqb j 0) up first
+  pub done : (i : ℕ) → i < j → getD cur i 0 ≡ ownAt notes start first up i
+  pub rest : (i : ℕ) → j ≤ i → getD cur i 0 ≡ getD notes i 0
+
+module _ (notes : List ℕ) (start first up : ℕ) where
+  pub put-start : Puttable notes start first up → Putting notes start first up notes up 0
+  put-start g = record { given = g; inside = omega arith; long = refl; next = refl; done = λ i h. absurd (omega arith); rest = λ i h. refl }
+
+  module _ (cur : List ℕ) (above j : ℕ) (a : Putting notes start first up cur above j) where
+    pub put-long : length cur ≡ length notes
+    put-long = a .long
+
+    pub put-end : length cur ≤ j → Put notes start first up cur
+    put-end h = record { long = a .long; done = λ i k. a .done i (omega (arith, a .long)) }
+
+    module _ (h : j < length cur) where
+      here-is : getD cur j 0 ≡ getD notes j 0
+      here-is = a .rest j (omega arith)
+
+      pub put-owning : Owning (getD cur j 0) start above
+      put-owning =
           record {
-            long = s .long ∙ length-set notes₁ node v ∙ w .long;
-            grew = λ i h. s .first i (omega arith) ∙ stored-other notes₁ node v i (λ q. omega arith) ∙ w .done i h;
-            entry = s .first node (omega arith) ∙ getD-set-same notes₁ node v 0 renote-inside ∙ e ∙ ap (ownNote note start) renote-same;
-            shifted = λ i h k. s .done i (omega arith) k ∙ ap (λ (m : ℕ). movedNote m l l′) (above i h);
+            small = rw here-is (a .given .small j (omega (arith, a .long)));
+            short = a .given .short;
+            few = by-bool (eqb j 0) (λ y. omega (arith, a .next, picked up first y, a .given .few)) (λ y. omega (arith, a .next, unpicked up first y, a .given .few));
+          }
+
+      pub put-on : (v : ℕ) → v ≡ ownNote (getD cur j 0) start above → Putting notes start first up (set cur j v) first (j + 1)
+      put-on v e =
+          record {
+            given = a .given;
+            inside = omega (arith, a .long);
+            long = length-set cur j v ∙ a .long;
+            next = sym (unpicked _ _ (ne-eqb (j + 1) 0 (λ z. omega arith)));
+            done = λ i k.
+                by-eq i j
+                (λ z. rw z (getD-set-same cur j v 0 h ∙ e ∙ ap₂ (λ (m u : ℕ). ownNote m start u) here-is (a .next)))
+                (λ z. stored-other cur j v i z ∙ a .done i (omega arith));
+            rest = λ i k. stored-other cur j v i (λ z. omega arith) ∙ a .rest i (omega arith);
           }

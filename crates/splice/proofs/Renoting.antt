@@ -1,47 +1,57 @@
--- A string that gives way to a string: the notes, moved and grown, are those of the new tree.
-use Prim.Native.Nat.{ℕ, suc, _+_, _*_, _-_, _/_, _≤_, _<_}
+-- Where something else comes to stand at a spot, the notes, moved and grown, are those of the new tree.
+use Prim.Native.Nat.{ℕ, _+_, _*_, _-_, _/_, _≤_, _<_}
 use native.Mathlib.Omega.{arith}
-use native.Mathlib.Nat.{add-zero}
 use mathlib.Core.Path.{_≡_, refl, sym, ap, ap₂, _∙_, subst}
 use mathlib.Core.Bool.{true}
-use mathlib.Core.List.{List, [], _∷_}
-use lib.ListN.{length, take, getD}
-use lib.Seq.{getD-take, length-take-le}
-use lib.Dec.{ltb}
-use borrow.Author.Tests.{lt-ltb, le-ltb, eq-eqb, ne-eqb}
-use Rattle.base.proofs.Cases.{by-bool, by-eq, by-le, picked, unpicked, differ}
-use Rattle.model.specs.Edit.{replace}
+use mathlib.Core.List.{List}
+use lib.ListN.{length, getD}
+use lib.Seq.{take-all}
+use lib.Dec.{eqb}
+use borrow.Author.Tests.{lt-ltb, le-ltb, eq-eqb, ne-eqb, le-leb, lt-leb}
+use Rattle.base.specs.Choice.{pick}
+use Rattle.base.proofs.Cases.{by-bool, by-eq, by-le, picked, unpicked}
 use Rattle.model.specs.Limits.{mostNodes, maxSource}
-use Rattle.model.specs.Table.{Row, plainRow, rows, rowOf, parentOf}
-use Rattle.model.specs.Tree.{Tree, plain, hinted, list, Forest, canon, nodes}
+use Rattle.model.specs.Table.{Row, plainRow, rows, rowss, parents, parentss, rowOf, parentOf}
+use Rattle.model.specs.Tree.{Tree, Forest, canon, canons, nodes, nodess, depth, depths}
 use Rattle.sheets.specs.Notes.{listMark, thirdOf, noteOf, noted}
 use Rattle.sheets.specs.Places.{shift}
 use Rattle.tables.specs.Told.{rowBy, startPart, endPart, thirdPart, Holds}
-use Rattle.tables.proofs.Telling.{noted-at, holds-few, holds-row, holds-note, parent-few, holds-parent, holds-long}
+use Rattle.tables.proofs.Telling.{noted-at, holds-row, holds-note, parent-few, holds-parent}
 use Rattle.sheets.proofs.Keeping.{noted-length}
+use Rattle.walk.proofs.Tabled.{rows-length}
+use Rattle.edits.specs.Levels.{latest}
 use Rattle.edits.specs.Moves.{Grows, Shifts}
-use Rattle.edits.specs.Node as node
-use Rattle.edits.proofs.Demand.{entry-in, lists-around-lists, replace-nodes, record-stays, record-grows, record-entry, record-shifts, parent-stays, parent-entry, parent-shifts}
-use Rattle.edits.proofs.Above.{root-up}
-use Rattle.edits.proofs.Parents.{up-stays, up-shifts}
-use Rattle.splice.specs.Moved.{span, hinting, top, roomy, movedNote, ownNote, grownNote, Moving, holds, Renotable, Renoted}
-use Rattle.splice.proofs.Moving.{moved-plain, moved-hinted, moved-list, grown-held, grown-aside}
+use Rattle.edits.specs.Moves as edits
+use Rattle.edits.specs.Place.{around, moved, upAt}
+use Rattle.edits.proofs.Sides.{Side, aside, round}
+use Rattle.edits.proofs.Holds.{is-aside, is-around}
+use Rattle.edits.proofs.Changed.{change-moves, change-side, change-list, change-stays, change-grows, change-shifts, change-depth}
+use Rattle.edits.proofs.Moved.{new-length, record-new, getD-map-in}
+use Rattle.edits.proofs.Rows.{rows-moved}
+use Rattle.edits.proofs.Above.{root-up, inner-up, change-up-before, change-up-new, change-up-later, change-up-fits}
+use Rattle.edits.proofs.Inner.{change-inner}
+use Rattle.edits.proofs.Parents.{parentss-one, up-stays, up-shifts}
+use Rattle.edits.proofs.Whole.{canons-one, nodess-one, depths-one, rowss-one}
+use Rattle.splice.specs.Moved.{span, third, top, plainly, roomy, movedNote, laterNote, ownNote, listOver, keptNote, Later, Growing, overAt, ownAt}
+use Rattle.splice.specs.Renoted.{Renotable}
+use Rattle.splice.proofs.Noting.{moved-plain, moved-hinted, moved-list, later-inside, later-behind, over-string, over-list, kept-grown, kept-aside}
+use Rattle.splice.specs.declared.notes.Growth.{Growth}
 
 -- ---- a note and its row
 
--- what the third part of a note tells of its row
-data Kinded (x : ℕ) (r : Row) : Type 0 where
-  bare : x ≡ 0 → r .kind ≡ 0 → r .hintStart ≡ 0 → Kinded x r
-  marked : (x ≡ 0 → ⊥) → x < listMark → r .kind ≡ 1 → r .hintStart ≡ x → Kinded x r
-  listed : (x ≡ 0 → ⊥) → listMark ≤ x → r .kind ≡ 2 → Kinded x r
+-- what the second and the third part of a note tell of its row
+data Kinded (b x : ℕ) (r : Row) : Type 0 where
+  bare : x ≡ 0 → r .kind ≡ 0 → r .hintStart ≡ 0 → Kinded b x r
+  marked : (x ≡ 0 → ⊥) → x < listMark → r .kind ≡ 1 → r .hintStart ≡ x → Kinded b x r
+  listed : (x ≡ 0 → ⊥) → listMark ≤ x → r .kind ≡ 2 → r .end ≡ b + 1 → Kinded b x r
 
-kinded : (a b x : ℕ) (r : Row) → rowBy a b x ≡ r → Kinded x r
+kinded : (a b x : ℕ) (r : Row) → rowBy a b x ≡ r → Kinded b x r
 unfolding rowBy
 kinded a b x r e =
     by-eq x 0
     (λ z. let p = sym e ∙ picked _ _ (eq-eqb x 0 z) in bare z (ap (λ (s : Row). s .kind) p) (ap (λ (s : Row). s .hintStart) p))
     (λ n. by-le listMark x
-    (λ l. let p = sym e ∙ unpicked _ _ (ne-eqb x 0 n) ∙ unpicked _ _ (le-ltb x listMark l) in listed n l (ap (λ (s : Row). s .kind) p))
+    (λ l. let p = sym e ∙ unpicked _ _ (ne-eqb x 0 n) ∙ unpicked _ _ (le-ltb x listMark l) in listed n l (ap (λ (s : Row). s .kind) p) (ap (λ (s : Row). s .end) p))
     (λ l. let p = sym e ∙ unpicked _ _ (ne-eqb x 0 n) ∙ picked _ _ (lt-ltb x listMark l) in marked n l (ap (λ (s : Row). s .kind) p) (ap (λ (s : Row). s .hintStart) p)))
 
 -- what a note tells beside the parent is small
@@ -54,6 +64,11 @@ kept-small a b x r i j k e =
     (λ l. subst (λ (s : Row). noteOf s 0 < 2 * top) (sym (unpicked _ _ (ne-eqb x 0 n) ∙ unpicked _ _ (le-ltb x listMark l)) ∙ e) (omega arith))
     (λ l. subst (λ (s : Row). noteOf s 0 < 2 * top) (sym (unpicked _ _ (ne-eqb x 0 n) ∙ picked _ _ (lt-ltb x listMark l)) ∙ e) (omega arith)))
 
+pub note-small : (notes : List ℕ) (n : ℕ) (t : Tree) → Holds notes n t → n ≤ mostNodes → (i : ℕ) → i < n → getD notes i 0 < roomy
+note-small notes n t g few i h =
+    let x = kept-small (startPart (getD notes i 0)) (endPart (getD notes i 0)) (thirdPart (getD notes i 0)) (rowOf t i) (omega arith) (omega arith) (omega arith) (holds-row notes n t g i h) in
+    omega (arith, x, holds-note notes n t g i h, parent-few notes n t g i h, g .counted)
+
 third-list : (r : Row) → r .kind ≡ 2 → thirdOf r ≡ listMark + r .count
 third-list r e = picked _ _ (eq-eqb (r .kind) 2 e)
 
@@ -65,193 +80,213 @@ third-other r e = unpicked _ _ (ne-eqb (r .kind) 2 e)
 record Moves (m l l′ : ℕ) (r′ : Row) (up : ℕ) : Type 0 where
   pub is : noteOf r′ up ≡ movedNote m l l′
   pub low : l * span ≤ m + l′ * span
-  pub far : (thirdPart m ≡ 0 → ⊥) → thirdPart m < listMark → l * hinting ≤ m + l′ * hinting
+  pub far : (thirdPart m ≡ 0 → ⊥) → thirdPart m < listMark → l * third ≤ plainly m l l′ + l′ * third
 
-shifts : (m l l′ : ℕ) (r r′ : Row) (up : ℕ) → m ≡ noteOf r up → Kinded (thirdPart m) r → Shifts r r′ l l′ → Moves m l l′ r′ up
-shifts m l l′ r r′ up e (bare z k c) s =
+shifts : (b m l l′ : ℕ) (r r′ : Row) (up : ℕ) → m ≡ noteOf r up → Kinded b (thirdPart m) r → Shifts r r′ l l′ → Moves m l l′ r′ up
+shifts b m l l′ r r′ up e (bare z k c) s =
     let h = s .withoutHint (λ q. omega (arith, q, k)) in
     let p = third-other r (λ q. omega (arith, q, k)) in
     let p′ = third-other r′ (λ q. omega (arith, q, k, s .kind)) in
     let x : noteOf r′ up + l * span ≡ m + l′ * span = omega (arith, e, p, p′, c, h .0, s .dataStart, s .dataEnd) in
     record { is = omega (arith, x) ∙ moved-plain m l l′ z; low = omega (arith, x); far = λ n q. absurd (n z) }
-shifts m l l′ r r′ up e (marked n b k c) s =
+shifts b m l l′ r r′ up e (marked n i k c) s =
     let h = s .withHint k in
     let p = third-other r (λ q. omega (arith, q, k)) in
     let p′ = third-other r′ (λ q. omega (arith, q, k, s .kind)) in
-    let x : noteOf r′ up + l * hinting ≡ m + l′ * hinting = omega (arith, e, p, p′, h .0, s .dataStart, s .dataEnd) in
     let y : l * span ≤ m + l′ * span = omega (arith, e, s .dataStart, s .dataEnd) in
-    record { is = omega (arith, x) ∙ moved-hinted m l l′ n b; low = y; far = λ i j. omega (arith, x) }
-shifts m l l′ r r′ up e (listed n b k) s =
+    let x : noteOf r′ up + l * third ≡ plainly m l l′ + l′ * third = omega (arith, y, e, p, p′, h .0, s .dataStart, s .dataEnd) in
+    record { is = omega (arith, x) ∙ moved-hinted m l l′ n i; low = y; far = λ u v. omega (arith, x) }
+shifts b m l l′ r r′ up e (listed n i k c) s =
     let p = third-list r k in
     let p′ = third-list r′ (s .kind ∙ k) in
     let x : noteOf r′ up + l * span ≡ m + l′ * span = omega (arith, e, p, p′, s .count, s .dataStart, s .dataEnd) in
-    record { is = omega (arith, x) ∙ moved-list m l l′ n b; low = omega (arith, x); far = λ i j. absurd (omega arith) }
+    record { is = omega (arith, x) ∙ moved-list m l l′ n i; low = omega (arith, x); far = λ u v. absurd (omega arith) }
 
-list-long : (f : Forest) → 0 < length (canon (list f))
-unfolding canon
-list-long f = omega arith
-
--- a tree's first row, where its octets begin elsewhere
-first-shifts : (u : Tree) (at : ℕ) → Shifts (rowOf u 0) (getD (rows u at) 0 (plainRow 0 0 0)) 0 at
-unfolding rows
-first-shifts (plain d) at =
-    record { kind = refl; count = refl; start = omega arith; end = omega arith; dataStart = omega arith; dataEnd = omega arith; withHint = λ q. absurd (omega (arith, q)); withoutHint = λ q. (refl, refl) }
-first-shifts (hinted h d) at =
-    record { kind = refl; count = refl; start = omega arith; end = omega arith; dataStart = omega arith; dataEnd = omega arith; withHint = λ q. (omega arith, omega arith); withoutHint = λ q. absurd (q refl) }
-first-shifts (list f) at =
-    record { kind = refl; count = refl; start = omega arith; end = omega arith; dataStart = omega arith; dataEnd = omega (arith, list-long f); withHint = λ q. absurd (omega (arith, q)); withoutHint = λ q. (refl, refl) }
-
--- moved to where it begins, it is small too
-moved-low : (m l′ : ℕ) → m < 2 * top → l′ ≤ maxSource → movedNote m 0 l′ < 3 * top
-moved-low m l′ h s =
-    by-eq (thirdPart m) 0
-    (λ z. rw (← moved-plain m 0 l′ z) (omega arith))
-    (λ n. by-le listMark (thirdPart m)
-    (λ b. rw (← moved-list m 0 l′ n b) (omega arith))
-    (λ b. rw (← moved-hinted m 0 l′ n b) (omega arith)))
+-- a row whose octets begin elsewhere
+moved-shifts : (r : Row) (at : ℕ) → Shifts r (moved 0 at r) 0 at
+moved-shifts r at =
+    record {
+      kind = refl;
+      count = refl;
+      start = omega arith;
+      end = omega arith;
+      dataStart = omega arith;
+      dataEnd = omega arith;
+      withHint = λ o. rw (eq-eqb (r .kind) 1 o) (omega arith, omega arith);
+      withoutHint = λ o. rw (ne-eqb (r .kind) 1 o) (refl, refl);
+    }
 
 -- ---- a list around
 
-grows : (m l l′ c : ℕ) (r r′ : Row) (up : ℕ) → m ≡ noteOf r up → r .kind ≡ 2 → Grows r r′ l l′ c c → noteOf r′ up + l ≡ m + l′
-grows m l l′ c r r′ up e k g =
+-- by its note and by its row, which is before the spot
+over-side : (m k n i s e : ℕ) (r : Row) → Kinded (endPart m) (thirdPart m) r → s ≤ e → Side r i k n s e → listOver m e ≡ around s (s + (e - s)) r
+over-side m k n i s e r (listed u v k′ q) o (aside y z) = sym (over-list m e v) ∙ lt-leb e (endPart m) (omega arith) ∙ sym (is-aside s (e - s) r y)
+over-side m k n i s e r (listed u v k′ q) o (round y z w x p) = sym (over-list m e v) ∙ le-leb e (endPart m) (omega arith) ∙ sym (is-around s (e - s) r z (omega arith))
+over-side m k n i s e r (bare u k′ q) o (aside y z) = sym (over-string m e (omega arith)) ∙ sym (is-aside s (e - s) r y)
+over-side m k n i s e r (bare u k′ q) o (round y z w x p) = absurd (omega (arith, y, k′))
+over-side m k n i s e r (marked u v k′ q) o (aside y z) = sym (over-string m e v) ∙ sym (is-aside s (e - s) r y)
+over-side m k n i s e r (marked u v k′ q) o (round y z w x p) = absurd (omega (arith, y, k′))
+
+grows : (m l l′ c c′ : ℕ) (r r′ : Row) (up : ℕ) → m ≡ noteOf r up → r .kind ≡ 2 → Grows r r′ l l′ c c′ → noteOf r′ up + (l + c * third) ≡ m + (l′ + c′ * third)
+grows m l l′ c c′ r r′ up e k g =
     let p = third-list r k in
     let p′ = third-list r′ (g .kind ∙ k) in
     omega (arith, e, p, p′, g .count, g .dataStart, g .dataEnd)
 
 -- ---- all of them
+module _ (octets notes : List ℕ) (first start end count : ℕ) (b : Growth) (w : Renotable octets notes first start end count b) where
+  abbrev t : Tree
+  t = w .old
 
-same-list : (xs ys : List ℕ) → length xs ≡ length ys → ((i : ℕ) → i < length xs → getD xs i 0 ≡ getD ys i 0) → xs ≡ ys
-same-list [] [] e f = refl
-same-list [] (y ∷ ys) e f = absurd (omega (arith, e))
-same-list (x ∷ xs) [] e f = absurd (omega (arith, e))
-same-list (x ∷ xs) (y ∷ ys) e f = ap₂ (λ (a : ℕ) (l : List ℕ). a ∷ l) (f 0 (omega arith)) (same-list xs ys (omega (arith, e)) (λ i h. f (suc i) (omega arith)))
-
--- from node i on, or from node 0 on
-apart : (k i c : ℕ) → i ≤ k → ltb (k - i) c ≡ ltb k (i + c)
-apart k i c h =
-    by-le c (k - i)
-    (λ l. le-ltb (k - i) c l ∙ sym (le-ltb k (i + c) (omega arith)))
-    (λ l. lt-ltb (k - i) c l ∙ sym (lt-ltb k (i + c) (omega arith)))
-
-module _ (t : Tree) (k : ℕ) (inside : k < nodes t) (u : Tree) (one : nodes u ≡ 1) (same : nodes (replace t k u) ≡ nodes t) (notes : List ℕ) (count : ℕ) (g : Holds notes count t)
-    (note : ℕ) (n : Holds (note ∷ []) 1 u) (short : length (canon (replace t k u)) ≤ maxSource) where
   abbrev new : Tree
-  new = replace t k u
+  new = w .new
 
-  abbrev l : ℕ
-  l = length (canon t)
+  abbrev law : edits.Moves t new first (w .given) start (end - start) (w .comes)
+  law = change-moves (w .change)
 
-  abbrev l′ : ℕ
-  l′ = length (canon new)
+  -- the numbers of nodes, behind the spot and in all
+  pub sums : (first + w .given ≤ b .held) × (first + count ≤ b .count) × (b .count + w .given ≡ b .held + count)
+  sums =
+      let x = law .nodesIn in
+      let y = law .count in
+      (omega (arith, w .held .counted), omega (arith, w .held .counted, w .counted, w .newCounted), omega (arith, w .held .counted, w .counted, w .newCounted))
 
-  abbrev start : ℕ
-  start = (rowOf t k) .start
+  at-note : (i : ℕ) → i < b .held → getD notes i 0 ≡ noteOf (rowOf t i) (parentOf t i)
+  at-note i h = holds-note notes (b .held) t (w .held) i h
 
-  -- the node has one node
-  single : (rowOf t k) .count ≡ 1
-  single = omega (arith, replace-nodes t k inside u, one, same)
+  at-kinded : (i : ℕ) → i < b .held → Kinded (endPart (getD notes i 0)) (thirdPart (getD notes i 0)) (rowOf t i)
+  at-kinded i h = kinded _ _ _ (rowOf t i) (holds-row notes (b .held) t (w .held) i h)
 
-  -- every node stays in its list
-  parent-same : (i : ℕ) → i < count → parentOf new i ≡ parentOf t i
-  parent-same i h =
-      by-le k i
-      (λ a. by-eq i k
-      (λ q. rw q (parent-entry t k inside u))
-      (λ q. parent-shifts t k inside u i i (omega (arith, single)) (omega (arith, g .counted)) (omega (arith, same))
-      ∙ by-le k (parentOf t i)
-      (λ b. sym (up-shifts k ((rowOf t k) .count) (nodes u) (parentOf t i) b) ∙ omega (arith, single, one))
-      (λ b. sym (up-stays k ((rowOf t k) .count) (nodes u) (parentOf t i) b))))
-      (λ a. parent-stays t k inside u i a)
+  at-small : (i : ℕ) → i < b .held → getD notes i 0 < roomy
+  at-small i h = note-small notes (b .held) t (w .held) (w .fit .few .0) i h
 
-  at-held : (i : ℕ) → i < count → getD notes i 0 ≡ noteOf (rowOf t i) (parentOf t i)
-  at-held i h = holds-note notes count t g i h
+  -- ---- before the spot
+  over-is : (i : ℕ) → i < first → overAt notes end i ≡ around start (start + (end - start)) (rowOf t i)
+  over-is i h =
+      let z : start + (end - start) ≡ end = omega (arith, w .ordered) in
+      over-side (getD notes i 0) first (w .given) i start end (rowOf t i) (at-kinded i (omega (arith, sums .0))) (w .ordered) (rw z at (change-side (w .change) i h))
 
-  at-kinded : (i : ℕ) → i < count → Kinded (thirdPart (getD notes i 0)) (rowOf t i)
-  at-kinded i h = kinded _ _ _ (rowOf t i) (holds-row notes count t g i h)
+  -- a list around it, whose note grows
+  module _ (i : ℕ) (h : i < first) where
+    up-same : parentOf new i ≡ parentOf t i
+    up-same = change-up-before (w .change) i h
 
-  past : (i : ℕ) → k < i → i < count → Moves (getD notes i 0) l l′ (rowOf new i) (parentOf t i)
-  past i h j = shifts (getD notes i 0) l l′ (rowOf t i) (rowOf new i) (parentOf t i) (at-held i j) (at-kinded i j) (record-shifts t k inside u i i (omega (arith, single)) (omega (arith, g .counted)) (omega (arith, same)))
+    grew : overAt notes end i ≡ true → noteOf (rowOf new i) (parentOf t i) + (b .old + b .held * third) ≡ getD notes i 0 + (b .len + b .count * third)
+    grew y =
+        let q = sym (over-is i h) ∙ y in
+        grows (getD notes i 0) (b .old) (b .len) (b .held) (b .count) (rowOf t i) (rowOf new i) (parentOf t i) (at-note i (omega (arith, sums .0))) (change-list (w .change) i h q)
+        (rw (← w .oldLong, ← w .newLong, ← w .held .counted, ← w .newCounted) at (change-grows (w .change) i h q))
 
-  note-held : note ≡ noteOf (rowOf u 0) 0
-  note-held = holds-note (note ∷ []) 1 u n 0 (omega arith) ∙ ap (noteOf (rowOf u 0)) (root-up u 0 0)
+    pub ahead-growing : overAt notes end i ≡ true → Growing (getD notes i 0) b
+    ahead-growing y = record { fit = w .fit; small = at-small i (omega (arith, sums .0)); low = omega (arith, grew y) }
 
-  entry : Moves note 0 start (rowOf new k) 0
-  entry =
-      let e : rowOf new k ≡ getD (rows u start) 0 (plainRow 0 0 0) = ap (rowOf new) (sym (add-zero k)) ∙ record-entry t k inside u 0 (omega (arith, one)) in
-      rw e (shifts note 0 start (rowOf u 0) (getD (rows u start) 0 (plainRow 0 0 0)) 0 note-held (kinded _ _ _ (rowOf u 0) (holds-row (note ∷ []) 1 u n 0 (omega arith))) (first-shifts u start))
+    pub ahead-is : keptNote (getD notes i 0) end b ≡ noteOf (rowOf new i) (parentOf new i)
+    ahead-is =
+        by-bool (overAt notes end i)
+        (λ y. sym (kept-grown (getD notes i 0) end b y) ∙ omega (arith, grew y, up-same))
+        (λ y.
+        sym (kept-aside (getD notes i 0) end b y) ∙ at-note i (omega (arith, sums .0))
+        ∙ sym (ap₂ noteOf (change-stays (w .change) i h (sym (over-is i h) ∙ y)) up-same))
 
-  held-as : (i : ℕ) → i < k → holds notes k i ≡ node.holds t i k
-  held-as i h =
-      ap (λ (r : Row). ltb (k - i) (r .count)) (holds-row notes count t g i (omega (arith, g .counted)))
-      ∙ apart k i ((rowOf t i) .count) (omega arith)
-      ∙ sym (picked _ _ (lt-ltb i k h))
+  -- ---- behind it: node j is then node j′
+  module _ (j j′ : ℕ) (h : first + w .given ≤ j) (i : j < b .held) (e : j′ + b .held ≡ j + b .count) where
+    abbrev up : ℕ
+    up = parentOf t j
 
-  record Ahead (i : ℕ) : Type 0 where
-    pub is : noteOf (rowOf new i) (parentOf t i) ≡ grownNote (getD notes i 0) (holds notes k i) l l′
-    pub low : holds notes k i ≡ true → l ≤ getD notes i 0 + l′
+    inside : j < nodes t
+    inside = omega (arith, w .held .counted)
 
-  ahead : (i : ℕ) → i < k → Ahead i
-  ahead i h =
-      by-bool (holds notes k i)
-      (λ y.
-      let q : node.holds t i k ≡ true = sym (held-as i h) ∙ y in
-      let x : noteOf (rowOf new i) (parentOf t i) + l ≡ getD notes i 0 + l′ =
-      grows (getD notes i 0) l l′ (nodes t) (rowOf t i) (rowOf new i) (parentOf t i) (at-held i (omega (arith, g .counted))) (lists-around-lists t k inside i h q)
-      (subst (λ (c : ℕ). Grows (rowOf t i) (rowOf new i) l l′ (nodes t) c) same (record-grows t k inside u i h q)) in
-      record { is = omega (arith, x) ∙ grown-held (getD notes i 0) l l′ (holds notes k i) y; low = λ z. omega (arith, x) })
-      (λ y.
-      record {
-        is = ap (λ (r : Row). noteOf r (parentOf t i)) (record-stays t k inside u i h (sym (held-as i h) ∙ y)) ∙ sym (at-held i (omega (arith, g .counted))) ∙ grown-aside (getD notes i 0) l l′ (holds notes k i) y;
-        low = λ z. differ z y;
-      })
+    then : j′ + nodes t ≡ j + nodes new
+    then = omega (arith, w .held .counted, w .newCounted)
 
-  at-small : (i : ℕ) → i < count → getD notes i 0 < roomy
-  at-small i h =
-      let x = kept-small (startPart (getD notes i 0)) (endPart (getD notes i 0)) (thirdPart (getD notes i 0)) (rowOf t i) (omega arith) (omega arith) (omega arith) (holds-row notes count t g i h) in
-      omega (arith, x, at-held i h, parent-few notes count t g i h, holds-few notes count t g, g .counted)
+    moves : Moves (getD notes j 0) (b .old) (b .len) (rowOf new j′) up
+    moves =
+        shifts _ (getD notes j 0) (b .old) (b .len) (rowOf t j) (rowOf new j′) up (at-note j i) (at-kinded j i)
+        (rw (← w .oldLong, ← w .newLong) at (change-shifts (w .change) j j′ h inside then))
 
-  note-small : note < 2 * top
-  note-small =
-      let x = kept-small (startPart note) (endPart note) (thirdPart note) (rowOf u 0) (omega arith) (omega arith) (omega arith) (holds-row (note ∷ []) 1 u n 0 (omega arith)) in
-      omega (arith, x, note-held)
+    parent : getD notes j 0 / top ≡ up
+    parent = omega (arith, holds-parent notes (b .held) t (w .held) j i, at-small j i)
 
-  moving : start ≤ maxSource → Moving note 0 start
-  moving s = record { small = omega (arith, note-small); short = (omega arith, s); low = entry .low; hinted = entry .far }
+    -- the list around it, where that is behind the spot too
+    shifted : first ≤ up → parentOf new j′ + b .held ≡ up + b .count
+    shifted a =
+        omega (arith, change-up-fits (w .change) j j′ h inside then a, change-up-later (w .change) j j′ h inside then, up-shifts first (w .given) (nodess (w .comes)) up a, sums .2, w .counted)
 
-  pub renotable : count ≤ mostNodes → l ≤ maxSource → Renotable notes k count start l l′ note
-  renotable few long =
-      let s : start ≤ maxSource = omega (arith, entry-in t k inside .0, entry-in t k inside .1) in
-      record {
-        inside = omega (arith, g .counted);
-        fits = holds-long notes count t g;
-        few = few;
-        grows = λ i h. record { small = at-small i (omega (arith, g .counted)); short = (long, short); low = ahead i h .low };
-        entry = record { moving = moving s; low = moved-low note start note-small s; small = at-small k (omega (arith, g .counted)) };
-        shifts = λ i h j. record { small = at-small i j; short = (long, short); low = past i h j .low; hinted = past i h j .far };
-      }
+    pub behind-later : Later (getD notes j 0) first b
+    behind-later =
+        record {
+          fit = w .fit;
+          moving = record { small = at-small j i; short = (omega (arith, w .fit .short .0), omega (arith, w .fit .short .1)); low = moves .low; hinted = moves .far };
+          low = λ a. omega (arith, moves .is, shifted (omega (arith, parent)));
+        }
 
-  own-is : ownNote note start (getD notes k 0) ≡ noteOf (rowOf new k) (parentOf t k)
-  unfolding ownNote
-  own-is =
-      let m : getD notes k 0 / top * top ≡ parentOf t k * top = omega (arith, holds-parent notes count t g k (omega (arith, g .counted)), at-small k (omega (arith, g .counted))) in
-      omega (arith, m, entry .is)
+    pub behind-is : laterNote (getD notes j 0) first b ≡ noteOf (rowOf new j′) (parentOf new j′)
+    behind-is =
+        by-le first up
+        (λ a. sym (later-behind (getD notes j 0) first b _ (moves .is) (omega (arith, parent))) ∙ omega (arith, shifted a))
+        (λ a.
+        sym (later-inside (getD notes j 0) first b _ (moves .is) (omega (arith, parent)))
+        ∙ ap (noteOf (rowOf new j′)) (up-stays first (w .given) (nodess (w .comes)) up a ∙ sym (change-up-later (w .change) j j′ h inside then)))
 
-  pub renoted-holds : (after : List ℕ) → Renoted notes k count start l l′ note after → Holds after count new
-  renoted-holds after w =
-      let long : count ≤ length after = omega (arith, w .long, holds-long notes count t g) in
-      record {
-        counted = g .counted ∙ sym same;
-        kept = same-list (take count after) (noted new) (length-take-le count after long ∙ omega (arith, noted-length new, g .counted, same))
-            (λ i h.
-            let j : i < count = omega (arith, length-take-le count after long) in
-            getD-take count after i 0 j ∙ told i j ∙ ap (noteOf (rowOf new i)) (sym (parent-same i j)) ∙ sym (noted-at new i (omega (arith, g .counted, same))));
-        short = short;
-      }
-    where
-      told : (i : ℕ) → i < count → getD after i 0 ≡ noteOf (rowOf new i) (parentOf t i)
-      told i h =
-          by-le k i
-          (λ a. by-eq i k
-          (λ q. rw q (w .entry ∙ own-is))
-          (λ q. w .shifted i (omega arith) h ∙ sym (past i (omega arith) h .is)))
-          (λ a. w .grew i a ∙ sym (ahead i a .is))
+  -- ---- at it
+  pub octets-short : length octets ≤ maxSource
+  octets-short = omega (arith, ap length (w .is), new-length law, law .octetsIn, w .oldLong, w .newLong, w .fit .short)
+
+  pub start-short : start ≤ maxSource
+  start-short = omega (arith, law .octetsIn, w .oldLong, w .fit .short)
+
+  pub inner-is : latest (overAt notes end) first 0 0 ≡ upAt (w .change .place) 0 0
+  inner-is = change-inner (overAt notes end) (w .change) over-is
+
+  module _ (some : 0 < count) where
+    abbrev u : Tree
+    u = w .text
+
+    pub is-text : octets ≡ canon u
+    is-text = w .is ∙ ap canons (w .single some) ∙ canons-one u
+
+    pub text-counted : count ≡ nodes u
+    text-counted = w .counted ∙ ap nodess (w .single some) ∙ nodess-one u
+
+    pub text-deep : depth u ≤ depth new
+    text-deep = omega (arith, change-depth (w .change), ap depths (w .single some) ∙ depths-one u)
+
+    text-holds : Holds (noted u) count u
+    text-holds =
+        record {
+          counted = text-counted;
+          kept = take-all count (noted u) (omega (arith, noted-length u, text-counted));
+          short = omega (arith, octets-short, ap length is-text);
+        }
+
+    text-row : (i : ℕ) → i < count → rowOf new (first + i) ≡ moved 0 start (rowOf u i)
+    text-row i h =
+        let z : 0 + start ≡ start = omega arith in
+        let y : 0 + 0 ≡ 0 = omega arith in
+        record-new law i (omega (arith, w .counted))
+        ∙ ap (λ (f : Forest). getD (rowss f start) i (plainRow 0 0 0)) (w .single some)
+        ∙ ap (λ (x : List Row). getD x i (plainRow 0 0 0)) (rowss-one u start ∙ rw (z, y) at (rows-moved u 0 0 start))
+        ∙ getD-map-in (moved 0 start) (rows u 0) i (plainRow 0 0 0) (plainRow 0 0 0) (omega (arith, rows-length u 0, text-counted))
+
+    -- the first stands in the list around the spot, and the others in lists of their own tree
+    text-up : (i : ℕ) → i < count → (up′ : ℕ) → up′ ≡ upAt (w .change .place) 0 0 → parentOf new (first + i) ≡ pick (eqb i 0) up′ first + parentOf u i
+    text-up i h up′ e =
+        let x = change-up-new (w .change) i (omega (arith, w .counted))
+        ∙ ap (λ (f : Forest). getD (parentss f first (upAt (w .change .place) 0 0)) i 0) (w .single some)
+        ∙ ap (λ (l : List ℕ). getD l i 0) (parentss-one u first (upAt (w .change .place) 0 0)) in
+        by-eq i 0
+        (λ z.
+        let r = root-up u first (upAt (w .change .place) 0 0) in
+        let o = root-up u 0 0 in
+        let y = ap (λ (k : ℕ). getD (parents u first (upAt (w .change .place) 0 0)) k 0) z in
+        let v = ap (λ (k : ℕ). parentOf u k) z in
+        omega (arith, x, y, v, r, o, e, picked up′ first (eq-eqb i 0 z)))
+        (λ z. omega (arith, x, inner-up u first (upAt (w .change .place) 0 0) i (omega arith) (omega (arith, text-counted)), unpicked up′ first (ne-eqb i 0 z)))
+
+    pub text-is : (i : ℕ) → i < count → (up′ : ℕ) → up′ ≡ upAt (w .change .place) 0 0 → ownAt (noted u) start first up′ i ≡ noteOf (rowOf new (first + i)) (parentOf new (first + i))
+    unfolding ownNote
+    text-is i h up′ e =
+        let m = getD (noted u) i 0 in
+        let v = shifts _ m 0 start (rowOf u i) (moved 0 start (rowOf u i)) (parentOf u i) (noted-at u i (omega (arith, text-counted)))
+        (kinded _ _ _ (rowOf u i) (holds-row (noted u) count u text-holds i h)) (moved-shifts (rowOf u i) start) in
+        rw (text-row i h) (omega (arith, v .is, text-up i h up′ e))

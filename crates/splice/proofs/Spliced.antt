@@ -4,7 +4,7 @@ use native.Mathlib.Omega.{arith}
 use mathlib.Core.Path.{_≡_, refl, sym, ap, ap₂, _∙_}
 use mathlib.Core.List.{List, _++_, append-assoc}
 use lib.ListN.{length-replicate, length, take, drop, replicate, length-append, length-drop}
-use lib.Seq.{take-add, take-take, sets-eq, take-at, drop-at, sets, length-take-le}
+use lib.Seq.{take-add, take-take, sets-eq, drop-at, sets, length-take-le}
 use Rattle.base.proofs.Stores.{sets-append, sets-join, sets-all}
 use Rattle.model.specs.Answers.{settled}
 
@@ -30,10 +30,6 @@ spliced c w start end len h k l r =
     sets-join c w tail start (start + length w) refl
     ∙ sets-whole c (w ++ tail) start (omega (arith, length-append w tail, t))
     ∙ ap₂ (λ (a b : List ℕ). sets c 0 (a ++ (w ++ b))) (sym (take-take start len c (omega arith))) (sym (drop-take c end len k (omega arith)))
-
--- what was written from the front
-pub front-written : (c v : List ℕ) → length v ≤ length c → take (length v) (sets c 0 v) ≡ v
-front-written c v h = ap (take (length v)) (sets-all c v h) ∙ take-at v (drop (length v) c) (length v) refl
 
 -- zeros up to a larger old length
 pub zeroed : (c v : List ℕ) (old : ℕ) → old ≤ length c → length v ≤ length c → sets (sets c 0 v) (length v) (replicate (old - length v) 0) ≡ settled c old v

@@ -10,7 +10,7 @@ place-requires c κs =
     let taken = told .before .before .before .before .before in
     let entry = taken .before .before .before .before .before .before .before in
     let args = entry .args in (
-      change-placeable _ _ _ (entry .pre .0) (args .canonical .now) (args .old) (args .held) (args .records) (args .own) (args .asked) _ _ _ _ (taken .take .ensures) _ _ _ (told .len .given .1) (entry .pre .1 .1 .1) (search needs),
+      change-placeable _ _ _ (entry .pre .0) (args .canonical .now) (args .old) (args .held) (args .records) (args .own) (args .asked) _ _ _ _ (taken .take .ensures) _ _ _ (told .len .given .1) (entry .pre .1 .1 .1),
       (search needs, search (change-noteable, arith)),
     )
 
@@ -31,7 +31,6 @@ change-in-spec =
     (tie.spec
     (λ c. search needs)
     (λ c κs. search needs)
-    (λ c. search needs)
     (λ c. search needs)
     place-requires
     (λ c. search needs)

@@ -1,4 +1,4 @@
-use Rattle.editor.proofs.Placing.{place-misfit, place-gap, place-source, place-room, place-rewritable, place-workable, place-accepted}
+use Rattle.editor.proofs.Placing.{place-misfit, place-gap, place-source, place-room, place-octets, place-renotable, place-end, place-accepted}
 use native.Mathlib.Omega.{arith}
 use borrow.Author.Needs.{needs}
 use Rattle.editor.proofs.place.Statement.{statement}
@@ -10,28 +10,38 @@ gap-requires c κs = search (place-gap, arith)
 copy-requires : tie.Need-copy-requires
 copy-requires c κs = (search (place-source, arith), search (place-room, arith))
 
-settle-requires : tie.Need-settle-requires
-settle-requires c κs =
-    let judged-alone = c .before .before in
-    let copied = judged-alone .before .before .before in
+slice-aggregate-octets : tie.Need-slice-aggregate-octets
+slice-aggregate-octets c = search (place-octets, arith)
+
+renote-requires : tie.Need-renote-requires
+renote-requires c κs =
+    let copied = c .before .before .before .before in
     let moved = copied .before .before .before .before in
     let found = moved .before .before .before in
     let judged = found .before .before in
     let entry = judged .before .before .before .before .before .before in
-    let notes = entry .args .notes .now in (
-      place-rewritable _ _ _ _ _ _ notes _ _ _ (entry .pre .0) _ (judged .judge .ensures) _ _ _ _ _ (found .first .given .1) _ (moved .gap .ensures) _ _ (copied .copy .ensures) (entry .pre .1 .1),
-      place-workable _ _ _ _ _ _ notes _ _ _ (entry .pre .0) _ (judged .judge .ensures) _ _ _ _ _ (found .first .given .1) _ (moved .gap .ensures) _ _ (copied .copy .ensures) (entry .pre .1 .0) _ (judged-alone .alone .ensures),
-    )
+    place-renotable _ _ _ _ _ _ _ _ _ (entry .pre .0) _ (judged .judge .ensures) _ _ _ _ _ (found .first .given .1) (entry .pre .1 .0) (entry .pre .1 .1)
+
+end-requires : tie.Need-end-requires
+end-requires c κs =
+    let copied = c .before .before .before .before .before .before .before .before in
+    let moved = copied .before .before .before .before in
+    let found = moved .before .before .before in
+    let judged = found .before .before in
+    let entry = judged .before .before .before .before .before .before in
+    place-end _ _ _ _ _ _ (entry .args .notes .now) _ _ (entry .pre .0) _ (judged .judge .ensures) _ _ _ _ _ (found .first .given .1) _ (moved .gap .ensures) _ _ (copied .copy .ensures)
 
 returns : tie.Need-returns
 returns c =
-    let settled = c .before .before .before .before in
-    let copied = settled .before .before .before .before .before .before in
+    let ended = c .before .before in
+    let renoted = ended .before .before .before .before in
+    let copied = renoted .before .before .before .before .before in
     let moved = copied .before .before .before .before in
     let found = moved .before .before .before in
     let judged = found .before .before in
     let entry = judged .before .before .before .before .before .before in
-    place-accepted _ _ _ _ _ _ (entry .args .notes .now) _ _ _ (entry .pre .0) _ (judged .judge .ensures) _ _ _ _ _ (found .first .given .1) _ (moved .gap .ensures) _ _ (copied .copy .ensures) _ _ _ (settled .settle .ensures)
+    place-accepted _ _ _ _ _ _ _ _ _ (entry .pre .0) _ (judged .judge .ensures) _ _ _ _ _ (found .first .given .1) _ (moved .gap .ensures) _ _ (copied .copy .ensures)
+    (entry .pre .1 .0) (entry .pre .1 .1) _ (renoted .renote .ensures) _ _ (ended .end .ensures)
 
 returns-2 : tie.Need-returns-2
 returns-2 c = search (place-misfit, arith)
@@ -44,8 +54,9 @@ place-spec =
     (λ c. search needs)
     gap-requires
     copy-requires
-    (λ c κs. search needs)
-    settle-requires
+    slice-aggregate-octets
+    renote-requires
+    end-requires
     (λ c. search needs)
     (λ c κs. search needs)
     (λ c. search needs)

@@ -1,27 +1,27 @@
 use Prim.Native.Nat.{_-_}
-use Rattle.splice.proofs.Moving.{Around, grow-start, grow-countable, grow-growing, grow-on, grow-long, grow-end}
+use Rattle.splice.proofs.Moving.{Around, grow-start, grow-growing, grow-over, grow-aside, grow-long, grow-end}
 use native.Mathlib.Omega.{arith}
 use borrow.Author.Needs.{needs}
 use Rattle.splice.proofs.notes.around.Statement.{statement}
 use Rattle.splice.proofs.notes.around.Tie as tie
 
 abbrev Inv-loop : tie.InvT-loop
-Inv-loop notes₀ node l l2 j₀ notes j = Around notes₀ node l l2 notes j
+Inv-loop notes₀ first end by up₀ j₀ notes up j = Around notes₀ first end by notes up j
 
 abbrev μ-loop : tie.MeasureT-loop
-μ-loop notes₀ node l l2 j₀ notes j = node - j
+μ-loop notes₀ first end by up₀ j₀ notes up j = first - j
 
 loop-holds : tie.Need-loop-holds Inv-loop μ-loop
 loop-holds c = search (grow-start, arith)
-
-over-requires : tie.Need-over-requires Inv-loop μ-loop
-over-requires c κs = search (grow-countable, arith)
 
 grown-requires : tie.Need-grown-requires Inv-loop μ-loop
 grown-requires c κs = search (grow-growing, arith)
 
 loop-again : tie.Need-loop-again Inv-loop μ-loop
-loop-again c = search (grow-on, arith)
+loop-again c = search (grow-over, arith)
+
+loop-again-2 : tie.Need-loop-again-2 Inv-loop μ-loop
+loop-again-2 c = search (grow-aside, arith)
 
 same-length : tie.Need-same-length Inv-loop μ-loop
 same-length c = search (grow-long, arith)
@@ -37,7 +37,8 @@ around-spec =
     μ-loop
     loop-holds
     (λ c. search needs)
-    over-requires
+    (λ c. search needs)
+    (λ c κs. search needs)
     (λ c. search needs)
     (λ c. search needs)
     grown-requires
@@ -46,5 +47,8 @@ around-spec =
     (λ c. search needs)
     (λ c. search needs)
     loop-again
+    (λ c. search needs)
+    (λ c. search needs)
+    loop-again-2
     same-length
     returns)

@@ -1,4 +1,4 @@
-use Rattle.splice.proofs.Moving.{moved-plain, moved-hinted, moved-list, moving-hinted}
+use Rattle.splice.proofs.Noting.{moved-plain, moved-hinted, moved-list, moving-hinted}
 use native.Mathlib.Omega.{arith}
 use borrow.Author.Needs.{needs}
 use Rattle.splice.proofs.notes.moved.Statement.{statement}
@@ -7,8 +7,8 @@ use Rattle.splice.proofs.notes.moved.Tie as tie
 returns : tie.Need-returns
 returns c = search (moved-plain, arith)
 
-sub-result-2 : tie.Need-sub-result-2
-sub-result-2 c = search (moving-hinted, arith)
+sub-result : tie.Need-sub-result
+sub-result c = search (moving-hinted, arith)
 
 returns-2 : tie.Need-returns-2
 returns-2 c = search (moved-hinted, arith)
@@ -28,10 +28,6 @@ moved-spec =
     (λ c. search needs)
     (λ c. search needs)
     (λ c. search needs)
-    sub-result-2
+    sub-result
     returns-2
-    (λ c. search needs)
-    (λ c. search needs)
-    (λ c. search needs)
-    (λ c. search needs)
     returns-3)

@@ -1,4 +1,4 @@
-use Rattle.splice.proofs.Moving.{own-moving, own-fits, own-note}
+use Rattle.splice.proofs.Noting.{own-moving, own-fits, own-note}
 use native.Mathlib.Omega.{arith}
 use borrow.Author.Needs.{needs}
 use Rattle.splice.proofs.notes.own.Statement.{statement}
