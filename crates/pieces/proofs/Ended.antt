@@ -19,13 +19,12 @@ use Rattle.walk.specs.declared.Extent.the-variants.{Whole, Refused}
 use Rattle.scan.specs.Writes.{Wrote}
 use Rattle.sheets.specs.Notes.{Noted}
 use Rattle.texts.specs.Texts.{textVerdict, Taken}
-use Rattle.texts.proofs.Sizes.{long-takes}
 use Rattle.texts.proofs.Taking.{through}
 use Rattle.answers.specs.Cases.{RefusesAt, Refuses}
 use Rattle.answers.specs.declared.Reading.{Reading}
 use Rattle.answers.specs.declared.Reading.the-variants as answer
 use Rattle.rooms.specs.Rooms.{roomVerdict}
-use Rattle.reader.specs.Stored.{Noteable, Spaced, Puts}
+use Rattle.reader.specs.Stored.{Noteable, Puts}
 use Rattle.reader.proofs.Storing.{puts-refused, put-none, put-refused, put-room, put-accepted}
 use Rattle.reader.proofs.Entry.{notes-taken}
 use Rattle.pieces.specs.Capped.{extent}
@@ -53,12 +52,8 @@ module _ (canonical : List ℕ) (fed : ℕ) (notes : List ℕ) (g : Held fed (le
   unfolding textVerdict noForm
   judges = sym (unpicked _ _ (le-ltb maxSource (length (take fed canonical)) inside-short))
 
-  spaced : Spaced 1 (length (take fed canonical)) 49216 (length notes)
-  spaced =
-      record {
-        takes = long-takes 1 (length (take fed canonical)) 49216 (record { low = omega arith; high = omega arith; short = inside-short }) (omega arith) (omega arith);
-        room = subst (λ (n : ℕ). Noteable n (length notes)) inside-part (g .notable);
-      }
+  noteable : Noteable (length (take fed canonical)) (length notes)
+  noteable = subst (λ (n : ℕ). Noteable n (length notes)) inside-part (g .notable)
 
   module _ (n : ℕ) (notes′ : List ℕ) (x : Extent) (v : Noted (take fed canonical) notes notes′ x) where
     taken : Taken (decode 1 (take fed canonical)) (placeOf 1 (take fed canonical)) canonical notes notes′ x
@@ -80,7 +75,7 @@ module _ (canonical : List ℕ) (fed : ℕ) (notes : List ℕ) (g : Held fed (le
           let w : Wrote (take len (drop 0 canonical)) 0 canonical canonical (0 + length (take len canonical)) =
           record { place = refl; same = sym (sets-self canonical len (omega (arith, put-room 1 (take fed canonical) canonical canonical n notes notes′ x taken len count deep e k h l))) } in
           notes-taken 1 (take fed canonical) canonical notes′ n 0 judges canonical (omega arith) (answer.Accepted len count)
-          (put-accepted 1 (take fed canonical) canonical canonical n notes notes′ x taken len count deep e k h l 49216 spaced canonical (0 + length (take len canonical)) w)
+          (put-accepted 1 (take fed canonical) canonical canonical n notes notes′ x taken len count deep e k h l noteable canonical (0 + length (take len canonical)) w)
 
 -- ---- octets that went past it
 
