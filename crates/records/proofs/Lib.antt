@@ -4,7 +4,6 @@ pub mod Noted
 pub mod Sizes
 pub mod Tables
 pub mod Tabling
-pub mod Comparing
 pub mod Owning
 pub mod Shared
 pub mod Again
@@ -18,5 +17,8 @@ pub mod ChangeTier
 pub mod Showing
 pub mod Placing
 pub mod Counting
+pub mod Turning
+pub mod Looking
+pub mod Paced
 pub mod Retelling
 pub mod Judging

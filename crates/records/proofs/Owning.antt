@@ -14,10 +14,10 @@ use Rattle.records.specs.declared.Record.{Record}
 use Rattle.records.specs.Numbers.{numbers}
 use Rattle.records.proofs.Tables.{length-numbers}
 
-module _ (c : List ℕ) (len : ℕ) (ys : List Record) (count : ℕ) (notes : List ℕ) (own : Bool) (o : Owned c len (numbers ys) count notes own) where
-  recorded : records (numbers ys) ≡ length ys
-  recorded = omega (arith, length-numbers ys)
+pub recorded : (ys : List Record) → records (numbers ys) ≡ length ys
+recorded ys = omega (arith, length-numbers ys)
 
+module _ (c : List ℕ) (len : ℕ) (ys : List Record) (count : ℕ) (notes : List ℕ) (own : Bool) (o : Owned c len (numbers ys) count notes own) where
   pub owned-owning : Owning c len (numbers ys) count notes own
   owned-owning = record { tells = o .tells; held = owned-held c len (numbers ys) count notes own o }
 
@@ -25,7 +25,7 @@ module _ (c : List ℕ) (len : ℕ) (ys : List Record) (count : ℕ) (notes : Li
   owned-readables = record { read = λ y i h. holds-readable notes count (o .sheet y .tree) (o .sheet y .held) i h }
 
   pub owned-known : Known c len count (length ys) notes own
-  owned-known = record { sheet = λ y. subst (λ (n : ℕ). Sheet c len count n notes) recorded (o .sheet y) }
+  owned-known = record { sheet = λ y. subst (λ (n : ℕ). Sheet c len count n notes) (recorded ys) (o .sheet y) }
 
   pub owned-lends : Lends c len count (length ys) own (numbers ys)
-  owned-lends = record { recorded = recorded; tells = o .tells }
+  owned-lends = record { recorded = recorded ys; tells = o .tells }

@@ -1,17 +1,14 @@
 -- The records that notes tell.
 use Prim.Native.Nat.{ℕ, zero, suc, _≤_, _<_, max}
-use mathlib.Core.Bool.{Bool}
 use mathlib.Core.List.{List}
 use lib.ListN.{getD, set}
 use lib.Dec.{ltb}
-use Rattle.base.specs.Choice.{pick, both, equal}
+use Rattle.base.specs.Choice.{pick}
 use Rattle.model.specs.Table.{Row}
-use Rattle.model.specs.Table as table
 use Rattle.tables.specs.Told.{rowAt, parentPart, Readable}
 use Rattle.answers.specs.declared.Reading.{Reading}
 use Rattle.answers.specs.declared.Reading.the-variants as reading
 use Rattle.records.specs.declared.Record.{Record}
-use Rattle.records.specs.Numbers.{nine}
 
 -- a record of zeros
 abbrev pub nil : Record
@@ -64,23 +61,3 @@ pub record Tellable (notes : List ℕ) (r : Reading) (i : ℕ) : Type 0 where
 pub record Tells (notes : List ℕ) (r : Reading) (old room : ℕ) : Type 0 where
   pub lent : touched r old ≤ room
   pub read : (i : ℕ) → i < countOf r → Readable notes i
-
--- ---- compared
-
--- a record is the one that a note tells, and what came before is so too
-unfoldable pub agrees : List ℕ → ℕ → Record → Bool → Bool
-agrees notes i r before = both before (equal (nine r) (table.recorded (rowAt notes i) (parentAt notes i)))
-
--- the first n records are those that notes tell, if they were noted
-unfoldable pub agreed : List Record → List ℕ → Bool → ℕ → Bool
-agreed xs notes noted zero = noted
-agreed xs notes noted (suc n) = agrees notes n (getD xs n nil) (agreed xs notes noted n)
-
--- how many records are looked at
-unfoldable pub looked : Bool → ℕ → ℕ
-looked noted count = pick noted count 0
-
--- those are lent, and their notes can be read
-pub record Comparable (notes : List ℕ) (noted : Bool) (count room : ℕ) : Type 0 where
-  pub lent : looked noted count ≤ room
-  pub read : (i : ℕ) → i < looked noted count → Readable notes i

@@ -17,7 +17,7 @@ ghost use Rattle.lookup.specs.Noted.{Notes};
 ghost use Rattle.reader.specs.Stored.{Noteable};
 ghost use Rattle.records.specs.Numbers.{numbers, partOf};
 ghost use Rattle.records.specs.Places.{Inside};
-ghost use Rattle.records.specs.Told.{countOf, touched, toldRecords, agreed, looked, Tells, Comparable};
+ghost use Rattle.records.specs.Told.{countOf, touched, toldRecords, Tells};
 use answers::Place;
 use answers::Reading;
 use asked::change;
@@ -68,22 +68,6 @@ fn tell_by(records: &mut [Record], notes: &[usize], r: Reading, old: usize)
         records[i] = z;
         i += 1;
     }
-}
-
-// Whether the records in use are those that notes tell.
-fn holds(records: &[Record], notes: &[usize], noted: bool, nodes: usize) -> bool
-    requires { ⌜ Comparable (now notes) noted nodes (size (now records)) ⌝ }
-    ensures { λ b. ⌜ b ≡ agreed (now (records .entry)) (now (notes .entry)) noted (looked noted nodes) ⌝ }
-{
-    let n = told::looked_at(noted, nodes);
-    let mut same = noted;
-    let mut k: usize = 0;
-    while k < n {
-        let r = records[k];
-        same = told::record_agrees(notes, k, r, same);
-        k += 1;
-    }
-    same
 }
 
 // A text read in the local space lent.

@@ -3,7 +3,7 @@ ghost use lib.ListN.{length as size};
 ghost use Rattle.lookup.specs.Noted.{Notes, Owned};
 ghost use Rattle.records.specs.Numbers.{numbers};
 use crate::Record;
-use crate::holds;
+use crate::told;
 
 // Whether the first `nodes` records are the table of the sheet of these octets (S 1.4); where they are, its notes are left.
 pub fn own_by(
@@ -16,6 +16,12 @@ pub fn own_by(
     requires { ⌜ Notes nodes (size (now notes)) ⌝ }
     ensures { λ r. ⌜ Owned (now (canonical .entry)) len (numbers (now (records .entry))) nodes (now (notes .exit)) r ⌝ }
 {
-    let noted = lookup::note_in(canonical, len, notes, records.len(), nodes);
-    holds(records, notes, noted, nodes)
+    let end = lookup::bound(canonical.len(), len, records.len(), nodes);
+    let mut state: usize = 0;
+    while state < end {
+        let k = lookup::node_of(state);
+        let r = records[k];
+        state = told::step(canonical, len, notes, nodes, r, state);
+    }
+    lookup::answer(end, len, state)
 }

@@ -1,10 +1,9 @@
-// The record that a note tells, and whether a record is that one.
+// The record that a note tells; and a turn of the loop that judges records, which takes one of them.
 ghost use mathlib.Core.Path.{_≡_};
-ghost use Rattle.base.specs.Choice.{equal};
+ghost use Rattle.lookup.specs.Pacing.{Turnable, Turned};
 ghost use Rattle.tables.specs.Rows.{recordList};
-ghost use Rattle.tables.specs.Told.{Readable};
 ghost use Rattle.records.specs.Numbers.{nine};
-ghost use Rattle.records.specs.Told.{nil, touched, countOf, toldAt, agrees, looked, Tellable};
+ghost use Rattle.records.specs.Told.{nil, touched, countOf, toldAt, Tellable};
 use crate::Record;
 use answers::Reading;
 
@@ -76,54 +75,27 @@ pub fn touched_by(r: Reading, old: usize) -> usize
     }
 }
 
-// Whether a record has the numbers of a row, and of the list around its node.
-fn same_numbers(r: Record, row: tables::Row, up: u32) -> bool
-    ensures { λ b. ⌜ b ≡ equal (nine r) (recordList row up) ⌝ }
+// The next record of a table, judged beside the sheet's octets.
+pub fn step(
+    canonical: &[u8],
+    len: usize,
+    notes: &mut [usize],
+    nodes: usize,
+    r: Record,
+    state: usize,
+) -> usize
+    requires { ⌜ Turnable (now canonical) len (nine r) nodes (now notes) state ⌝ }
+    ensures { λ s. ⌜ Turned (now (canonical .entry)) len (nine r) nodes (now (notes .entry)) state (now (notes .exit)) s ⌝ }
 {
-    if r.kind != row.kind {
-        return false;
-    }
-    if r.start != row.start {
-        return false;
-    }
-    if r.end != row.end {
-        return false;
-    }
-    if r.nodes != row.nodes {
-        return false;
-    }
-    if r.hint_start != row.hint_start {
-        return false;
-    }
-    if r.hint_end != row.hint_end {
-        return false;
-    }
-    if r.data_start != row.data_start {
-        return false;
-    }
-    if r.data_end != row.data_end {
-        return false;
-    }
-    r.parent == up
-}
-
-// Whether record i is the one that its note tells, and those before are.
-pub fn record_agrees(notes: &[usize], i: usize, r: Record, before: bool) -> bool
-    requires { ⌜ Readable (now notes) i ⌝ }
-    ensures { λ b. ⌜ b ≡ agrees (now (notes .entry)) i r before ⌝ }
-{
-    if before {
-        return same_numbers(r, tables::row_of(notes, i), tables::parent_of(notes, i));
-    }
-    false
-}
-
-// How many records are looked at: none of what was not noted.
-pub fn looked_at(noted: bool, nodes: usize) -> usize
-    ensures { λ n. ⌜ n ≡ looked noted nodes ⌝ }
-{
-    if noted {
-        return nodes;
-    }
-    0
+    let row = tables::Row {
+        kind: r.kind,
+        start: r.start,
+        end: r.end,
+        nodes: r.nodes,
+        hint_start: r.hint_start,
+        hint_end: r.hint_end,
+        data_start: r.data_start,
+        data_end: r.data_end,
+    };
+    lookup::turn(canonical, len, notes, nodes, row, r.parent, state)
 }
