@@ -54,7 +54,7 @@ fn decode(
         return marks::hex(classes, src, at + 1, out, pos, count);
     }
     if b == b'|' {
-        return marks::base(classes, letters, src, at + 1, 124, out, pos, count);
+        return marks::base(classes, letters, src, at + 1, b'|', out, pos, count);
     }
     0
 }

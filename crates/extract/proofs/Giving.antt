@@ -109,7 +109,7 @@ module _ (c : List ℕ) (n : ℕ) (before notes : List ℕ) (r : Extent) (v : No
         by (most k) h = omega arith
 
     pub note-whole : n ≤ maxCanonical → deep ≤ maxDepth → Noteable n (length before) → Judges (sheetTree c n) c n notes count (ltb 0 count)
-    unfolding lookup.Sheeted isNone
+    unfolding isNone
     note-whole short shallow room =
         let s : lookup.Sheet c n count count notes = noted-whole c n count count before notes r v lent len count deep e short (omega arith) refl shallow (enough room) in
         record {

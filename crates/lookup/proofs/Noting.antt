@@ -24,112 +24,39 @@ use Rattle.walk.specs.declared.Extent.{Extent}
 use Rattle.walk.specs.declared.Extent.the-variants.{Whole, Refused}
 use Rattle.sheets.specs.Notes.{Notable, Noted}
 use Rattle.tables.specs.Rows.{rowList, RowIs}
-use Rattle.tables.specs.Told.{rowAt, Readable, Holds, Fillable, Compared}
-use Rattle.tables.specs.Owned.{Checkable, Checked}
+use Rattle.tables.specs.Told.{rowAt, Readable, Holds}
+use Rattle.owned.specs.Owned.{Checkable, Checked}
 use Rattle.tables.specs.declared.rows.Row as coded
 use Rattle.tables.proofs.Held.{note-holds}
 use Rattle.tables.proofs.Telling.{holds-row}
 use Rattle.answers.specs.Cases.{placed}
 use Rattle.answers.specs.declared.Place.{Place}
 use Rattle.answers.specs.declared.Place.the-variants.{Part, NoPart}
-use Rattle.lookup.specs.Noted.{Notes, Sheet, Sheeted, Owned, Owning, Readables, ShowsPlace}
+use Rattle.lookup.specs.Noted.{Notes, Sheet, Owned, Owning, Readables, ShowsPlace}
 use Rattle.lookup.proofs.Sheets.{no-tree, a-tree, tree-of, none-of, fitted, within, sheet-of, sheet-none, sheet-deep, Own, own-of, own-beyond, own-long, own-unlent}
 use Rattle.lookup.proofs.Shown.{table-at, hint-unowned, hint-beyond, hint-other, hint-found, data-unowned, data-beyond, data-found}
 
 -- ---- a sheet noted
 
-module _ (c : List ℕ) (n m k : ℕ) (notes : List ℕ) where
-  unsheeted : ((table : List ℕ) → records table ≡ k → false ≡ not (isNone (ownTree c n table m))) → Sheeted c n m k notes false
-  unfolding Sheeted
-  unsheeted f = λ table e. none-of (ownTree c n table m) (f table e)
+module _ (c : List ℕ) (n m k : ℕ) (before after : List ℕ) (r : Extent) (v : Noted (take n c) before after r) (lent : n ≤ length c) (len count deep : ℕ) (e : r ≡ Whole len count deep) where
+  wholly : Wholly (decode₁ (take n c)) len count deep
+  unfolding Measures
+  wholly = subst (Measures (decode₁ (take n c))) e (v .measures)
 
-  pub unnoted-beyond : length c < n → Sheeted c n m k notes false
-  unnoted-beyond h = unsheeted (λ table e. own-beyond c n table m h)
-
-  pub unnoted-long : maxCanonical < n → Sheeted c n m k notes false
-  unnoted-long h = unsheeted (λ table e. own-long c n table m h)
-
-  pub unnoted-unlent : k < m → Sheeted c n m k notes false
-  unnoted-unlent h = unsheeted (λ table e. own-unlent c n table m (omega (arith, e)))
-
-module _ (c : List ℕ) (n m k : ℕ) (before after : List ℕ) (r : Extent) (v : Noted (take n c) before after r) (lent : n ≤ length c) where
-  none-owned : sheetTree c n ≡ none → Sheeted c n m k after false
-  unfolding Sheeted ownTree chain
-  none-owned e = λ table z. rw e
-
-  pub unnoted-none : (p : ℕ) → r ≡ Refused p → Sheeted c n m k after false
-  unnoted-none p e = none-owned (none-of (sheetTree c n) (sheet-none c n lent r (v .measures) p e))
-
-  module _ (len count deep : ℕ) (e : r ≡ Whole len count deep) where
-    wholly : Wholly (decode₁ (take n c)) len count deep
-    unfolding Measures
-    wholly = subst (Measures (decode₁ (take n c))) e (v .measures)
-
-    pub unnoted-other : (count ≡ m → ⊥) → Sheeted c n m k after false
-    unfolding Sheeted
-    unnoted-other d = λ table z. none-of (ownTree c n table m) (no-own table)
-      where
-        no-own : (table : List ℕ) → false ≡ not (isNone (ownTree c n table m))
-        no-own table =
-            no-tree (ownTree c n table m)
-            (λ t f.
-            let o : Own c n table m t = own-of c n table m t f in
-            let s : wholly .tree ≡ t = some-same (λ (u : Tree). wholly .tree ≡ u) (sym (wholly .is) ∙ o .sheet .decoded) refl in
-            d (omega (arith, wholly .counted, ap nodes s, o .counted)))
-
-    pub unnoted-deep : maxDepth < deep → Sheeted c n m k after false
-    unnoted-deep h = none-owned (none-of (sheetTree c n) (sheet-deep c n lent r (v .measures) len count deep e h))
-
-    pub noted-whole : n ≤ maxCanonical → m ≤ k → count ≡ m → deep ≤ maxDepth → Notes m (length before) → Sheeted c n m k after true
-    unfolding Sheeted chain fitting
-    noted-whole short held z shallow room =
-        let t : Tree = wholly .tree in
-        let l : length (canon t) ≡ n = sym (ap length (canon-sound (take n c) t (wholly .is))) ∙ length-take-le n c lent in
-        let few : nodes t ≤ mostNodes = small-nodes t (omega (arith, l)) in
-        let f : fits t ≡ true = fitted t (omega (arith, wholly .deepest)) (omega (arith, l)) in
-        let g : Notable (take n c) (length before) = record { tree = t; is = wholly .is; deep = omega (arith, wholly .deepest); fits = omega (arith, wholly .counted) } in
-        record {
-          tree = t;
-          is = within c n lent ∙ ap (λ (o : Option Tree). chain o fitting) (wholly .is) ∙ picked _ _ f;
-          held = subst (λ (i : ℕ). Holds after i t) (sym (wholly .counted) ∙ z) (note-holds (take n c) before after r v (omega (arith, length-take-le n c lent)) g);
-          lent = held;
-        }
-
--- ---- and its table compared
-
-module _ (c : List ℕ) (len count : ℕ) (notes table : List ℕ) (noted : Bool) (s : Sheeted c len count (length table / width) notes noted) where
-  module _ (y : noted ≡ true) where
-    sheet : Sheet c len count (length table / width) notes
-    unfolding Sheeted
-    sheet = subst (Sheeted c len count (length table / width) notes) y s
-
-    pub own-fillable : Fillable notes count (length table)
-    own-fillable = record { tree = sheet .tree; held = sheet .held; fits = omega (arith, sheet .lent) }
-
-    told-some : (b : Bool) (t : Tree) → b ≡ not (isNone (pick b (some t) none))
-    unfolding isNone
-    told-some true t = refl
-    told-some false t = refl
-
-    pub owned-whole : (b : Bool) → Compared notes count table b → Owned c len table count notes b
-    unfolding ownTree owns chain
-    owned-whole b f =
-        record {
-          tells = told-some b (sheet .tree)
-              ∙ ap (λ (x : Bool). not (isNone (pick x (some (sheet .tree)) none))) (f .tells (sheet .tree) (sheet .held) ∙ sym (picked _ _ (eq-eqb count (nodes (sheet .tree)) (sheet .held .counted))))
-              ∙ ap (λ (o : Option Tree). not (isNone (chain o (owns table count)))) (sym (sheet .is));
-          sheet = λ z. sheet;
-        }
-
-  unowned-none : {o : Option Tree} → o ≡ none → false ≡ not (isNone o)
-  unfolding isNone
-  unowned-none e = rw e
-
-  pub owned-none : noted ≡ false → Owned c len table count notes false
-  unfolding Sheeted
-  owned-none y =
-      let g : (t : List ℕ) → records t ≡ length table / width → ownTree c len t count ≡ none = subst (Sheeted c len count (length table / width) notes) y s in
-      record { tells = unowned-none (g table refl); sheet = λ z. differ z refl }
+  pub noted-whole : n ≤ maxCanonical → m ≤ k → count ≡ m → deep ≤ maxDepth → Notes m (length before) → Sheet c n m k after
+  unfolding chain fitting
+  noted-whole short held z shallow room =
+      let t : Tree = wholly .tree in
+      let l : length (canon t) ≡ n = sym (ap length (canon-sound (take n c) t (wholly .is))) ∙ length-take-le n c lent in
+      let few : nodes t ≤ mostNodes = small-nodes t (omega (arith, l)) in
+      let f : fits t ≡ true = fitted t (omega (arith, wholly .deepest)) (omega (arith, l)) in
+      let g : Notable (take n c) (length before) = record { tree = t; is = wholly .is; deep = omega (arith, wholly .deepest); fits = omega (arith, wholly .counted) } in
+      record {
+        tree = t;
+        is = within c n lent ∙ ap (λ (o : Option Tree). chain o fitting) (wholly .is) ∙ picked _ _ f;
+        held = subst (λ (i : ℕ). Holds after i t) (sym (wholly .counted) ∙ z) (note-holds (take n c) before after r v (omega (arith, length-take-le n c lent)) g);
+        lent = held;
+      }
 
 -- ---- octets and a table gone through side by side
 

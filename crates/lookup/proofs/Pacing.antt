@@ -18,8 +18,8 @@ use Rattle.model.proofs.Canonical.{canon-two}
 use Rattle.walk.specs.Events.{recordAt}
 use Rattle.walk.proofs.Shut.{closed-by}
 use Rattle.walk.proofs.Walked.{nodes-pos}
-use Rattle.tables.specs.Turns.{top, Paced}
-use Rattle.tables.proofs.Going.{going-start}
+use Rattle.owned.specs.Turns.{top, Paced}
+use Rattle.owned.proofs.Going.{going-start}
 use Rattle.lookup.specs.Noted.{Notes, Owned}
 use Rattle.lookup.specs.Pacing.{nodeOf, Sized, Bounded, answers, Turnable, Turned, Low, Goes}
 use Rattle.lookup.proofs.Noting.{own-checkable, own-checked}

@@ -20,11 +20,6 @@ pub record Sheet (c : List ℕ) (len count n : ℕ) (notes : List ℕ) : Type 0 
   pub held : Holds notes count tree
   pub lent : count ≤ n
 
--- so it is; or no table of n records is the sheet's own
-unfoldable pub Sheeted : List ℕ → ℕ → ℕ → ℕ → List ℕ → Bool → Type 0
-Sheeted c len count n notes true = Sheet c len count n notes
-Sheeted c len count n notes false = (table : List ℕ) → records table ≡ n → ownTree c len table count ≡ none
-
 -- notes for every sheet of this node count
 pub record Notes (count room : ℕ) : Type 0 where
   pub enough : min count mostNodes ≤ room

@@ -9,8 +9,8 @@ use Rattle.base.specs.Choice.{pick, isNone}
 use Rattle.model.specs.Answers.{ownTree}
 use Rattle.model.specs.Limits.{mostNodes, maxCanonical}
 use Rattle.model.specs.Table.{records}
-use Rattle.tables.specs.Turns as turns
-use Rattle.tables.specs.Turns.{top, Pace}
+use Rattle.owned.specs.Turns as turns
+use Rattle.owned.specs.Turns.{top, Pace}
 use Rattle.lookup.specs.Noted.{Owned}
 
 -- the number of the node that is next

@@ -1,49 +1,8 @@
 // A sheet by its notes: noted, and what a node of it shows.
 ghost use mathlib.Core.Path.{_≡_};
 ghost use lib.ListN.{length as size};
-ghost use Rattle.lookup.specs.Noted.{Notes, Sheeted, Owned, Readables, ShowsPlace};
+ghost use Rattle.lookup.specs.Noted.{Notes, Owned, Readables, ShowsPlace};
 use answers::Place;
-use walk::Extent;
-
-// The notes of the first `length` octets: whether these are one fitting canonical form with this node count, and so many records
-// are lent for it.
-pub fn note_in(
-    canonical: &[u8],
-    len: usize,
-    notes: &mut [usize],
-    records: usize,
-    nodes: usize,
-) -> bool
-    requires { ⌜ Notes nodes (size (now notes)) ⌝ }
-    ensures { λ r. ⌜ Sheeted (now (canonical .entry)) len nodes records (now (notes .exit)) r ⌝ }
-{
-    if len > canonical.len() {
-        return false;
-    }
-    if len > limits::CANONICAL {
-        return false;
-    }
-    if nodes > records {
-        return false;
-    }
-    let part = &canonical[..len];
-    match sheets::note(part, notes) {
-        Extent::Whole {
-            len: _,
-            nodes: count,
-            depth,
-        } => {
-            if count != nodes {
-                return false;
-            }
-            if depth > limits::DEPTH {
-                return false;
-            }
-            true
-        }
-        Extent::Refused { place: _ } => false,
-    }
-}
 
 // Whether the first `nodes` records are the table of the sheet of these octets (S 1.4: the sheet's own); where they are, these are its
 // notes.
@@ -70,7 +29,7 @@ pub fn own_notes(
         return false;
     }
     let part = &canonical[..len];
-    tables::own(part, table, nodes, notes)
+    owned::own(part, table, nodes, notes)
 }
 
 // Where a node's hint stands, if it is a string with a hint, or where its data stands; by the notes of a sheet, where they are told to

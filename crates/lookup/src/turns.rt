@@ -23,7 +23,7 @@ pub fn bound(octets: usize, len: usize, room: usize, nodes: usize) -> usize
     if nodes > room {
         return 0;
     }
-    nodes * tables::TOP
+    nodes * owned::turns::TOP
 }
 
 // The node that is next, with its record: the state after it, and its note.
@@ -40,7 +40,7 @@ pub fn turn(
     ensures { λ s. ⌜ Turned (now (canonical .entry)) len (recordList row parent) nodes (now (notes .entry)) state (now (notes .exit)) s ⌝ }
 {
     let part = &canonical[..len];
-    tables::turn(part, notes, nodes, row, parent, state)
+    owned::turns::turn(part, notes, nodes, row, parent, state)
 }
 
 // Whether the records are the sheet's own, by the state at which they were gone through.

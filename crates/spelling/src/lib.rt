@@ -75,7 +75,7 @@ fn put_escaped(
     let mut i = from;
     let mut o = pos;
     while i < end {
-        let p = put_two(92, src[i], out, o);
+        let p = put_two(b'\\', src[i], out, o);
         let next = i + 1;
         let stop = class_end(classes, src, next, end, octets::SPACE);
         o = blocks::copy(src, next, stop - next, out, p);
@@ -182,7 +182,7 @@ pub fn put_spelled(
     ensures { λ r. ⌜ Front (shown (cut (now (src .entry)) start end)) pos (now (out .entry)) (now (out .exit)) r ⌝ }
 {
     if start >= end {
-        return put_two(34, 34, out, pos);
+        return put_two(b'"', b'"', out, pos);
     }
     let token = token_end(classes, src, start, end);
     if token >= end {

@@ -1,4 +1,4 @@
--- The loops over notes: a table filled from them, and compared with them.
+-- The loop over notes: a table filled from them.
 use Prim.Native.Nat.{ℕ, _+_, _*_, _≤_, _<_}
 use native.Mathlib.Omega.{arith}
 use native.Mathlib.Numerals.{add-one}
@@ -17,7 +17,7 @@ use Rattle.model.specs.Tree.{Tree, nodes}
 use Rattle.walk.specs.Events.{recordAt}
 use Rattle.walk.proofs.Tabled.{flat-append, flat-length, rows-length, parents-length}
 use Rattle.tables.specs.Rows.{recordList, RowIs}
-use Rattle.tables.specs.Told.{rowAt, parentPart, Readable, Holds, Fillable, Filled, Compared}
+use Rattle.tables.specs.Told.{rowAt, parentPart, Readable, Holds, Fillable, Filled}
 use Rattle.tables.specs.declared.rows.Row as coded
 use Rattle.tables.proofs.Telling.{holds-few, holds-row, holds-parent, holds-readable}
 
@@ -100,62 +100,3 @@ module _ (notes : List ℕ) (n : ℕ) (table₀ table : List ℕ) (k : ℕ) (w :
               ∙ sym (sets-append table₀ (front t k) (recorded (rowOf t k) (parentOf t k)) 0)
               ∙ ap (sets table₀ 0) (sym (front-more t k l));
         }
-
--- ---- comparing
-
-pub record Comparing (notes : List ℕ) (n : ℕ) (table : List ℕ) (k : ℕ) : Type 0 where
-  pub given : Fillable notes n (length table)
-  pub inside : k ≤ n
-  pub few : n ≤ maxSource
-  pub fits : width * n ≤ length table
-  pub same : (t : Tree) → Holds notes n t → take (width * k) table ≡ front t k
-
-pub compare-start : (notes : List ℕ) (n : ℕ) (table : List ℕ) → Fillable notes n (length table) → Comparing notes n table 0
-unfolding flat
-compare-start notes n table g = record { given = g; inside = omega arith; few = holds-few notes n (g .tree) (g .held); fits = g .fits; same = λ t h. refl }
-
-module _ (notes : List ℕ) (n : ℕ) (table : List ℕ) (k : ℕ) (w : Comparing notes n table k) where
-  pub compare-end : n ≤ k → Compared notes n table true
-  compare-end h =
-      record {
-        tells = λ t x.
-            let e : k ≡ n = omega (arith, w .inside) in
-            sym (same-equal _ _ (ap (λ (i : ℕ). take (width * i) table) (sym e) ∙ w .same t x ∙ front-all t k (omega (arith, x .counted))));
-      }
-
-  module _ (h : k < n) where
-    pub compare-readable : Readable notes k
-    compare-readable = holds-readable notes n (w .given .tree) (w .given .held) k h
-
-    -- the record in its place, and the tree's
-    record-front : take (width * (k + 1)) table ≡ take (width * k) table ++ recordAt table k
-    record-front = let z : width * (k + 1) ≡ width * k + width = omega arith in rw z (take-add (width * k) width table)
-
-    module _ (r : coded.Row) (is : RowIs r (rowAt notes k)) (up : ℕ) (u : up ≡ parentPart (getD notes k 0)) (q : Bool) (e : q ≡ equal (recordAt table k) (recordList r up)) where
-      pub compare-on : q ≡ true → Comparing notes n table (k + 1)
-      compare-on f =
-          record {
-            given = w .given;
-            inside = omega arith;
-            few = w .few;
-            fits = w .fits;
-            same = λ t x.
-                record-front
-                ∙ ap₂ (λ (a b : List ℕ). a ++ b) (w .same t x) (equal-true (recordAt table k) (recordList r up) (sym e ∙ f) ∙ told notes n k h t x r is up u)
-                ∙ sym (front-more t k (omega (arith, x .counted)));
-          }
-
-      pub compare-off : q ≡ false → Compared notes n table false
-      compare-off f = record { tells = λ t x. by-bool (equal (take (width * n) table) (tableOf t)) (λ y. absurd (apart t x (equal-true _ _ y))) (λ y. sym y) }
-        where
-          apart : (t : Tree) → Holds notes n t → take (width * n) table ≡ tableOf t → ⊥
-          apart t x y =
-              let l : k < nodes t = omega (arith, x .counted) in
-              let a : take (width * (k + 1)) table ≡ front t (k + 1) =
-              sym (take-take (width * (k + 1)) (width * n) table (omega arith)) ∙ ap (take (width * (k + 1))) y ∙ front-take t (k + 1) (omega arith) in
-              let b : take (width * k) table ++ recordAt table k ≡ take (width * k) table ++ recorded (rowOf t k) (parentOf t k) =
-              sym record-front ∙ a ∙ front-more t k l ∙ ap (λ (z : List ℕ). z ++ recorded (rowOf t k) (parentOf t k)) (sym (w .same t x)) in
-              let m : length (take (width * k) table) ≡ width * k = length-take-le (width * k) table (omega (arith, w .fits)) in
-              let c : recordAt table k ≡ recorded (rowOf t k) (parentOf t k) =
-              sym (drop-at (take (width * k) table) (recordAt table k) (width * k) m) ∙ ap (drop (width * k)) b ∙ drop-at (take (width * k) table) (recorded (rowOf t k) (parentOf t k)) (width * k) m in
-              differ (e ∙ same-equal (recordAt table k) (recordList r up) (c ∙ sym (told notes n k h t x r is up u))) f

@@ -3,12 +3,4 @@ pub mod Telling
 pub mod Filling
 pub mod Held
 pub mod Counts
-pub mod Wanted
-pub mod Owned
-pub mod Going
-pub mod Turning
 pub mod Alike
-pub mod Meeting
-pub mod Owning
-pub mod Pacing
-pub mod Coming

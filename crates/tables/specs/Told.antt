@@ -1,12 +1,11 @@
 -- The row that a note tells; the notes of a tree, and the table that they tell.
 use Prim.Native.Nat.{ℕ, _+_, _*_, _-_, _/_, _%_, _≤_, _<_}
 use mathlib.Core.Path.{_≡_}
-use mathlib.Core.Bool.{Bool}
 use mathlib.Core.List.{List}
 use lib.ListN.{length, take, getD}
 use lib.Seq.{sets}
 use lib.Dec.{ltb, eqb}
-use Rattle.base.specs.Choice.{pick, equal}
+use Rattle.base.specs.Choice.{pick}
 use Rattle.model.specs.Limits.{maxSource}
 use Rattle.model.specs.Table.{Row, width, plainRow, hintedRow, listRow, tableOf}
 use Rattle.model.specs.Tree.{Tree, digits, canon, nodes}
@@ -106,7 +105,3 @@ pub record Fillable (notes : List ℕ) (n room : ℕ) : Type 0 where
 -- the tree's table was written from the front
 pub record Filled (notes : List ℕ) (n : ℕ) (before after : List ℕ) : Type 0 where
   pub fills : (t : Tree) → Holds notes n t → after ≡ sets before 0 (tableOf t)
-
--- whether the first records of a table are the tree's
-pub record Compared (notes : List ℕ) (n : ℕ) (table : List ℕ) (r : Bool) : Type 0 where
-  pub tells : (t : Tree) → Holds notes n t → r ≡ equal (take (width * n) table) (tableOf t)

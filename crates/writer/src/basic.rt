@@ -57,10 +57,10 @@ fn put_rest(alphabet: &[u8; 64], src: &[u8], at: usize, out: &mut [u8], pos: usi
     }
     if left == 1 {
         let q = letters_of(alphabet, [src[at], 0, 0]);
-        return put_four([q[0], q[1], 61, 61], out, pos);
+        return put_four([q[0], q[1], b'=', b'='], out, pos);
     }
     let q = letters_of(alphabet, [src[at], src[at + 1], 0]);
-    put_four([q[0], q[1], q[2], 61], out, pos)
+    put_four([q[0], q[1], q[2], b'='], out, pos)
 }
 
 // Base-64 of all octets.

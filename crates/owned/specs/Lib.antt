@@ -1,0 +1,4 @@
+pub mod Wanted
+pub mod Owned
+pub mod Going
+pub mod Turns
