@@ -11,7 +11,7 @@ use crate::change_by;
 use answers::Reading;
 use plan::Asked;
 
-// In the local space lent: the sheet noted and its table compared, the octets changed, and the table told by the new notes.
+// In the local space lent: the sheet judged with its table and noted, the octets changed, and the table told by the new notes.
 fn change_in(
     form: u32,
     text: &[u8],

@@ -3,25 +3,24 @@ use Prim.Native.Nat.{ℕ, _+_, _*_, _/_, _≤_, _<_}
 use native.Mathlib.Omega.{arith}
 use mathlib.Core.Path.{_≡_, refl, sym, ap, _∙_, subst}
 use mathlib.Core.Bool.{Bool, true, false, not}
-use mathlib.Core.Option.{Option, none, some}
+use mathlib.Core.Option.{Option, some}
 use mathlib.Core.List.{List}
 use lib.ListN.{length, take, getD}
 use lib.Seq.{length-take-le}
-use lib.Dec.{leb}
 use borrow.Author.Tests.{eq-eqb}
-use Rattle.base.specs.Choice.{pick, chain, isNone}
+use Rattle.base.specs.Choice.{chain, isNone}
 use Rattle.base.proofs.Cases.{by-bool, differ, picked, unpicked, some-same, true-both}
 use Rattle.base.proofs.Lists.{same-equal}
-use Rattle.model.specs.Limits.{maxCanonical, maxDepth, mostNodes, maxSource}
+use Rattle.model.specs.Limits.{maxCanonical, maxDepth, mostNodes}
 use Rattle.model.specs.Answers.{fits, fitting, sheetTree, owns, ownTree, hintPart, dataPart}
 use Rattle.model.specs.Decode.{decode₁}
-use Rattle.model.specs.Table.{width, rowNumbers, records, rowOf}
-use Rattle.model.specs.Tree.{Tree, canon, nodes, depth}
+use Rattle.model.specs.Table.{width, rowNumbers, records}
+use Rattle.model.specs.Tree.{Tree, canon, nodes}
 use Rattle.model.proofs.Exact.{canon-sound}
 use Rattle.model.proofs.Laws.{small-nodes}
 use Rattle.walk.specs.Extent.{Wholly, Measures}
 use Rattle.walk.specs.declared.Extent.{Extent}
-use Rattle.walk.specs.declared.Extent.the-variants.{Whole, Refused}
+use Rattle.walk.specs.declared.Extent.the-variants.{Whole}
 use Rattle.sheets.specs.Notes.{Notable, Noted}
 use Rattle.tables.specs.Rows.{rowList, RowIs}
 use Rattle.tables.specs.Told.{rowAt, Readable, Holds}
@@ -33,7 +32,7 @@ use Rattle.answers.specs.Cases.{placed}
 use Rattle.answers.specs.declared.Place.{Place}
 use Rattle.answers.specs.declared.Place.the-variants.{Part, NoPart}
 use Rattle.lookup.specs.Noted.{Notes, Sheet, Owned, Owning, Readables, ShowsPlace}
-use Rattle.lookup.proofs.Sheets.{no-tree, a-tree, tree-of, none-of, fitted, within, sheet-of, sheet-none, sheet-deep, Own, own-of, own-beyond, own-long, own-unlent}
+use Rattle.lookup.proofs.Sheets.{no-tree, a-tree, tree-of, fitted, within, sheet-of, Own, own-of, own-beyond, own-long, own-unlent}
 use Rattle.lookup.proofs.Shown.{table-at, hint-unowned, hint-beyond, hint-other, hint-found, data-unowned, data-beyond, data-found}
 
 -- ---- a sheet noted

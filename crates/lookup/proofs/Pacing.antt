@@ -1,19 +1,18 @@
 -- A sheet and its records gone through one node at a time: the start, a turn, the end.
-use Prim.Native.Nat.{ℕ, _+_, _*_, _-_, _/_, _≤_, _<_}
+use Prim.Native.Nat.{ℕ, _+_, _*_, _-_, _≤_, _<_}
 use native.Mathlib.Omega.{arith}
 use mathlib.Core.Path.{_≡_, refl, sym, ap, _∙_, subst}
-use mathlib.Core.Bool.{Bool, true, false, not}
+use mathlib.Core.Bool.{false, not}
 use mathlib.Core.List.{List}
 use lib.ListN.{length, take}
 use lib.Seq.{length-take-le}
 use lib.Dec.{eqb}
 use borrow.Author.Tests.{eq-eqb, ne-eqb}
-use Rattle.base.specs.Choice.{pick, isNone}
+use Rattle.base.specs.Choice.{isNone}
 use Rattle.base.proofs.Cases.{by-eq, differ, picked, unpicked}
 use Rattle.model.specs.Answers.{ownTree}
-use Rattle.model.specs.Count.{shutBy}
-use Rattle.model.specs.Limits.{mostNodes, maxCanonical, maxSource}
-use Rattle.model.specs.Table.{records, width}
+use Rattle.model.specs.Limits.{mostNodes, maxCanonical}
+use Rattle.model.specs.Table.{records}
 use Rattle.model.proofs.Canonical.{canon-two}
 use Rattle.walk.specs.Events.{recordAt}
 use Rattle.walk.proofs.Shut.{closed-by}
@@ -21,7 +20,7 @@ use Rattle.walk.proofs.Walked.{nodes-pos}
 use Rattle.owned.specs.Turns.{top, Paced}
 use Rattle.owned.proofs.Going.{going-start}
 use Rattle.lookup.specs.Noted.{Notes, Owned}
-use Rattle.lookup.specs.Pacing.{nodeOf, Sized, Bounded, answers, Turnable, Turned, Low, Goes}
+use Rattle.lookup.specs.Pacing.{nodeOf, Sized, Bounded, answers, Turnable, Turned, Goes}
 use Rattle.lookup.proofs.Noting.{own-checkable, own-checked}
 use Rattle.lookup.proofs.Sheets.{no-tree, Own, own-of, own-beyond, own-long, own-unlent}
 

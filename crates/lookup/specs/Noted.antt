@@ -1,8 +1,8 @@
 -- A sheet by its notes.
 use Prim.Native.Nat.{ℕ, _≤_, _<_, min}
 use mathlib.Core.Path.{_≡_}
-use mathlib.Core.Bool.{Bool, true, false, not}
-use mathlib.Core.Option.{none, some}
+use mathlib.Core.Bool.{Bool, true, not}
+use mathlib.Core.Option.{some}
 use mathlib.Core.List.{List}
 use Rattle.base.specs.Choice.{pick, isNone}
 use Rattle.model.specs.Tree.{Tree}

@@ -1,5 +1,4 @@
 // A sheet by its notes: noted, and what a node of it shows.
-ghost use mathlib.Core.Path.{_≡_};
 ghost use lib.ListN.{length as size};
 ghost use Rattle.lookup.specs.Noted.{Notes, Owned, Readables, ShowsPlace};
 use answers::Place;

@@ -1,26 +1,20 @@
 -- A node with its record, and what is passed after it.
-use Prim.Native.Nat.{ℕ, _+_, _*_, _-_, _/_, _%_, _≤_, _<_}
+use Prim.Native.Nat.{ℕ, _+_, _-_, _≤_, _<_}
 use native.Mathlib.Omega.{arith}
-use mathlib.Core.Path.{_≡_, refl, sym, ap, ap₂, _∙_, subst}
+use mathlib.Core.Path.{_≡_, refl, sym, ap, _∙_, subst}
 use mathlib.Core.Bool.{Bool, true, false}
 use mathlib.Core.List.{List}
 use lib.ListN.{length, getD, set}
-use lib.Dec.{eqb}
-use borrow.Author.Tests.{eq-eqb, ne-eqb, lt-ltb}
 use Rattle.base.specs.Choice.{equal}
-use Rattle.base.proofs.Cases.{differ, by-le}
-use Rattle.model.specs.Count.{shutBy}
-use Rattle.model.specs.Limits.{maxDepth, maxSource, maxCanonical, mostNodes}
+use Rattle.model.specs.Limits.{maxDepth, maxSource, mostNodes}
 use Rattle.model.specs.Table.{plainRow}
 use Rattle.walk.specs.Events.{recordAt}
-use Rattle.walk.proofs.Shut.{closed-by}
 use Rattle.sheets.specs.Notes.{noteBy, Small}
-use Rattle.sheets.specs.Places.{shift, startOf, endOf, StringAt}
+use Rattle.sheets.specs.Places.{startOf, endOf, StringAt}
 use Rattle.tables.specs.Rows.{recordList, RowIs}
-use Rattle.tables.specs.Told.{parentPart}
-use Rattle.owned.specs.Owned.{Checkable, Checked}
-use Rattle.owned.specs.Going.{Going, Closable, Closes, Meetable, Begins, Unread, Hints}
-use Rattle.owned.specs.Turns.{top, placeOf, innerOf, openOf, nodeOf, Nodes, Pace, Paced, Passable, Passed, Meets, Others, Met, Turnable, Turned}
+use Rattle.owned.specs.Owned.{Checked}
+use Rattle.owned.specs.Going.{Going, Meetable, Begun, Unread, Hints}
+use Rattle.owned.specs.Turns.{Nodes, Passable, Passed, Meets, Others, Met}
 use Rattle.tables.specs.declared.rows.Row as coded
 use Rattle.owned.proofs.Owning.{Owning, whatever, shut-none, own-meets, own-row, own-small, plain-off, plain-on, begin-off, begin-on, hint-off, hint-on}
 use Rattle.owned.proofs.Pacing.{lost, lost-paced}
@@ -65,7 +59,7 @@ module _ (src : List ℕ) (row : coded.Row) (parent n : ℕ) (notes : List ℕ) 
 
     -- ---- a list begins
 
-    module _ (b : getD src at 0 ≡ 40) (notes′ : List ℕ) (q : Bool) (c : Begins r at up opened k n (length src) notes notes′ q) where
+    module _ (b : getD src at 0 ≡ 40) (notes′ : List ℕ) (q : Bool) (c : Begun r at up opened k n (length src) notes notes′ q) where
       pub list-off : q ≡ false → Met src r n notes at up opened k notes′ lost
       list-off f = refused-met notes′ (λ table d e. begin-off src table n notes notes at up opened k (owned table d) _ refl (d .unshut) (d .inside) (d .some) row parent e b notes′ q c f)
 

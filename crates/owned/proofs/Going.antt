@@ -1,34 +1,22 @@
 -- Octets and a table gone through side by side, turn by turn.
-use Prim.Native.Nat.{ℕ, zero, suc, _+_, _*_, _-_, _≤_, _<_}
+use Prim.Native.Nat.{ℕ, _+_, _-_, _≤_, _<_}
 use native.Mathlib.Omega.{arith}
-use mathlib.Core.Path.{_≡_, refl, sym, ap, ap₂, _∙_, subst}
+use mathlib.Core.Path.{_≡_, refl, sym, ap, _∙_}
 use mathlib.Core.Bool.{Bool, true, false}
-use mathlib.Core.List.{List, [], _∷_, _++_}
-use lib.ListN.{length, getD, drop, set, length-set, drop-of-length-le, length-drop}
-use lib.Seq.{getD-set-same, getD-set-other}
-use lib.Dec.{eqb, ltb}
-use borrow.Author.Tests.{eq-eqb, eqb-true, lt-ltb, ltb-true}
-use Rattle.base.specs.Choice.{pick, both, equal}
-use Rattle.base.proofs.Cases.{by-eq, by-le, by-bool, differ, untrue, picked}
+use mathlib.Core.List.{List, [], _∷_}
+use lib.ListN.{length, drop, drop-of-length-le, length-drop}
+use borrow.Author.Tests.{lt-ltb, ltb-true}
+use Rattle.base.proofs.Cases.{by-le, differ, untrue}
 use Rattle.model.specs.Count.{shutBy}
-use Rattle.model.specs.Lexemes.{Lexeme, opening, closing, atom, hinting, strictLexeme}
-use Rattle.model.specs.Limits.{maxDepth, maxSource, mostNodes}
+use Rattle.model.specs.Lexemes.{Lexeme, strictLexeme}
 use Rattle.model.specs.Strings.{got, refused}
-use Rattle.model.specs.Table.{Row, plainRow, hintedRow, listRow, recorded, bodyEnd}
-use Rattle.model.specs.Tree.{Tree}
 use Rattle.walk.specs.Events.{recordAt}
 use Rattle.walk.proofs.Shut.{closed-open, closed-by}
-use Rattle.canonical.specs.Lexed.{Plainly, Hintedly, ItemAt}
-use Rattle.canonical.specs.declared.Item.the-variants.{Open as opens, Close as shuts, Other as other}
-use Rattle.canonical.proofs.Lexing.{lex-open, lex-close}
-use Rattle.sheets.specs.Notes.{listMark, noteBy}
-use Rattle.sheets.specs.Places.{shift, spanBy}
-use Rattle.owned.specs.Owned.{Own, Owned, Checkable, Checked}
-use Rattle.tables.specs.Told.{endPart, thirdPart, parentPart}
-use Rattle.owned.specs.Wanted.{over, claimedEnd, claimedCount, Ends, Wants, Opens, Next}
-use Rattle.owned.specs.Going.{noteFrom, Opened, Open, Goes, Going, Closable, Closes}
+use Rattle.canonical.specs.declared.Item.the-variants.{Other as other}
+use Rattle.owned.specs.Owned.{Checkable, Checked}
+use Rattle.owned.specs.Wanted.{over, Ends, Wants, Next}
+use Rattle.owned.specs.Going.{Open, Goes, Going}
 use Rattle.owned.proofs.Owned.{wanted-own, own-wanted, own-held}
-use Rattle.tables.proofs.Telling.{Parts, parted}
 use Rattle.owned.proofs.Wanted.{lexeme-next, lexeme-back, no-lexeme}
 
 -- ---- lists that are open

@@ -1,28 +1,28 @@
 -- A list's record where the list begins; a string with a hint, and its record.
-use Prim.Native.Nat.{ℕ, _+_, _*_, _-_, _≤_, _<_}
+use Prim.Native.Nat.{ℕ, _+_, _-_, _≤_, _<_}
 use native.Mathlib.Omega.{arith}
-use mathlib.Core.Path.{_≡_, refl, sym, ap, ap₂, _∙_, subst}
+use mathlib.Core.Path.{_≡_, refl, sym, ap, _∙_, subst}
 use mathlib.Core.Bool.{Bool, true, false}
 use mathlib.Core.List.{List, [], _∷_, _++_}
 use lib.ListN.{length, getD, drop, set}
 use lib.Dec.{eqb}
 use borrow.Author.Tests.{eq-eqb, ne-eqb}
-use Rattle.base.specs.Choice.{both, equal}
+use Rattle.base.specs.Choice.{equal}
 use Rattle.base.proofs.Cases.{differ, picked, unpicked}
 use Rattle.base.proofs.Lists.{equal-true, same-equal}
-use Rattle.model.specs.Lexemes.{Lexeme, opening, closing, atom, hinting, strictLexeme}
-use Rattle.model.specs.Limits.{maxDepth, maxSource, maxCanonical, mostNodes}
+use Rattle.model.specs.Lexemes.{Lexeme, hinting, strictLexeme}
+use Rattle.model.specs.Limits.{maxDepth, maxSource}
 use Rattle.model.specs.Strings.{got, refused}
-use Rattle.model.specs.Table.{Row, listRow, hintedRow, rowNumbers, recorded, bodyStart, bodyEnd}
+use Rattle.model.specs.Table.{Row, listRow, hintedRow, recorded, bodyStart, bodyEnd}
 use Rattle.model.proofs.ReadCases.{never}
-use Rattle.walk.specs.Events.{hintRow, hintEnd}
+use Rattle.walk.specs.Events.{hintRow}
 use Rattle.canonical.specs.Lexed.{Hintedly, ItemAt}
 use Rattle.sheets.specs.Notes.{listMark, noteBy, Small}
-use Rattle.sheets.specs.Places.{shift, spanBy, startOf, endOf, StringAt, HintAfter}
+use Rattle.sheets.specs.Places.{spanBy, startOf, endOf, StringAt, HintAfter}
 use Rattle.sheets.proofs.Items.{hint-places, other-item, unhinted-item, hint-inside, unfollowed-item, hinted-item}
-use Rattle.tables.specs.Rows.{rowList, recordList, RowIs}
+use Rattle.tables.specs.Rows.{recordList, RowIs}
 use Rattle.tables.specs.Told.{endPart, thirdPart}
-use Rattle.owned.specs.Going.{noteFrom, Closes, Meetable, Claims, Begins, Unread, Unmet, Hinting, Hints}
+use Rattle.owned.specs.Going.{noteFrom, Closes, Meetable, Claims, Begun, Unread, Unmet, Hints}
 use Rattle.tables.specs.declared.rows.Row as coded
 
 -- ---- the innermost list ends
@@ -48,27 +48,27 @@ module _ (row : coded.Row) (parent at up opened k n len : ℕ) (notes notes′ :
   abbrev r : List ℕ
   r = recordList row parent
 
-  unbegun : (Claims r at up opened k n len → ⊥) → Begins r at up opened k n len notes notes′ false
+  unbegun : (Claims r at up opened k n len → ⊥) → Begun r at up opened k n len notes notes′ false
   unbegun f = record { yes = λ e. differ e refl; kept = λ e. differ e refl; no = λ e c. f c }
 
-  pub begins-deep : maxDepth ≤ opened → Begins r at up opened k n len notes notes′ false
+  pub begins-deep : maxDepth ≤ opened → Begun r at up opened k n len notes notes′ false
   begins-deep h = unbegun (λ c. omega (arith, c .deep))
 
-  pub begins-long : len < row .end → Begins r at up opened k n len notes notes′ false
+  pub begins-long : len < row .end → Begun r at up opened k n len notes notes′ false
   begins-long h = unbegun (λ c. omega (arith, c .ends))
 
-  pub begins-early : row .end ≤ at → Begins r at up opened k n len notes notes′ false
+  pub begins-early : row .end ≤ at → Begun r at up opened k n len notes notes′ false
   begins-early h = unbegun (λ c. omega (arith, c .begun))
 
-  pub begins-many : n < row .nodes → Begins r at up opened k n len notes notes′ false
+  pub begins-many : n < row .nodes → Begun r at up opened k n len notes notes′ false
   begins-many h = unbegun (λ c. omega (arith, c .few))
 
   module _ (made : coded.Row) (is : RowIs made (listRow at (row .end) (row .nodes))) (q : Bool) (e : q ≡ equal r (recordList made up)) where
-    pub begins-other : q ≡ false → Begins r at up opened k n len notes notes′ false
+    pub begins-other : q ≡ false → Begun r at up opened k n len notes notes′ false
     begins-other f = unbegun (λ c. differ (e ∙ same-equal r (recordList made up) (c .is ∙ sym (with-row made _ up is))) f)
 
     pub begins-so : q ≡ true → opened < maxDepth → row .end ≤ len → at < row .end → row .nodes ≤ n → Meetable at up k n len → (span : ℕ) → span ≡ spanBy (at + 1) (row .end - 1)
-        → notes′ ≡ set notes k (noteBy span (listMark + row .nodes) up) → Begins r at up opened k n len notes notes′ true
+        → notes′ ≡ set notes k (noteBy span (listMark + row .nodes) up) → Begun r at up opened k n len notes notes′ true
     unfolding noteFrom
     begins-so f d l a m g span z kept =
         let same : r ≡ recorded (listRow at (row .end) (row .nodes)) up = equal-true r (recordList made up) (sym e ∙ f) ∙ with-row made _ up is in

@@ -4,29 +4,25 @@ use Prim.Native.Nat.{ℕ, zero, suc, _+_, _*_, _-_, _≤_, _<_}
 use native.Mathlib.Omega.{arith}
 use native.Mathlib.Nat.{add-zero}
 use native.Mathlib.Numerals.{add-one}
-use mathlib.Core.Path.{_≡_, refl, sym, ap, ap₂, _∙_, subst}
+use mathlib.Core.Path.{_≡_, refl, sym, ap, ap₂, _∙_}
 use mathlib.Core.List.{List, [], _∷_, _++_, append-nil}
 use lib.ListN.{length, getD, take, drop, List·getD-append}
 use lib.Seq.{take-take, take-add, drop-at, getD-append-add, ext-getD, getD-take, length-take-le}
-use lib.Dec.{eqb}
-use Rattle.base.specs.Choice.{pick}
 use Rattle.base.proofs.Cases.{by-le}
 use Rattle.model.specs.Decode.{decode₁}
-use Rattle.model.specs.Limits.{maxDepth, maxCanonical, maxSource}
 use Rattle.model.specs.Table.{Row, plainRow, width, recorded, rows, rowss, rowOf, parents, parentss, parentOf, flat, tableOf}
-use Rattle.model.specs.Tree.{Tree, plain, hinted, list, Forest, nil, cons, canon, nodes, nodess, depth}
+use Rattle.model.specs.Tree.{Tree, plain, hinted, list, Forest, nil, cons, canon, nodes, nodess}
 use Rattle.model.proofs.Canonical.{canon-sound, canon-complete}
 use Rattle.walk.specs.Events.{recordAt}
 use Rattle.walk.proofs.Tabled.{rows-length, parents-length}
-use Rattle.sheets.specs.Notes.{listMark, noteBy, noteOf, noted}
-use Rattle.sheets.specs.Places.{spanBy}
+use Rattle.sheets.specs.Notes.{noted}
 use Rattle.sheets.proofs.Keeping.{noted-length}
 use Rattle.tables.specs.Told.{Holds}
-use Rattle.owned.specs.Owned.{Own, Owned, Checkable}
-use Rattle.tables.proofs.Filling.{front, front-length, front-more, front-take, front-all}
+use Rattle.owned.specs.Owned.{Own, Checkable}
+use Rattle.tables.proofs.Filling.{front, front-more, front-take, front-all}
 use Rattle.tables.proofs.Telling.{noted-at}
 use Rattle.owned.specs.Going.{noteFrom}
-use Rattle.owned.specs.Wanted.{over, Told, Tolds, Ends, Begins, Wants}
+use Rattle.owned.specs.Wanted.{over, Told, Tolds, Ends, Wants}
 
 abbrev none : Row
 none = plainRow 0 0 0

@@ -3,7 +3,7 @@ use Prim.Native.Nat.{ℕ, _+_, _*_, _-_, _≤_, _<_}
 use native.Mathlib.Omega.{arith}
 use mathlib.Core.Path.{_≡_, refl, sym, ap, ap₂, _∙_, subst}
 use mathlib.Core.Bool.{Bool, true, false}
-use mathlib.Core.List.{List, [], _∷_, _++_}
+use mathlib.Core.List.{List}
 use lib.ListN.{length, getD, drop, set, length-set}
 use lib.Seq.{getD-drop}
 use lib.Dec.{eqb}
@@ -12,22 +12,20 @@ use Rattle.base.specs.Choice.{equal}
 use Rattle.base.proofs.Cases.{by-eq, differ}
 use Rattle.base.proofs.Lists.{equal-true, same-equal}
 use Rattle.model.specs.Count.{shutBy}
-use Rattle.model.specs.Lexemes.{Lexeme, opening, closing, atom, hinting, strictLexeme}
-use Rattle.model.specs.Limits.{maxDepth, maxSource, maxCanonical, mostNodes}
-use Rattle.model.specs.Strings.{got}
-use Rattle.model.specs.Table.{Row, plainRow, rowNumbers, recorded, width, bodyStart, bodyEnd}
-use Rattle.model.specs.Tree.{nodes}
-use Rattle.walk.specs.Events.{recordAt, stringRow, hintRow, hintEnd}
+use Rattle.model.specs.Lexemes.{Lexeme, opening, closing, atom, hinting}
+use Rattle.model.specs.Limits.{maxSource}
+use Rattle.model.specs.Table.{Row, plainRow, rowNumbers, recorded, width}
+use Rattle.walk.specs.Events.{recordAt, stringRow, hintRow}
 use Rattle.walk.proofs.Walked.{nodes-pos}
 use Rattle.canonical.specs.Lexed.{Plainly, ItemAt}
 use Rattle.sheets.specs.Notes.{noteBy, Small}
-use Rattle.sheets.specs.Places.{shift, spanBy, startOf, endOf, StringAt}
+use Rattle.sheets.specs.Places.{spanBy, startOf, endOf, StringAt}
 use Rattle.sheets.proofs.Items.{plain-places, string-item}
 use Rattle.tables.specs.Rows.{recordList, RowIs, RowAt}
 use Rattle.tables.specs.Told.{parentPart}
 use Rattle.owned.specs.Owned.{Checkable, Checked}
 use Rattle.owned.specs.Wanted.{over, Ends, Next}
-use Rattle.owned.specs.Going.{noteFrom, Goes, Going, Closable, Closes, Meetable, Claims, Begins, Unread, Unmet, Hinting, Hints}
+use Rattle.owned.specs.Going.{noteFrom, Going, Closable, Closes, Meetable, Claims, Begun, Unread, Unmet, Hinting, Hints}
 use Rattle.tables.specs.declared.rows.Row as coded
 use Rattle.tables.proofs.Alike.{taken}
 use Rattle.owned.proofs.Going.{going-start, going-whole, going-more, going-fewer, going-short, refuse, wanted, ends-few}
@@ -176,7 +174,7 @@ module _ (src table : List ℕ) (n : ℕ) (notes₀ notes : List ℕ) (at up ope
 
           module _ (row : coded.Row) (parent : ℕ) (given : R k ≡ recordList row parent) where
             -- a list begins
-            module _ (b : getD src at 0 ≡ 40) (notes′ : List ℕ) (r : Bool) (c : Begins (recordList row parent) at up opened k n (length src) notes notes′ r) where
+            module _ (b : getD src at 0 ≡ 40) (notes′ : List ℕ) (r : Bool) (c : Begun (recordList row parent) at up opened k n (length src) notes notes′ r) where
               pub begin-off : r ≡ false → Checked src table n notes′ false
               begin-off f = whatever src table n notes notes′ (open-off src table n notes at up opened k w q x y h b (λ i. c .no f (subst (λ (l : List ℕ). Claims l at up opened k n (length src)) given i)))
 

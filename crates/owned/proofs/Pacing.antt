@@ -1,30 +1,25 @@
 -- Octets and a table gone through side by side, one node at a time.
-use Prim.Native.Nat.{ℕ, _+_, _*_, _-_, _/_, _%_, _≤_, _<_}
+use Prim.Native.Nat.{ℕ, _+_, _*_, _-_, _≤_, _<_}
 use native.Mathlib.Omega.{arith}
-use mathlib.Core.Path.{_≡_, refl, sym, ap, ap₂, _∙_, subst}
+use mathlib.Core.Path.{_≡_, refl, sym, _∙_, subst}
 use mathlib.Core.Bool.{Bool, true, false}
 use mathlib.Core.List.{List}
-use lib.ListN.{length, getD, set}
+use lib.ListN.{length, getD}
 use lib.Dec.{eqb}
 use borrow.Author.Tests.{eq-eqb, ne-eqb, lt-ltb}
-use Rattle.base.specs.Choice.{equal}
-use Rattle.base.proofs.Cases.{differ, by-le}
+use Rattle.base.proofs.Cases.{differ}
 use Rattle.model.specs.Count.{shutBy}
 use Rattle.model.specs.Limits.{maxDepth, maxSource, maxCanonical, mostNodes}
-use Rattle.model.specs.Table.{plainRow}
-use Rattle.walk.specs.Events.{recordAt}
 use Rattle.walk.proofs.Shut.{closed-by}
-use Rattle.sheets.specs.Notes.{noteBy, Small}
-use Rattle.sheets.specs.Places.{shift, startOf, endOf, StringAt}
-use Rattle.tables.specs.Rows.{recordList, RowIs}
+use Rattle.sheets.specs.Places.{shift}
 use Rattle.tables.specs.Told.{parentPart}
-use Rattle.owned.specs.Owned.{Checkable, Checked}
-use Rattle.owned.specs.Going.{Going, Closable, Closes, Meetable, Begins, Unread, Hints}
-use Rattle.owned.specs.Turns.{top, placeOf, innerOf, openOf, nodeOf, Nodes, Pace, Paced, Passable, Passed, Meets, Others, Met, Turnable, Turned}
+use Rattle.owned.specs.Owned.{Checked}
+use Rattle.owned.specs.Going.{Going, Closable, Closes}
+use Rattle.owned.specs.Turns.{top, placeOf, innerOf, openOf, nodeOf, Nodes, Paced, Passable, Passed}
 use Rattle.tables.specs.declared.rows.Row as coded
 use Rattle.owned.proofs.Going.{going-whole, going-more, going-fewer, going-short}
 use Rattle.owned.proofs.Turning.{going-up}
-use Rattle.owned.proofs.Owning.{Owning, own-full, shut-ready, shut-off, shut-on, own-meets, own-unread, own-row, own-small, plain-off, plain-on, begin-off, begin-on, hint-off, hint-on}
+use Rattle.owned.proofs.Owning.{Owning, own-full, shut-ready, shut-off, shut-on}
 
 -- a state that is no table's
 abbrev pub lost : ℕ

@@ -1,26 +1,23 @@
 -- One lexeme more: a list ends, a string stands there with its record, a list begins with its record.
-use Prim.Native.Nat.{ℕ, zero, suc, _+_, _*_, _-_, _≤_, _<_}
+use Prim.Native.Nat.{ℕ, _+_, _-_, _≤_, _<_}
 use native.Mathlib.Omega.{arith}
 use mathlib.Core.Path.{_≡_, refl, sym, ap, ap₂, _∙_, subst}
 use mathlib.Core.Bool.{Bool, true, false}
-use mathlib.Core.List.{List, [], _∷_, _++_}
+use mathlib.Core.List.{List, [], _∷_}
 use lib.ListN.{length, getD, drop, set, length-set, length-append, length-drop}
 use lib.Seq.{getD-set-same, getD-set-other}
-use lib.Dec.{eqb}
 use borrow.Author.Tests.{eq-eqb, eqb-true}
-use Rattle.base.specs.Choice.{pick, both, equal}
-use Rattle.base.proofs.Cases.{by-eq, by-bool, differ, both-true, true-both}
+use Rattle.base.proofs.Cases.{by-eq, differ, both-true, true-both}
 use Rattle.model.specs.Count.{shutBy}
-use Rattle.model.specs.Lexemes.{Lexeme, opening, closing, atom, hinting, strictLexeme}
-use Rattle.model.specs.Limits.{maxDepth, maxSource, mostNodes}
+use Rattle.model.specs.Lexemes.{Lexeme, opening, closing, strictLexeme}
+use Rattle.model.specs.Limits.{maxDepth}
 use Rattle.model.specs.Strings.{got}
 use Rattle.model.specs.Table.{Row, listRow, recorded}
 use Rattle.model.specs.Tree.{canons}
 use Rattle.walk.specs.Events.{recordAt}
 use Rattle.canonical.specs.Lexed.{ItemAt}
 use Rattle.canonical.proofs.Lexing.{lex-open, lex-close}
-use Rattle.sheets.specs.Notes.{listMark, noteBy}
-use Rattle.sheets.specs.Places.{shift, spanBy}
+use Rattle.sheets.specs.Notes.{listMark}
 use Rattle.owned.specs.Owned.{Checkable, Checked}
 use Rattle.tables.specs.Told.{endPart, thirdPart, parentPart}
 use Rattle.owned.specs.Wanted.{over, claimedEnd, claimedCount, Closed, Ends, Opens, Next}
@@ -146,11 +143,6 @@ module _ (src table : List ℕ) (n : ℕ) (notes : List ℕ) (at up opened k : �
         (joins : R k ≡ recorded row up → Ends R n (w .st) (drop next src) next (k + 1) → Next R n l (w .st) (drop next src) at k) where
       pub node-off : (R k ≡ recorded row up → ⊥) → Checked src table n notes false
       node-off d = refuse src table n notes at up opened k w (λ g. d (apart (forth src table n notes at up opened k w q x y l next reads g) .0))
-
-      pub node-full : n ≤ k → Checked src table n notes false
-      node-full f =
-          refuse src table n notes at up opened k w
-          (λ g. omega (arith, ends-few R n (w .st) (drop next src) next (k + 1) (apart (forth src table n notes at up opened k w q x y l next reads g) .1)))
 
       pub node-on : k < n → R k ≡ recorded row up → (notes′ : List ℕ) → notes′ ≡ set notes k (noteFrom (R k)) → Going src table n notes′ next up opened (k + 1)
       node-on f e notes′ z =

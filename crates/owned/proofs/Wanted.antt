@@ -1,6 +1,6 @@
 -- What is wanted of octets and records while lists are open: one lexeme at a time,
 -- forwards and back.
-use Prim.Native.Nat.{ℕ, zero, suc, _+_, _-_, _≤_, _<_}
+use Prim.Native.Nat.{ℕ, _+_, _-_, _≤_}
 use native.Mathlib.Omega.{arith}
 use mathlib.Core.Path.{_≡_, refl, sym, ap, ap₂, _∙_, subst}
 use mathlib.Core.List.{List, [], _∷_, _++_, append-assoc}
@@ -12,8 +12,8 @@ use Rattle.model.specs.Table.{listRow, recorded, bodyEnd}
 use Rattle.model.specs.Tree.{Tree, plain, hinted, list, Forest, nil, cons, verbatim, canon, canons, nodes, nodess, depth, depths}
 use Rattle.model.proofs.ReadCases.{never, got-same}
 use Rattle.model.proofs.Strict.{octetsOfLexeme, strict-sound, strict-complete}
-use Rattle.walk.specs.Events.{stringRow, hintRow, hintEnd}
-use Rattle.owned.specs.Wanted.{over, claimedEnd, claimedCount, Told, Tolds, Closed, Ends, Begins, Wants, Opens, Next}
+use Rattle.walk.specs.Events.{hintEnd}
+use Rattle.owned.specs.Wanted.{over, claimedEnd, claimedCount, Told, Tolds, Closed, Ends, Begins, Wants, Next}
 
 module _ (R : ℕ → List ℕ) (n : ℕ) where
   -- ---- a tree in front, and what follows it in the list

@@ -1,11 +1,11 @@
 -- Octets and a table gone through side by side: where a loop over them stands, and what a turn of it does.
-use Prim.Native.Nat.{ℕ, _+_, _-_, _*_, _/_, _%_, _≤_, _<_}
+use Prim.Native.Nat.{ℕ, _+_, _-_, _≤_, _<_}
 use mathlib.Core.Path.{_≡_}
 use mathlib.Core.Bool.{Bool, true, false}
 use mathlib.Core.List.{List, [], _∷_}
 use lib.ListN.{length, drop, getD, set}
 use lib.Dec.{eqb}
-use Rattle.base.specs.Choice.{pick, both, equal}
+use Rattle.base.specs.Choice.{pick, both}
 use Rattle.model.specs.Count.{shutBy}
 use Rattle.model.specs.Lexemes.{Lexeme, opening, closing, atom, hinting, strictLexeme}
 use Rattle.model.specs.Strings.{got}
@@ -15,11 +15,9 @@ use Rattle.model.specs.Tree.{Tree}
 use Rattle.walk.specs.Events.{recordAt, hintRow, hintEnd}
 use Rattle.sheets.specs.Notes.{listMark, noteBy}
 use Rattle.sheets.specs.Places.{spanBy, StringAt}
-use Rattle.tables.specs.Rows.{recordList}
 use Rattle.tables.specs.Told.{endPart, thirdPart}
 use Rattle.owned.specs.Owned.{Own, Checkable}
 use Rattle.owned.specs.Wanted.{over, Ends, Wants}
-use Rattle.tables.specs.declared.rows.Row.{Row}
 
 -- the note that a record tells
 unfoldable pub noteFrom : List ℕ → ℕ
@@ -92,7 +90,7 @@ pub record Claims (r : List ℕ) (at up opened k n len : ℕ) : Type 0 where
   pub some : k < n
 
 -- whether it is so; and the note
-pub record Begins (r : List ℕ) (at up opened k n len : ℕ) (notes notes′ : List ℕ) (so : Bool) : Type 0 where
+pub record Begun (r : List ℕ) (at up opened k n len : ℕ) (notes notes′ : List ℕ) (so : Bool) : Type 0 where
   pub yes : so ≡ true → Claims r at up opened k n len
   pub kept : so ≡ true → notes′ ≡ set notes k (noteFrom r)
   pub no : so ≡ false → Claims r at up opened k n len → ⊥

@@ -1,17 +1,13 @@
-// Octets and a table gone through side by side: whether the records are those of the nodes, as each is met, so that no octet and no
-// record is looked at twice. A list's record is met where the list begins, and says where it is to end.
+// Octets and a table gone through side by side: whether the records are those of the nodes, as each is met, in one pass. A list's record is met where the list begins, and says where it is to end.
 pub mod turns; // turns.rt: the same one node at a time
 
 ghost use mathlib.Core.Path.{_≡_};
 ghost use Prim.Native.Nat.{_+_, _*_, _<_};
 ghost use lib.ListN.{length, getD};
-ghost use Rattle.base.specs.Choice.{equal};
-ghost use Rattle.model.specs.Table.{width};
-ghost use Rattle.walk.specs.Events.{recordAt};
 ghost use Rattle.tables.specs.Rows.{recordList};
 ghost use Rattle.tables.specs.Told.{parentPart};
 ghost use Rattle.owned.specs.Owned.{Checkable, Checked};
-ghost use Rattle.owned.specs.Going.{Closable, Closes, Meetable, Begins, Unread, Hints};
+ghost use Rattle.owned.specs.Going.{Closable, Closes, Meetable, Begun, Unread, Hints};
 use sheets::notes::LIST;
 use sheets::notes::keep;
 use sheets::places::SHIFT;
@@ -62,7 +58,7 @@ pub fn begins(
     len: usize,
 ) -> bool
     requires { ⌜ Meetable at up seen nodes len ⌝ }
-    ensures { λ r. ⌜ Begins (recordList row parent) at up opened seen nodes len (now (notes .entry)) (now (notes .exit)) r ⌝ }
+    ensures { λ r. ⌜ Begun (recordList row parent) at up opened seen nodes len (now (notes .entry)) (now (notes .exit)) r ⌝ }
 {
     if opened >= limits::DEPTH {
         return false;

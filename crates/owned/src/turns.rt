@@ -1,6 +1,5 @@
 // The same one node at a time, for whoever holds the records: where it stands is one number.
 ghost use mathlib.Core.Path.{_≡_};
-ghost use lib.ListN.{length};
 ghost use Rattle.tables.specs.Rows.{recordList};
 ghost use Rattle.owned.specs.Turns.{nodeOf, Passable, Passed, Meets, Others, Met, Turnable, Turned};
 use crate::around;

@@ -1,5 +1,5 @@
-// Reading: a text of any form into canonical octets and the node table. The text becomes octets and notes in local space first, so
-// that syntax is judged before any limit, and nothing lent is written until nothing can be refused any more.
+// Reading: a text of any form into canonical octets and the node table. The text becomes octets and notes in local space first (of
+// long canonical text, which is its own octets, only notes), so that syntax is judged before any limit, and nothing lent is written until nothing can be refused any more.
 mod tiers; // tiers.rt: local space for a text
 
 ghost use mathlib.Core.Path.{_≡_};
@@ -58,7 +58,7 @@ pub fn put_literal(
                 return refused(row);
             }
             scan::copy(source, 0, len, canonical, 0);
-            Reading::Accepted { length: len, nodes }
+            Reading::Accepted { nodes, length: len }
         }
         Extent::Refused { place } => refused_at(3, place),
     }

@@ -1,6 +1,5 @@
 -- What is known where the loop of `own_by` begins a turn.
-use mathlib.Core.Path.{_≡_, refl, sym, _∙_, subst}
-use mathlib.Core.Bool.{Bool, true, false}
+use mathlib.Core.Path.{_≡_, sym, _∙_, subst}
 use mathlib.Core.List.{List}
 use Prim.Native.Nat.{ℕ, _≤_, _<_, _^_, _-_}
 use native.Mathlib.Omega.{arith}
@@ -16,7 +15,7 @@ use Rattle.records.specs.Told.{nil}
 use Rattle.records.proofs.Tables.{nine-numbers}
 use Rattle.records.proofs.Owning.{recorded}
 
--- notes of the room that there is, and a state
+-- notes of the room that there is, and a state, from which the records still decide whether they are the sheet's own
 pub record Here (c : List ℕ) (len : ℕ) (ys : List Record) (n e room : ℕ) : Type 0 where
   pub notes : List ℕ
   pub long : length notes ≡ room

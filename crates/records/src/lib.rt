@@ -5,7 +5,7 @@ mod corrections; // corrections.rt: elements put into lists, and nodes removed
 mod foremen; // foremen.rt: extracts
 pub mod owned; // owned.rt: whether records are a sheet's own
 mod piecing; // piecing.rt: texts in pieces
-mod told; // told.rt: the record that a note tells
+mod told; // told.rt: the record that a note tells, and one handed on to be judged
 
 ghost use mathlib.Core.Path.{_≡_};
 ghost use lib.ListN.{length as size};

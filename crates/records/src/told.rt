@@ -1,4 +1,4 @@
-// The record that a note tells; and a turn of the loop that judges records, which takes one of them.
+// The record that a note tells; and a record handed on to be judged.
 ghost use mathlib.Core.Path.{_≡_};
 ghost use Rattle.lookup.specs.Pacing.{Turnable, Turned};
 ghost use Rattle.tables.specs.Rows.{recordList};

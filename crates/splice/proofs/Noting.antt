@@ -41,9 +41,6 @@ module _ (m l l′ : ℕ) where
 
 -- ---- one behind the spot
 module _ (m k : ℕ) (b : Growth) where
-  pub later-moving : Later m k b → Moving m (b .old) (b .len)
-  later-moving g = g .moving
-
   module _ (r : ℕ) (e : r ≡ movedNote m (b .old) (b .len)) where
     pub later-fits : Later m k b → Fits w64 (r + b .count * top)
     later-fits g = omega (arith, e, moved-most m (b .old) (b .len), g .moving .small, g .fit .short, g .fit .few)

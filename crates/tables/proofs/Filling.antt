@@ -3,18 +3,13 @@ use Prim.Native.Nat.{ℕ, _+_, _*_, _≤_, _<_}
 use native.Mathlib.Omega.{arith}
 use native.Mathlib.Numerals.{add-one}
 use mathlib.Core.Path.{_≡_, refl, sym, ap, ap₂, _∙_}
-use mathlib.Core.Bool.{Bool, true, false}
 use mathlib.Core.List.{List, [], _∷_, _++_}
 use lib.ListN.{length, getD, take, drop, take-append-drop}
-use lib.Seq.{sets, take-suc, take-all, take-take, take-add, take-at, drop-at, length-sets, length-take-le}
-use Rattle.base.specs.Choice.{equal}
-use Rattle.base.proofs.Cases.{by-bool, differ}
-use Rattle.base.proofs.Lists.{equal-true, same-equal}
+use lib.Seq.{sets, take-suc, take-all, take-at, length-sets, length-take-le}
 use Rattle.base.proofs.Stores.{sets-append}
 use Rattle.model.specs.Limits.{maxSource}
 use Rattle.model.specs.Table.{Row, plainRow, width, rowNumbers, recorded, rows, rowOf, parents, parentOf, flat, tableOf}
 use Rattle.model.specs.Tree.{Tree, nodes}
-use Rattle.walk.specs.Events.{recordAt}
 use Rattle.walk.proofs.Tabled.{flat-append, flat-length, rows-length, parents-length}
 use Rattle.tables.specs.Rows.{recordList, RowIs}
 use Rattle.tables.specs.Told.{rowAt, parentPart, Readable, Holds, Fillable, Filled}

@@ -2,7 +2,6 @@
 pub mod rows; // rows.rt: a node's record
 mod told; // told.rt: the record that a note tells
 
-ghost use mathlib.Core.Path.{_≡_};
 ghost use lib.ListN.{length};
 ghost use Rattle.tables.specs.Told.{Fillable, Filled};
 pub use rows::Row;

@@ -1,5 +1,5 @@
 // A text of any form becomes canonical octets in scratch, in one pass, with the sizes of its tree and a note for each node. Whatever
-// takes a text takes it through these, and sees nothing of its form.
+// takes a text takes it through these, and sees nothing of its form but whether it is its own octets.
 ghost use mathlib.Core.Path.{_≡_};
 ghost use lib.ListN.{length};
 ghost use lib.Dec.{eqb};

@@ -290,6 +290,6 @@ own-by-spec 𝓤 H 𝓜 𝓖 𝓡 =
     (tables 𝓤 H 𝓜 𝓡 code.env .C) (tables 𝓤 H 𝓜 𝓡 code.env .Λ) #entry code.function (code.unfolded 𝓤 H 𝓜 𝓡)
     (meets 𝓤 H (𝓖 .A) (givenOf 𝓤 H 𝓜 𝓖) (𝓜 .mem) (𝓡 .run) (tablesOf 𝓤 H 𝓜 (tables 𝓤 H 𝓜 𝓡 code.env))
     (cited 𝓤 H (Bound 𝓤 H (𝓖 .A) (𝓜 .mem) (𝓡 .run)) 𝓜 𝓡 code.env #bound bound-def.routine code.calls-lookup·turns·bound (bound-thm.met 𝓤 H 𝓜 𝓖 𝓡))
-    (cited 𝓤 H (Node 𝓤 H (𝓖 .A) (𝓜 .mem) (𝓡 .run)) 𝓜 𝓡 code.env #node node-def.routine code.calls-tables·node-of (node-thm.met 𝓤 H 𝓜 𝓖 𝓡))
+    (cited 𝓤 H (Node 𝓤 H (𝓖 .A) (𝓜 .mem) (𝓡 .run)) 𝓜 𝓡 code.env #node node-def.routine code.calls-lookup·node-of (node-thm.met 𝓤 H 𝓜 𝓖 𝓡))
     (cited 𝓤 H (Step 𝓤 H (𝓖 .A) (𝓜 .mem) (𝓡 .run)) 𝓜 𝓡 code.env #step step-def.routine code.calls-records·told·step (step-thm.met 𝓤 H 𝓜 𝓖 𝓡))
     (cited 𝓤 H (Answer 𝓤 H (𝓖 .A) (𝓜 .mem) (𝓡 .run)) 𝓜 𝓡 code.env #answer answer-def.routine code.calls-lookup·turns·answer (answer-thm.met 𝓤 H 𝓜 𝓖 𝓡)))
