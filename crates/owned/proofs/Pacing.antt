@@ -10,7 +10,7 @@ use borrow.Author.Tests.{eq-eqb, ne-eqb, lt-ltb}
 use Rattle.base.proofs.Cases.{differ}
 use Rattle.model.specs.Count.{shutBy}
 use Rattle.model.specs.Limits.{maxDepth, maxSource, maxCanonical, mostNodes}
-use Rattle.walk.proofs.Shut.{closed-by, closed-open}
+use Rattle.walk.proofs.Shut.{closed-by}
 use Rattle.sheets.specs.Places.{shift}
 use Rattle.tables.specs.Told.{parentPart}
 use Rattle.owned.specs.Owned.{Checked}
@@ -131,20 +131,3 @@ module _ (src : List ℕ) (n : ℕ) (notes : List ℕ) (from inner held k at up 
 
             pub pass-on : r ≡ true → (u : ℕ) → u ≡ parentPart (getD notes up 0) → Passing src n notes from inner held k (at + 1) u (opened - 1)
             pass-on f u e = record { given = p .given; on = λ table w. shut-on src table n notes notes at up opened k (owned table w) q x y h b pass-open r c f u e .going }
-
--- ---- mostly none ends
-
-module _ (src : List ℕ) (n : ℕ) (notes : List ℕ) (from inner held k : ℕ) (g : Passable src n notes from inner held k) where
-  abbrev begun : Passing src n notes from inner held k from inner held
-  begun = pass-start src n notes from inner held k g
-
-  pub first-small : (inner ≤ mostNodes) × (held ≤ maxDepth)
-  first-small = pass-small src n notes from inner held k from inner held begun
-
-  pub first-few : (k ≤ mostNodes) × (from ≤ maxSource)
-  first-few =
-      let i = pass-inside src n notes from inner held k from inner held begun in
-      (pass-few src n notes from inner held k from inner held begun .0, omega arith)
-
-  pub first-node : (held ≡ 0 → ⊥) → from < length src → (getD src from 0 ≡ 41 → ⊥) → k < n → (s : ℕ) → s ≡ inner * shift + held * (shift * shift) + k * top + from → Passed src n notes from inner held k s
-  first-node d h b f s z = pass-node src n notes from inner held k from inner held begun false (closed-open held k (omega (arith, d))) refl h b f s (omega arith)

@@ -29,7 +29,7 @@ pub fn node_of(state: usize) -> usize
 }
 
 // After a node: past the lists that end there.
-fn pass_lists(
+fn pass(
     src: &[u8],
     notes: &[usize],
     nodes: usize,
@@ -71,34 +71,6 @@ fn pass_lists(
             return LOST;
         }
     }
-}
-
-// The same. Mostly none ends there, and the state is one sum away, which the next turn waits for.
-fn pass(
-    src: &[u8],
-    notes: &[usize],
-    nodes: usize,
-    from: usize,
-    inner: usize,
-    held: usize,
-    seen: usize,
-) -> usize
-    requires { ⌜ Passable (now src) nodes (now notes) from inner held seen ⌝ }
-    ensures { λ r. ⌜ Passed (now (src .entry)) nodes (now (notes .entry)) from inner held seen r ⌝ }
-{
-    if held == 0 {
-        return pass_lists(src, notes, nodes, from, inner, held, seen);
-    }
-    if from >= src.len() {
-        return pass_lists(src, notes, nodes, from, inner, held, seen);
-    }
-    if src[from] == b')' {
-        return pass_lists(src, notes, nodes, from, inner, held, seen);
-    }
-    if seen >= nodes {
-        return pass_lists(src, notes, nodes, from, inner, held, seen);
-    }
-    inner * SHIFT + held * (SHIFT * SHIFT) + seen * TOP + from
 }
 
 // A node that is no string without a hint, with its record.
