@@ -30,37 +30,37 @@
  *
  * Stack that a call takes at most, in octets (x86-64), besides what the C
  * library's memset and memcpy take:
- *   etg_read                 120,280
+ *   etg_read                 185,816
  *   etg_read_records         134,728
  *   etg_write                 35,096
- *   etg_replace              120,664
+ *   etg_replace              120,648
  *   etg_replace_records      134,568
- *   etg_insert               120,664
+ *   etg_insert               120,648
  *   etg_insert_records       134,568
- *   etg_remove               120,680
- *   etg_remove_records       134,568
+ *   etg_remove               120,664
+ *   etg_remove_records       134,584
  *   etg_same                   2,408
- *   etg_hint                  67,880
- *   etg_hint_records          81,992
- *   etg_data                  67,880
- *   etg_data_records          81,992
+ *   etg_hint                  65,896
+ *   etg_hint_records          80,008
+ *   etg_data                  65,896
+ *   etg_data_records          80,008
  *   etg_spool_open             2,392
  *   etg_spool_add_start        2,440
  *   etg_spool_add_step            32
  *   etg_spool_add_commits          8
  *   etg_spool_add              2,440
- *   etg_value                 67,944
- *   etg_value_records         81,976
+ *   etg_value                 65,976
+ *   etg_value_records         79,992
  *   etg_put_value                 24
- *   etg_line                  68,120
- *   etg_line_records          82,024
+ *   etg_line                  66,168
+ *   etg_line_records          80,136
  *   etg_total                     72
- *   etg_week                  67,912
- *   etg_week_records          82,072
+ *   etg_week                  65,976
+ *   etg_week_records          79,960
  *   etg_extract              137,576
  *   etg_extract_own          137,432
  *   etg_extract_records      151,432
- *   etg_extract_own_records  151,656
+ *   etg_extract_own_records  151,448
  *   etg_split                    184
  *   etg_pieces_start               8
  *   etg_pieces_feed              328
