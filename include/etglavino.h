@@ -30,7 +30,7 @@
  *
  * Stack that a call takes at most, in octets (x86-64), besides what the C
  * library's memset and memcpy take:
- *   etg_read                 185,816
+ *   etg_read                 120,296
  *   etg_read_records         134,728
  *   etg_write                 35,096
  *   etg_replace              120,648
@@ -40,20 +40,20 @@
  *   etg_remove               120,664
  *   etg_remove_records       134,584
  *   etg_same                   2,408
- *   etg_hint                  65,896
- *   etg_hint_records          80,008
- *   etg_data                  65,896
- *   etg_data_records          80,008
+ *   etg_hint                  65,808
+ *   etg_hint_records          79,904
+ *   etg_data                  65,808
+ *   etg_data_records          79,904
  *   etg_spool_open             2,392
  *   etg_spool_add_start        2,440
  *   etg_spool_add_step            32
  *   etg_spool_add_commits          8
  *   etg_spool_add              2,440
- *   etg_value                 65,976
- *   etg_value_records         79,992
+ *   etg_value                 65,888
+ *   etg_value_records         79,888
  *   etg_put_value                 24
- *   etg_line                  66,168
- *   etg_line_records          80,136
+ *   etg_line                  66,080
+ *   etg_line_records          80,032
  *   etg_total                     72
  *   etg_week                  65,976
  *   etg_week_records          79,960

@@ -6,5 +6,6 @@ pub mod Lockstep
 pub mod SideBySide
 pub mod Spans
 pub mod Answered
+pub mod Claiming
 pub mod Noting
 pub mod Pacing

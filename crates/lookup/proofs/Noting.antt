@@ -1,5 +1,5 @@
 -- A sheet noted, and what a node of it shows by its note.
-use Prim.Native.Nat.{ℕ, _+_, _*_, _/_, _≤_, _<_}
+use Prim.Native.Nat.{ℕ, _+_, _*_, _≤_, _<_}
 use native.Mathlib.Omega.{arith}
 use mathlib.Core.Path.{_≡_, refl, sym, ap, _∙_, subst}
 use mathlib.Core.Bool.{Bool, true, false, not}
@@ -7,12 +7,10 @@ use mathlib.Core.Option.{Option, some}
 use mathlib.Core.List.{List}
 use lib.ListN.{length, take, getD}
 use lib.Seq.{length-take-le}
-use borrow.Author.Tests.{eq-eqb}
 use Rattle.base.specs.Choice.{chain, isNone}
-use Rattle.base.proofs.Cases.{by-bool, differ, picked, unpicked, some-same, true-both}
-use Rattle.base.proofs.Lists.{same-equal}
+use Rattle.base.proofs.Cases.{by-bool, differ, picked, unpicked, some-same}
 use Rattle.model.specs.Limits.{maxCanonical, maxDepth, mostNodes}
-use Rattle.model.specs.Answers.{fits, fitting, sheetTree, owns, ownTree, hintPart, dataPart}
+use Rattle.model.specs.Answers.{fits, fitting, ownTree, hintPart, dataPart}
 use Rattle.model.specs.Decode.{decode₁}
 use Rattle.model.specs.Table.{width, rowNumbers, records}
 use Rattle.model.specs.Tree.{Tree, canon, nodes}
@@ -24,7 +22,6 @@ use Rattle.walk.specs.declared.Extent.the-variants.{Whole}
 use Rattle.sheets.specs.Notes.{Notable, Noted}
 use Rattle.tables.specs.Rows.{rowList, RowIs}
 use Rattle.tables.specs.Told.{rowAt, Readable, Holds}
-use Rattle.owned.specs.Owned.{Checkable, Checked}
 use Rattle.tables.specs.declared.rows.Row as coded
 use Rattle.tables.proofs.Held.{note-holds}
 use Rattle.tables.proofs.Telling.{holds-row}
@@ -32,7 +29,7 @@ use Rattle.answers.specs.Cases.{placed}
 use Rattle.answers.specs.declared.Place.{Place}
 use Rattle.answers.specs.declared.Place.the-variants.{Part, NoPart}
 use Rattle.lookup.specs.Noted.{Notes, Sheet, Owned, Owning, Readables, ShowsPlace}
-use Rattle.lookup.proofs.Sheets.{no-tree, a-tree, tree-of, fitted, within, sheet-of, Own, own-of, own-beyond, own-long, own-unlent}
+use Rattle.lookup.proofs.Sheets.{tree-of, fitted, within, sheet-of, own-of}
 use Rattle.lookup.proofs.Shown.{table-at, hint-unowned, hint-beyond, hint-other, hint-found, data-unowned, data-beyond, data-found}
 
 -- ---- a sheet noted
@@ -56,48 +53,6 @@ module _ (c : List ℕ) (n m k : ℕ) (before after : List ℕ) (r : Extent) (v 
         held = subst (λ (i : ℕ). Holds after i t) (sym (wholly .counted) ∙ z) (note-holds (take n c) before after r v (omega (arith, length-take-le n c lent)) g);
         lent = held;
       }
-
--- ---- octets and a table gone through side by side
-
-module _ (c : List ℕ) (len : ℕ) (table : List ℕ) (count : ℕ) (notes : List ℕ) where
-  unowned : false ≡ not (isNone (ownTree c len table count)) → Owned c len table count notes false
-  unowned e = record { tells = e; sheet = λ z. differ z refl }
-
-  pub own-unsized : length c < len → Owned c len table count notes false
-  own-unsized h = unowned (own-beyond c len table count h)
-
-  pub own-large : maxCanonical < len → Owned c len table count notes false
-  own-large h = unowned (own-long c len table count h)
-
-  pub own-many : mostNodes < count → Owned c len table count notes false
-  own-many h = unowned (no-tree _ (λ t e. let o : Own c len table count t = own-of c len table count t e in omega (arith, o .counted, o .sheet .fitting .many)))
-
-  pub own-short : length table / width < count → Owned c len table count notes false
-  own-short h = unowned (own-unlent c len table count h)
-
-  module _ (lent : len ≤ length c) (short : len ≤ maxCanonical) where
-    front : length (take len c) ≡ len
-    front = length-take-le len c lent
-
-    pub own-checkable : count ≤ mostNodes → count ≤ length table / width → (room : ℕ) → Notes count room → Checkable (take len c) table count room
-    own-checkable f h room g = record { short = omega (arith, front); few = f; lent = omega arith; fits = omega (arith, g .enough) }
-
-    pub own-checked : count ≤ length table / width → (b : Bool) → Checked (take len c) table count notes b → Owned c len table count notes b
-    unfolding chain fitting owns ownTree
-    own-checked h b x = by-bool b (λ y. so y) (λ y. subst (Owned c len table count notes) (sym y) (unowned (no-tree _ (λ t e.
-        let o : Own c len table count t = own-of c len table count t e in
-        x .no y t (record { is = o .sheet .decoded; deep = o .sheet .fitting .deep; counted = o .counted; same = o .recorded })))))
-      where
-        so : b ≡ true → Owned c len table count notes b
-        so y =
-            let z = x .yes y in
-            let t : Tree = z .tree in
-            let l : length (canon t) ≡ len = sym (ap length (canon-sound (take len c) t (z .own .is))) ∙ front in
-            let f : fits t ≡ true = fitted t (z .own .deep) (omega arith) in
-            let i : sheetTree c len ≡ some t = within c len lent ∙ ap (λ (o : Option Tree). chain o fitting) (z .own .is) ∙ picked _ _ f in
-            let j : ownTree c len table count ≡ some t =
-            ap (λ (o : Option Tree). chain o (owns table count)) i ∙ picked _ _ (true-both (eq-eqb count (nodes t) (z .own .counted)) (same-equal _ _ (z .own .same))) in
-            record { tells = y ∙ a-tree _ t j; sheet = λ e. record { tree = t; is = i; held = z .held; lent = h } }
 
 -- a table's tree is the sheet that was noted
 pub owned-held : (c : List ℕ) (len : ℕ) (table : List ℕ) (count : ℕ) (notes : List ℕ) (own : Bool) → Owned c len table count notes own

@@ -1,7 +1,7 @@
 // Sheets looked into: whether octets are one, whether a table is its own, what a node shows, and two of them compared.
 mod alike; // alike.rt: lexeme by lexeme
 pub mod noted; // noted.rt: a sheet by its notes
-pub mod turns; // turns.rt: a sheet and its records, one node at a time
+pub mod turns; // turns.rt: a sheet and its records, one record at a time
 mod parts; // parts.rt: octets compared
 mod tiers; // tiers.rt: notes in local space
 
@@ -20,9 +20,9 @@ use answers::Place;
 use answers::refused_comparing;
 pub use noted::own_notes;
 pub use noted::place_by;
-pub use owned::turns::node_of;
 pub use turns::answer;
 pub use turns::bound;
+pub use turns::node_of;
 pub use turns::turn;
 use walk::Extent;
 

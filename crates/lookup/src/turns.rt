@@ -1,10 +1,16 @@
-// A sheet and its records gone through one node at a time, for whoever holds the records.
+// A sheet and its records gone through one record at a time, for whoever holds the records.
 ghost use mathlib.Core.Path.{_≡_};
+ghost use Prim.Native.Nat.{_≤_, _<_};
+ghost use lib.ListN.{length};
+ghost use Rattle.model.specs.Limits.{maxSource};
 ghost use Rattle.tables.specs.Rows.{recordList};
-ghost use Rattle.lookup.specs.Pacing.{Bounded, answers, Turnable, Turned};
+ghost use Rattle.lookup.specs.Pacing.{nodeOf, Bounded, answers, Kept, Passable, Passed, Turnable, Turned};
 use tables::Row;
 
-// The state at which all nodes are gone through; 0 where a sheet of this length, or so many records of those lent, can't be.
+// The state of a record that claims no note, and of notes that the octets don't bear out.
+const LOST: usize = 18446744073709551615;
+
+// The state past all records; 0 where a sheet of this length, or so many records of those lent, can't be.
 pub fn bound(octets: usize, len: usize, room: usize, nodes: usize) -> usize
     ensures { λ e. ⌜ Bounded octets len room nodes e ⌝ }
 {
@@ -23,10 +29,53 @@ pub fn bound(octets: usize, len: usize, room: usize, nodes: usize) -> usize
     if nodes > room {
         return 0;
     }
-    nodes * owned::turns::TOP
+    nodes
 }
 
-// The node that is next, with its record: the state after it, and its note.
+// The number of the record that is next: a state is the number of those gone through.
+pub fn node_of(state: usize) -> usize
+    ensures { λ r. ⌜ r ≡ nodeOf state ⌝ }
+{
+    state
+}
+
+// A note kept, and the state after it.
+pub fn kept(notes: &mut [usize], note: usize, state: usize) -> usize
+    requires { ⌜ state < length (now notes) ⌝ }
+    requires { ⌜ state ≤ maxSource ⌝ }
+    ensures { λ s. ⌜ Kept (now (notes .entry)) note state (now (notes .exit)) s ⌝ }
+{
+    if note == 0 {
+        return LOST;
+    }
+    notes[state] = note;
+    state + 1
+}
+
+// The same; after the last one the octets bear the notes out or don't.
+fn passed(
+    canonical: &[u8],
+    len: usize,
+    notes: &mut [usize],
+    nodes: usize,
+    note: usize,
+    state: usize,
+) -> usize
+    requires { ⌜ Passable (now canonical) len nodes (now notes) note state ⌝ }
+    ensures { λ s. ⌜ Passed (now (canonical .entry)) len nodes (now (notes .entry)) note state (now (notes .exit)) s ⌝ }
+{
+    let next = kept(notes, note, state);
+    if next != nodes {
+        return next;
+    }
+    let part = &canonical[..len];
+    if owned::own(part, nodes, notes) {
+        return nodes + len;
+    }
+    LOST
+}
+
+// The record that is next: the note that it claims is kept.
 pub fn turn(
     canonical: &[u8],
     len: usize,
@@ -39,8 +88,22 @@ pub fn turn(
     requires { ⌜ Turnable (now canonical) len (recordList row parent) nodes (now notes) state ⌝ }
     ensures { λ s. ⌜ Turned (now (canonical .entry)) len (recordList row parent) nodes (now (notes .entry)) state (now (notes .exit)) s ⌝ }
 {
-    let part = &canonical[..len];
-    owned::turns::turn(part, notes, nodes, row, parent, state)
+    if row.kind == 0 {
+        let note = tables::plain_claim(row, parent);
+        return passed(canonical, len, notes, nodes, note, state);
+    }
+    let note = tables::other_claim(
+        row.kind,
+        row.start,
+        row.end,
+        row.nodes,
+        row.hint_start,
+        row.hint_end,
+        row.data_start,
+        row.data_end,
+        parent,
+    );
+    passed(canonical, len, notes, nodes, note, state)
 }
 
 // Whether the records are the sheet's own, by the state at which they were gone through.

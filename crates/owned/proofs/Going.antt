@@ -1,4 +1,4 @@
--- Octets and a table gone through side by side, turn by turn.
+-- Octets and claimed notes gone through side by side, turn by turn.
 use Prim.Native.Nat.{ℕ, _+_, _-_, _≤_, _<_}
 use native.Mathlib.Omega.{arith}
 use mathlib.Core.Path.{_≡_, refl, sym, ap, _∙_}
@@ -10,13 +10,11 @@ use Rattle.base.proofs.Cases.{by-le, differ, untrue}
 use Rattle.model.specs.Count.{shutBy}
 use Rattle.model.specs.Lexemes.{Lexeme, strictLexeme}
 use Rattle.model.specs.Strings.{got, refused}
-use Rattle.walk.specs.Events.{recordAt}
 use Rattle.walk.proofs.Shut.{closed-open, closed-by}
-use Rattle.canonical.specs.declared.Item.the-variants.{Other as other}
-use Rattle.owned.specs.Owned.{Checkable, Checked}
+use Rattle.owned.specs.Owned.{told, Checkable, Checked}
 use Rattle.owned.specs.Wanted.{over, Ends, Wants, Next}
 use Rattle.owned.specs.Going.{Open, Goes, Going}
-use Rattle.owned.proofs.Owned.{wanted-own, own-wanted, own-held}
+use Rattle.owned.proofs.Owned.{wanted-own, own-wanted}
 use Rattle.owned.proofs.Wanted.{lexeme-next, lexeme-back, no-lexeme}
 
 -- ---- lists that are open
@@ -25,7 +23,7 @@ pub open-more : (R : ℕ → List ℕ) (k m : ℕ) → k ≤ m → (st : List �
 unfolding Open
 open-more R k m h [] o = tt
 open-more R k m h (u ∷ us) o = (
-  record { start = o .0 .start; end = o .0 .end; count = o .0 .count; is = o .0 .is; begun = o .0 .begun; ends = o .0 .ends; few = o .0 .few; before = omega (arith, o .0 .before) },
+  record { start = o .0 .start; end = o .0 .end; count = o .0 .count; is = o .0 .is; before = omega (arith, o .0 .before) },
   open-more R k m h us (o .1),
 )
 
@@ -69,11 +67,11 @@ ends-few R n (u ∷ us) s at k x = omega (arith, ends-few R n us (x .rest) _ _ (
 
 -- ---- the start
 
-pub going-start : (src table : List ℕ) (n : ℕ) (notes : List ℕ) → Checkable src table n (length notes) → Going src table n notes 0 0 0 0
+pub going-start : (src notes : List ℕ) (n : ℕ) → Checkable src notes n → Going src notes n 0 0 0 0
 unfolding Open over
-going-start src table n notes g =
+going-start src notes n g =
     let b : shutBy 0 0 ≡ false = sym (closed-by 0 0 (omega arith)) in
-    let w = goes-on (recordAt table) n src 0 0 (shutBy 0 0) b [] in
+    let w = goes-on (told notes) n src 0 0 (shutBy 0 0) b [] in
     record {
       given = g;
       inside = omega arith;
@@ -83,19 +81,18 @@ going-start src table n notes g =
       low = omega arith;
       top = refl;
       lists = tt;
-      kept = λ i h. absurd (omega arith);
-      to = λ t o. w .1 (own-wanted src table n (length notes) g t o);
+      to = λ t o. w .1 (own-wanted src notes n t o);
       from = w .0;
     }
 
-module _ (src table : List ℕ) (n : ℕ) (notes : List ℕ) (at up opened k : ℕ) (w : Going src table n notes at up opened k) where
+module _ (src notes : List ℕ) (n at up opened k : ℕ) (w : Going src notes n at up opened k) where
   abbrev R : ℕ → List ℕ
-  R = recordAt table
+  R = told notes
 
   abbrev s : List ℕ
   s = drop at src
 
-  pub refuse : (Goes R n (shutBy opened k) (w .st) s at k → ⊥) → Checked src table n notes false
+  pub refuse : (Goes R n (shutBy opened k) (w .st) s at k → ⊥) → Checked src notes n false
   refuse f = record { yes = λ e. differ e refl; no = λ e t o. f (w .to t o) }
 
   module _ (q : Bool) (x : q ≡ shutBy opened k) where
@@ -106,21 +103,20 @@ module _ (src table : List ℕ) (n : ℕ) (notes : List ℕ) (at up opened k : �
           let z = shut-none opened k (sym x ∙ y) in
           stack-cases (w .st) opened (w .deep) (λ e i. let c = goes-shut R n s at k (shutBy opened k) (sym x ∙ y) [] in rw i c) (λ u us i e. absurd (omega (arith, z .0)))
 
-      pub going-whole : length src ≤ at → k ≡ n → Checked src table n notes true
+      pub going-whole : length src ≤ at → k ≡ n → Checked src notes n true
       unfolding Ends
       going-whole h e =
           let v : Wants R n [] src 0 0 = w .from (ended .1 (drop-of-length-le src h, e)) in
           record {
-            yes = λ i. wanted-own src table n (length notes) (w .given) v
-                (λ t o. record { tree = t; own = o; held = own-held src table n (length notes) (w .given) notes refl (λ j l. w .kept j (omega arith)) t o });
+            yes = λ i. wanted-own src notes n v (λ t o. record { tree = t; own = o });
             no = λ i. differ refl i;
           }
 
-      pub going-more : at < length src → Checked src table n notes false
+      pub going-more : at < length src → Checked src notes n false
       unfolding Ends
       going-more h = refuse (λ g. omega (arith, ap length (ended .0 g .0), length-drop at src))
 
-      pub going-fewer : (k ≡ n → ⊥) → Checked src table n notes false
+      pub going-fewer : (k ≡ n → ⊥) → Checked src notes n false
       unfolding Ends
       going-fewer d = refuse (λ g. d (ended .0 g .1))
 
@@ -129,10 +125,10 @@ module _ (src table : List ℕ) (n : ℕ) (notes : List ℕ) (at up opened k : �
       pub wanted : (Goes R n (shutBy opened k) (w .st) s at k → Wants R n (w .st) s at k) × (Wants R n (w .st) s at k → Goes R n (shutBy opened k) (w .st) s at k)
       wanted = goes-on R n s at k (shutBy opened k) (sym x ∙ y) (w .st)
 
-      pub none-lexed : strictLexeme s ≡ refused → Checked src table n notes false
+      pub none-lexed : strictLexeme s ≡ refused → Checked src notes n false
       none-lexed e = refuse (λ g. no-lexeme R n (w .st) s at k e (wanted .0 g))
 
-      pub going-short : length src ≤ at → Checked src table n notes false
+      pub going-short : length src ≤ at → Checked src notes n false
       unfolding strictLexeme
       going-short h = none-lexed (ap strictLexeme (drop-of-length-le src h))
 

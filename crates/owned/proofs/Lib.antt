@@ -1,8 +1,7 @@
 pub mod Wanted
 pub mod Owned
+pub mod Claiming
 pub mod Going
 pub mod Turning
 pub mod Meeting
 pub mod Owning
-pub mod Pacing
-pub mod Coming

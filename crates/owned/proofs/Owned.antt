@@ -1,27 +1,18 @@
--- Octets and records that go on as wanted from the start are a tree's canonical form and its table; the notes that the records tell are
--- the tree's.
-use Prim.Native.Nat.{ℕ, zero, suc, _+_, _*_, _-_, _≤_, _<_}
+-- Octets and records that go on as wanted from the start are a tree's canonical form and its records.
+use Prim.Native.Nat.{ℕ, zero, suc, _+_, _-_, _<_}
 use native.Mathlib.Omega.{arith}
 use native.Mathlib.Nat.{add-zero}
-use native.Mathlib.Numerals.{add-one}
 use mathlib.Core.Path.{_≡_, refl, sym, ap, ap₂, _∙_}
 use mathlib.Core.List.{List, [], _∷_, _++_, append-nil}
-use lib.ListN.{length, getD, take, drop, List·getD-append}
-use lib.Seq.{take-take, take-add, drop-at, getD-append-add, ext-getD, getD-take, length-take-le}
+use lib.ListN.{length, getD, List·getD-append}
+use lib.Seq.{getD-append-add}
 use Rattle.base.proofs.Cases.{by-le}
 use Rattle.model.specs.Decode.{decode₁}
-use Rattle.model.specs.Table.{Row, plainRow, width, recorded, rows, rowss, rowOf, parents, parentss, parentOf, flat, tableOf}
+use Rattle.model.specs.Table.{Row, plainRow, recorded, rows, rowss, parents, parentss}
 use Rattle.model.specs.Tree.{Tree, plain, hinted, list, Forest, nil, cons, canon, nodes, nodess}
 use Rattle.model.proofs.Canonical.{canon-sound, canon-complete}
-use Rattle.walk.specs.Events.{recordAt}
 use Rattle.walk.proofs.Tabled.{rows-length, parents-length}
-use Rattle.sheets.specs.Notes.{noted}
-use Rattle.sheets.proofs.Keeping.{noted-length}
-use Rattle.tables.specs.Told.{Holds}
-use Rattle.owned.specs.Owned.{Own, Checkable}
-use Rattle.tables.proofs.Filling.{front, front-more, front-take, front-all}
-use Rattle.tables.proofs.Telling.{noted-at}
-use Rattle.owned.specs.Going.{noteFrom}
+use Rattle.owned.specs.Owned.{told, Own}
 use Rattle.owned.specs.Wanted.{over, Told, Tolds, Ends, Wants}
 
 abbrev none : Row
@@ -97,41 +88,13 @@ module _ (R : ℕ → List ℕ) where
       each-tolds f (at + length (canon t)) (k + nodes t) up (second-part k (nodes t) (nodess f) (rows t at) (rowss f (at + length (canon t))) (parents t k up) (parentss f (k + nodes t) up) (rows-length t at) (parents-length t k up) x),
     )
 
--- ---- a table's records
-
-module _ (table : List ℕ) (n : ℕ) (lent : width * n ≤ length table) (t : Tree) (counted : n ≡ nodes t) where
-  abbrev Records : Type 0
-  Records = (i : ℕ) → i < n → recordAt table i ≡ recorded (rowOf t i) (parentOf t i)
-
-  more : (k : ℕ) → take (width * (k + 1)) table ≡ take (width * k) table ++ recordAt table k
-  more k = let z : width * (k + 1) ≡ width * k + width = omega arith in rw z (take-add (width * k) width table)
-
-  records-front : Records → (k : ℕ) → k ≤ n → take (width * k) table ≡ front t k
-  unfolding flat
-  records-front f zero h = refl
-  records-front f (suc k) h =
-      rw (← add-one k)
-      (more k ∙ ap₂ (λ (a b : List ℕ). a ++ b) (records-front f k (omega arith)) (f k (omega arith)) ∙ sym (front-more t k (omega arith)))
-
-  pub records-same : Records → take (width * n) table ≡ tableOf t
-  records-same f = records-front f n (omega arith) ∙ front-all t n (omega arith)
-
-  pub same-records : take (width * n) table ≡ tableOf t → Records
-  same-records y k h =
-      let front-of : (j : ℕ) → j ≤ n → take (width * j) table ≡ front t j =
-      (λ j l. sym (take-take (width * j) (width * n) table (omega arith)) ∙ ap (take (width * j)) y ∙ front-take t j (omega arith)) in
-      let b : take (width * k) table ++ recordAt table k ≡ take (width * k) table ++ recorded (rowOf t k) (parentOf t k) =
-      sym (more k) ∙ front-of (k + 1) (omega arith) ∙ front-more t k (omega arith) ∙ ap (λ (z : List ℕ). z ++ recorded (rowOf t k) (parentOf t k)) (sym (front-of k (omega arith))) in
-      let m : length (take (width * k) table) ≡ width * k = length-take-le (width * k) table (omega arith) in
-      sym (drop-at (take (width * k) table) (recordAt table k) (width * k) m) ∙ ap (drop (width * k)) b ∙ drop-at (take (width * k) table) (recorded (rowOf t k) (parentOf t k)) (width * k) m
-
 -- ---- from the start
 
-module _ (src table : List ℕ) (n room : ℕ) (g : Checkable src table n room) where
+module _ (src notes : List ℕ) (n : ℕ) where
   abbrev R : ℕ → List ℕ
-  R = recordAt table
+  R = told notes
 
-  pub wanted-own : {G : Type 0} → Wants R n [] src 0 0 → ((t : Tree) → Own src table n t → G) → G
+  pub wanted-own : {G : Type 0} → Wants R n [] src 0 0 → ((t : Tree) → Own src notes n t → G) → G
   unfolding Wants Ends over
   wanted-own w f =
       let t : Tree = w .tree in
@@ -143,32 +106,17 @@ module _ (src table : List ℕ) (n room : ℕ) (g : Checkable src table n room) 
         is = ap decode₁ e ∙ canon-complete t;
         deep = omega (arith, w .shallow);
         counted = c;
-        same = records-same table n (g .lent) t c (λ i h. let z : i ≡ 0 + i = omega arith in ap R z ∙ each i (omega arith));
+        each = λ i h. let z : i ≡ 0 + i = omega arith in ap R z ∙ each i (omega arith);
       })
 
-  pub own-wanted : (t : Tree) → Own src table n t → Wants R n [] src 0 0
+  pub own-wanted : (t : Tree) → Own src notes n t → Wants R n [] src 0 0
   unfolding Wants Ends over
   own-wanted t o =
       record {
         tree = t;
         rest = [];
         is = canon-sound src t (o .is) ∙ sym (append-nil (canon t));
-        told = each-told R t 0 0 0 (λ i h. let z : 0 + i ≡ i = omega arith in ap R z ∙ same-records table n (g .lent) t (o .counted) (o .same) i (omega (arith, o .counted)));
+        told = each-told R t 0 0 0 (λ i h. let z : 0 + i ≡ i = omega arith in ap R z ∙ o .each i (omega (arith, o .counted)));
         shallow = omega (arith, o .deep);
         on = (refl, omega (arith, o .counted));
-      }
-
-  -- notes that the records tell are the tree's
-  pub own-held : (notes : List ℕ) → length notes ≡ room → ((i : ℕ) → i < n → getD notes i 0 ≡ noteFrom (R i)) → (t : Tree) → Own src table n t → Holds notes n t
-  unfolding noteFrom
-  own-held notes l f t o =
-      record {
-        counted = o .counted;
-        kept =
-            let a : length (take n notes) ≡ n = length-take-le n notes (omega (arith, g .fits)) in
-            ext-getD 0 (take n notes) (noted t) (a ∙ o .counted ∙ sym (noted-length t))
-            (λ i h.
-            getD-take n notes i 0 (omega arith) ∙ f i (omega arith) ∙ ap noteFrom (same-records table n (g .lent) t (o .counted) (o .same) i (omega arith))
-            ∙ sym (noted-at t i (omega (arith, o .counted))));
-        short = omega (arith, ap length (canon-sound src t (o .is)), g .short);
       }

@@ -1,4 +1,3 @@
-pub mod Wanted
 pub mod Owned
+pub mod Wanted
 pub mod Going
-pub mod Turns

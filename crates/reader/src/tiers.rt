@@ -47,15 +47,21 @@ pub fn read_middle(form: u32, source: &[u8], canonical: &mut [u8], table: &mut [
 }
 
 // Canonical text of any length: notes alone.
-fn read_literal(form: u32, source: &[u8], canonical: &mut [u8], table: &mut [u32]) -> Reading
+fn read_literal(
+    form: u32,
+    source: &[u8],
+    canonical: &mut [u8],
+    table: &mut [u32],
+    notes: &mut [usize],
+) -> Reading
     requires { ⌜ Literal form (length (now source)) ⌝ }
+    requires { ⌜ Noteable (length (now source)) (length (now notes)) ⌝ }
     ensures { λ r. ⌜ outcome r (now (canonical .exit)) (now (table .exit)) ≡ readTree (decode form (now (source .entry))) (placeOf form (now (source .entry))) (now (canonical .entry)) (now (table .entry)) ⌝ }
 {
-    let mut notes: [usize; limits::NODES] = [0; limits::NODES];
     let records = table.len() / limits::WIDTH;
-    match put_literal(form, source, canonical, records, &mut notes) {
+    match put_literal(form, source, canonical, records, notes) {
         Reading::Accepted { length, nodes } => {
-            tables::fill(&notes, nodes, table);
+            tables::fill(notes, nodes, table);
             Reading::Accepted { length, nodes }
         }
         Reading::Refused { refusal } => Reading::Refused { refusal },
@@ -66,11 +72,12 @@ pub fn read_long(form: u32, source: &[u8], canonical: &mut [u8], table: &mut [u3
     requires { ⌜ Formed form (length (now source)) maxSource ⌝ }
     ensures { λ r. ⌜ outcome r (now (canonical .exit)) (now (table .exit)) ≡ readTree (decode form (now (source .entry))) (placeOf form (now (source .entry))) (now (canonical .entry)) (now (table .entry)) ⌝ }
 {
+    // One array for both ways: the compiler would put two into one frame.
+    let mut notes: [usize; limits::NODES] = [0; limits::NODES];
     if texts::literal(form) {
-        return read_literal(form, source, canonical, table);
+        return read_literal(form, source, canonical, table, &mut notes);
     }
     let mut scratch: [u8; limits::LONG_SCRATCH] = [0; limits::LONG_SCRATCH];
-    let mut notes: [usize; limits::NODES] = [0; limits::NODES];
     read_in(form, source, canonical, table, &mut scratch, &mut notes)
 }
 

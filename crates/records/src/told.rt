@@ -75,7 +75,7 @@ pub fn touched_by(r: Reading, old: usize) -> usize
     }
 }
 
-// The next record of a table, judged beside the sheet's octets.
+// The next record of a table: its note is kept, and after the last the octets are asked.
 pub fn step(
     canonical: &[u8],
     len: usize,

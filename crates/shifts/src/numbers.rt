@@ -1,4 +1,4 @@
-// The entries over a table of numbers: sheet and table are gone through side by side, and the node is looked at by the notes.
+// The entries over a table of numbers: the table is judged beside the sheet, and the node is looked at by the notes.
 ghost use mathlib.Core.Path.{_≡_};
 ghost use lib.ListN.{length as size};
 ghost use Rattle.typed.specs.Cases.{valued, lined, summed};

@@ -4,3 +4,5 @@ pub mod Filling
 pub mod Held
 pub mod Counts
 pub mod Alike
+pub mod Claiming
+pub mod Granting

@@ -33,19 +33,19 @@ pub hinted-told : (a b x y w : ℕ) (r : coded.Row) → Wide (y - x) w → RowIs
 hinted-told a b x y w r d e = e ∙ ap (λ (n : ℕ). rowNumbers (hintedRow (x - n - 2) x y a b)) (d .is)
 
 -- a choice between two statements
-pick-left : (P Q : Type 0) (t : Bool) → t ≡ true → pick t P Q → P
+pub pick-left : (P Q : Type 0) (t : Bool) → t ≡ true → pick t P Q → P
 pick-left P Q true e p = p
 pick-left P Q false e q = untrue e
 
-pick-right : (P Q : Type 0) (t : Bool) → t ≡ false → pick t P Q → Q
+pub pick-right : (P Q : Type 0) (t : Bool) → t ≡ false → pick t P Q → Q
 pick-right P Q true e p = differ refl e
 pick-right P Q false e q = q
 
-left-pick : (P Q : Type 0) (t : Bool) → t ≡ true → P → pick t P Q
+pub left-pick : (P Q : Type 0) (t : Bool) → t ≡ true → P → pick t P Q
 left-pick P Q true e p = p
 left-pick P Q false e p = untrue e
 
-right-pick : (P Q : Type 0) (t : Bool) → t ≡ false → Q → pick t P Q
+pub right-pick : (P Q : Type 0) (t : Bool) → t ≡ false → Q → pick t P Q
 right-pick P Q true e q = differ refl e
 right-pick P Q false e q = q
 
@@ -100,17 +100,17 @@ module _ (notes : List ℕ) (k : ℕ) (g : Readable notes k) where
 
 -- ---- rows that their notes tell
 
-record Telling (r : Row) : Type 0 where
-  safe : Sound (r .dataStart) (r .dataEnd) (thirdOf r)
-  told : rowBy (r .dataStart) (r .dataEnd) (thirdOf r) ≡ r
-  small : (r .dataStart < shift) × (r .dataEnd < shift) × (thirdOf r < shift)
+pub record Telling (r : Row) : Type 0 where
+  pub safe : Sound (r .dataStart) (r .dataEnd) (thirdOf r)
+  pub told : rowBy (r .dataStart) (r .dataEnd) (thirdOf r) ≡ r
+  pub small : (r .dataStart < shift) × (r .dataEnd < shift) × (thirdOf r < shift)
 
 -- a place before so many digits and k more
 back : (p n n′ k s : ℕ) → n′ ≡ n → s ≡ p + n + k → (s - n′ - k ≡ p) × (n′ + k ≤ s)
 back p n n′ k s e f = (omega arith, omega arith)
 
 module _ (at : ℕ) where
-  plain-tells : (d : List ℕ) → at + length (verbatim d) ≤ maxSource → Telling (plainRow at (bodyStart at d) (bodyEnd at d))
+  pub plain-tells : (d : List ℕ) → at + length (verbatim d) ≤ maxSource → Telling (plainRow at (bodyStart at d) (bodyEnd at d))
   unfolding Sound rowBy
   plain-tells d h =
       let z : bodyEnd at d - bodyStart at d ≡ length d = omega (arith, verbatim-length d) in
@@ -135,7 +135,7 @@ module _ (at : ℕ) where
     abbrev de : ℕ
     de = bodyEnd (he + 1) d
 
-    hint-tells : de ≤ maxSource → Telling (hintedRow at hs he ds de)
+    pub hint-tells : de ≤ maxSource → Telling (hintedRow at hs he ds de)
     unfolding Sound rowBy
     hint-tells l =
         let z : he - hs ≡ length h = omega (arith, verbatim-length h) in
@@ -231,7 +231,7 @@ module _ (notes : List ℕ) (n : ℕ) (t : Tree) (g : Holds notes n t) where
   holds-long = omega (arith, length-take n notes, ap length (g .kept), noted-length t, g .counted)
 
   module _ (k : ℕ) (h : k < n) where
-    tells : Telling (rowOf t k)
+    pub tells : Telling (rowOf t k)
     tells = each-at (each-tree t 0 (omega (arith, g .short))) k (plainRow 0 0 0) (omega (arith, rows-length t 0, g .counted))
 
     pub holds-note : getD notes k 0 ≡ noteOf (rowOf t k) (parentOf t k)

@@ -1,9 +1,12 @@
 // The table of a sheet, told by its notes.
+mod claims; // claims.rt: the note that a record claims
 pub mod rows; // rows.rt: a node's record
 mod told; // told.rt: the record that a note tells
 
 ghost use lib.ListN.{length};
 ghost use Rattle.tables.specs.Told.{Fillable, Filled};
+pub use claims::other_claim;
+pub use claims::plain_claim;
 pub use rows::Row;
 use rows::put_row;
 pub use told::over;

@@ -6,7 +6,6 @@ ghost use lib.Seq.{sets};
 ghost use Rattle.base.specs.Choice.{equal};
 ghost use Rattle.model.specs.Limits.{maxSource};
 ghost use Rattle.model.specs.Table.{width, plainRow, hintedRow, listRow};
-ghost use Rattle.walk.specs.Events.{recordAt};
 ghost use Rattle.tables.specs.Rows.{recordList, RowIs, RowAt};
 
 // A record: 0 string, 1 string with hint, 2 list; offsets are into the canonical octets.
@@ -144,37 +143,4 @@ pub fn put_row(table: &mut [u32], node: usize, row: Row, up: u32)
     table[at + 6] = row.data_start;
     table[at + 7] = row.data_end;
     table[at + 8] = up;
-}
-
-// Whether a record is this one, in this list.
-pub fn row_is(table: &[u32], node: usize, row: Row, up: u32) -> bool
-    requires { ⌜ (node ≤ maxSource) × (width * (node + 1) ≤ length (now table)) ⌝ }
-    ensures { λ r. ⌜ r ≡ equal (recordAt (now (table .entry)) node) (recordList row up) ⌝ }
-{
-    let at = node * limits::WIDTH;
-    if table[at] != row.kind {
-        return false;
-    }
-    if table[at + 1] != row.start {
-        return false;
-    }
-    if table[at + 2] != row.end {
-        return false;
-    }
-    if table[at + 3] != row.nodes {
-        return false;
-    }
-    if table[at + 4] != row.hint_start {
-        return false;
-    }
-    if table[at + 5] != row.hint_end {
-        return false;
-    }
-    if table[at + 6] != row.data_start {
-        return false;
-    }
-    if table[at + 7] != row.data_end {
-        return false;
-    }
-    table[at + 8] == up
 }

@@ -20,7 +20,7 @@ fn plain_by(start: usize, end: usize) -> Row
 }
 
 // A list's.
-fn list_by(start: usize, end: usize, nodes: usize) -> Row
+pub fn list_by(start: usize, end: usize, nodes: usize) -> Row
     requires { ⌜ ListNote start end nodes ⌝ }
     ensures { λ r. ⌜ RowIs r (listBy start end nodes) ⌝ }
 {
@@ -28,7 +28,7 @@ fn list_by(start: usize, end: usize, nodes: usize) -> Row
 }
 
 // A string's with a hint.
-fn hinted_by(start: usize, end: usize, from: usize, to: usize) -> Row
+pub fn hinted_by(start: usize, end: usize, from: usize, to: usize) -> Row
     requires { ⌜ HintNote start end from to ⌝ }
     ensures { λ r. ⌜ RowIs r (hintedBy start end from to) ⌝ }
 {
@@ -36,7 +36,7 @@ fn hinted_by(start: usize, end: usize, from: usize, to: usize) -> Row
 }
 
 // Where the hint ends of which the string stands from start to end.
-fn hint_end(start: usize, end: usize) -> usize
+pub fn hint_end(start: usize, end: usize) -> usize
     requires { ⌜ TailNote start end ⌝ }
     ensures { λ r. ⌜ r ≡ hintEndBy start end ⌝ }
 {

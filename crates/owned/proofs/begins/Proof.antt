@@ -1,5 +1,5 @@
-use Rattle.owned.proofs.Meeting.{begins-deep, begins-long, begins-early, begins-many, begins-other, begins-so}
 use native.Mathlib.Omega.{arith}
+use Rattle.owned.proofs.Meeting.{begins-apart, begins-deep, begins-elsewhere, begins-so}
 use borrow.Author.Needs.{needs}
 use Rattle.owned.proofs.begins.Statement.{statement}
 use Rattle.owned.proofs.begins.Tie as tie
@@ -8,38 +8,13 @@ returns : tie.Need-returns
 returns c = search (begins-deep, arith)
 
 returns-2 : tie.Need-returns-2
-returns-2 c = search (begins-long, arith)
+returns-2 c = search (begins-elsewhere, arith)
 
 returns-3 : tie.Need-returns-3
-returns-3 c = search (begins-early, arith)
+returns-3 c = search (begins-apart, arith)
 
 returns-4 : tie.Need-returns-4
-returns-4 c = search (begins-many, arith)
-
-returns-5 : tie.Need-returns-5
-returns-5 c = search (begins-so, arith)
-
-returns-6 : tie.Need-returns-6
-returns-6 c = search (begins-other, arith)
+returns-4 c = search (begins-so, arith)
 
 pub begins-spec : {M : Type 1} → statement M
-begins-spec =
-    tie.close
-    (tie.spec
-    returns
-    (λ c. search needs)
-    (λ c. search needs)
-    returns-2
-    returns-3
-    returns-4
-    (λ c κs. search needs)
-    (λ c. search needs)
-    (λ c κs. search needs)
-    (λ c. search needs)
-    (λ c. search needs)
-    (λ c κs. search needs)
-    (λ c. search needs)
-    (λ c κs. search needs)
-    (λ c. search needs)
-    returns-5
-    returns-6)
+begins-spec = tie.close (tie.spec returns returns-2 (λ c. search needs) returns-3 returns-4)

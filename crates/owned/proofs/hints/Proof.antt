@@ -1,5 +1,5 @@
-use Rattle.owned.proofs.Meeting.{hints-other, hints-unhinted, hints-inside, hints-unfollowed, hints-row, hints-small, hints-apart, hints-so}
 use native.Mathlib.Omega.{arith}
+use Rattle.owned.proofs.Meeting.{hints-apart, hints-fit, hints-inside, hints-other, hints-so, hints-unfollowed, hints-unhinted}
 use borrow.Author.Needs.{needs}
 use Rattle.owned.proofs.hints.Statement.{statement}
 use Rattle.owned.proofs.hints.Tie as tie
@@ -16,23 +16,17 @@ after-hint-requires c κs = search (hints-inside, arith)
 returns-3 : tie.Need-returns-3
 returns-3 c = search (hints-unfollowed, arith)
 
-hinted-row-requires : tie.Need-hinted-row-requires
-hinted-row-requires c κs =
-    let after = c .before .before .before .before in
-    let string = after .before .before .before in
-    let entry = string .before .before .before .before .before in
-    hints-row _ _ _ _ (entry .pre .0 .inside) (entry .pre .1) (string .before .if1 .left) _ (string .string-at .ensures) (after .before .before .if2 .left) _ (after .before .end-of .ensures) _ (after .after-hint .ensures) (c .before .before .before .if3 .left) _ _ _ (c .before .before .start-of .ensures) (c .before .start-of2 .ensures) (c .end-of2 .ensures) _ (entry .pre .0)
+mul-if4 : tie.Need-mul-if4
+mul-if4 c = omega (arith, hints-fit _ _ _ (c .before .before .before .before .before .before .before .before .before .pre .0 .inside) (c .before .before .before .before .before .before .before .before .before .pre .1) (c .before .before .before .before .before .before .if1 .left) _ (c .before .before .before .before .before .string-at .ensures) (c .before .before .before .before .if2 .left) _ (c .before .before .before .end-of .ensures) _ (c .before .before .after-hint .ensures) (c .before .if3 .left) _ (c .start-of .ensures) (c .before .before .before .before .before .before .before .before .before .pre .0))
 
-keep-requires : tie.Need-keep-requires
-keep-requires c κs = search (hints-small, arith)
+add-if4 : tie.Need-add-if4
+add-if4 c = omega (arith, hints-fit _ _ _ (c .before .before .before .before .before .before .before .before .before .pre .0 .inside) (c .before .before .before .before .before .before .before .before .before .pre .1) (c .before .before .before .before .before .before .if1 .left) _ (c .before .before .before .before .before .string-at .ensures) (c .before .before .before .before .if2 .left) _ (c .before .before .before .end-of .ensures) _ (c .before .before .after-hint .ensures) (c .before .if3 .left) _ (c .start-of .ensures) (c .before .before .before .before .before .before .before .before .before .pre .0))
+
+add-if4-2 : tie.Need-add-if4-2
+add-if4-2 c = omega (arith, hints-fit _ _ _ (c .before .before .before .before .before .before .before .before .before .pre .0 .inside) (c .before .before .before .before .before .before .before .before .before .pre .1) (c .before .before .before .before .before .before .if1 .left) _ (c .before .before .before .before .before .string-at .ensures) (c .before .before .before .before .if2 .left) _ (c .before .before .before .end-of .ensures) _ (c .before .before .after-hint .ensures) (c .before .if3 .left) _ (c .start-of .ensures) (c .before .before .before .before .before .before .before .before .before .pre .0))
 
 returns-4 : tie.Need-returns-4
-returns-4 c =
-    let ends = c .before .before .before .before .before .before .before in
-    let after = ends .before .before .before .before in
-    let string = after .before .before .before in
-    let entry = string .before .before .before .before .before in
-    hints-so _ _ _ _ (entry .pre .0 .inside) (entry .pre .1) (string .before .if1 .left) _ (string .string-at .ensures) (after .before .before .if2 .left) _ (after .before .end-of .ensures) _ (after .after-hint .ensures) (ends .before .before .before .if3 .left) _ _ _ (ends .before .before .start-of .ensures) (ends .before .start-of2 .ensures) (ends .end-of2 .ensures) _ _ _ _ _ (c .before .before .before .before .before .before .hinted-row .ensures) _ (c .before .before .before .before .before .same-row .ensures) (c .before .before .before .before .if4 .taken) (c .before .before .keep .ensures)
+returns-4 c = search (hints-so, arith)
 
 returns-5 : tie.Need-returns-5
 returns-5 c = search (hints-apart, arith)
@@ -50,12 +44,10 @@ hints-spec =
     after-hint-requires
     returns-3
     (λ c κs. search needs)
-    (λ c κs. search needs)
-    (λ c κs. search needs)
-    hinted-row-requires
+    mul-if4
+    add-if4
     (λ c. search needs)
+    add-if4-2
     (λ c κs. search needs)
-    keep-requires
-    (λ c. search needs)
     returns-4
     returns-5)

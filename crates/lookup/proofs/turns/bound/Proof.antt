@@ -1,6 +1,5 @@
 use Rattle.lookup.proofs.Pacing.{bound-beyond, bound-long, bound-empty, bound-many, bound-unlent, bound-so}
 use native.Mathlib.Omega.{arith}
-use borrow.Author.Needs.{needs}
 use Rattle.lookup.proofs.turns.bound.Statement.{statement}
 use Rattle.lookup.proofs.turns.bound.Tie as tie
 
@@ -24,4 +23,4 @@ returns-6 c = search (bound-so, arith)
 
 pub bound-spec : {M : Type 1} → statement M
 bound-spec =
-    tie.close (tie.spec returns returns-2 returns-3 returns-4 returns-5 (λ c. search needs) returns-6)
+    tie.close (tie.spec returns returns-2 returns-3 returns-4 returns-5 returns-6)

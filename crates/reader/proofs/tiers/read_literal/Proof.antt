@@ -1,12 +1,8 @@
 use Rattle.reader.proofs.Storing.{fill-room, fill-accepted, fill-refused}
-use Rattle.reader.specs.Stored.{most}
 use native.Mathlib.Omega.{arith}
 use borrow.Author.Needs.{needs}
 use Rattle.reader.proofs.tiers.read_literal.Statement.{statement}
 use Rattle.reader.proofs.tiers.read_literal.Tie as tie
-
-put-literal-requires : tie.Need-put-literal-requires
-put-literal-requires c κs = (search needs, most (search needs))
 
 fill-requires : tie.Need-fill-requires
 fill-requires c κs = search (fill-room, arith)
@@ -21,14 +17,14 @@ pub read-literal-spec : {M : Type 1} → statement M
 read-literal-spec =
     tie.close
     (tie.spec
-    (λ c. search needs)
-    put-literal-requires
-    (λ c. search needs)
+    (λ c κs. search needs)
     (λ c. search needs)
     fill-requires
     (λ c. search needs)
     (λ c. search needs)
     (λ c. search needs)
+    (λ c. search needs)
     returns
+    (λ c. search needs)
     (λ c. search needs)
     returns-2)
