@@ -1,4 +1,6 @@
 // Advanced text into canonical octets in one pass, in lent scratch of which only the front is promised.
+#![tactic(auto)]
+
 mod braces; // braces.rt: a tree in braces
 
 ghost use Rattle.std.specs.Prelude.{◌≡◌, true, ◌+◌, ◌≤◌, ◌<◌, length, drop, get_or};

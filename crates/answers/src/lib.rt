@@ -1,4 +1,6 @@
 // What the entries answer. specs/ gives number and values for each case (S 14.2).
+#![tactic(auto)]
+
 ghost use Rattle.answers.specs.Cases.{RefusesAt, Refuses, RefusesWriting, RefusesComparing};
 
 // Why something was refused: the number of the row (S 7.1), and the place in the text (S 7.3); 0 where none is told.

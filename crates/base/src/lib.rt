@@ -1,2 +1,4 @@
 // Lemmas that every proof uses; no code.
+#![tactic(auto)]
+
 pub fn nothing() {}

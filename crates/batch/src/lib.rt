@@ -1,4 +1,6 @@
 // Sheets written back to back (S 12.3): where the first of them ends.
+#![tactic(auto)]
+
 ghost use Rattle.std.specs.Prelude.{◌≡◌};
 ghost use Rattle.batch.specs.Runs.{first_sheet};
 

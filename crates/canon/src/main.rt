@@ -1,5 +1,7 @@
 // Advanced text from standard input, its canonical octets to standard output; or `refused N` and a line feed. Where a read of
 // standard input fails, `read failed` and a line feed.
+#![tactic(auto)]
+
 mod input;
 
 use answers::Reading;

@@ -1,4 +1,6 @@
 // Canonical text: the lexeme at a place.
+#![tactic(auto)]
+
 ghost use Rattle.std.specs.Prelude.{◌≤◌, ◌<◌, length};
 ghost use Rattle.canonical.specs.Lexed.{Follows, Spans, Closes, ItemAt};
 

@@ -1,4 +1,6 @@
 // Lengths in decimal, read and written.
+#![tactic(auto)]
+
 mod digits; // digits.rt: a length written
 
 ghost use Rattle.std.specs.Prelude.{◌≡◌, true, ◌+◌, ◌≤◌, ◌<◌, min, length, drop, get_or};

@@ -1,6 +1,8 @@
 // A sheet changed in place: a node gives way to the tree of a text, a text's tree comes into a list, or a node is removed. Text, sheet,
 // table, node and room are judged before anything is written, so that a refusal changes nothing. The core goes by the sheet's notes, and
 // leaves those of the new sheet: the table, as numbers or as records, is its caller's.
+#![tactic(auto)]
+
 mod numbers; // numbers.rt: the table as numbers
 mod tiers; // tiers.rt: local space for a text
 

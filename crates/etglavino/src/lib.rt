@@ -1,6 +1,8 @@
 // The library's entries: nothing else is a user's business. Each answers and ends whatever it is given, and each promise is an
 // equation with one definition: it settles the answer and every lent octet and number afterwards. What is passed on stands with its
 // promise in the crate that it comes from, the steps of an addition as methods of its state.
+#![tactic(auto)]
+
 mod piecing; // piecing.rt: texts in pieces
 
 ghost use Rattle.std.specs.Prelude.{◌≡◌};

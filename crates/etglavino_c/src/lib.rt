@@ -1,5 +1,7 @@
 // The C interface: the public entries with the number of S 7.1 as the return value. What is asked for goes out through pointers and is
 // 0 in a refusal, but for the place with 3 and the node of a week with 12. include/etglavino.h tells a C program how to call them.
+#![tactic(auto)]
+
 mod batching; // batching.rt: sheets written back to back
 mod corrections; // corrections.rt: elements put into lists, and nodes removed
 mod extract; // extract.rt: extracts for foremen

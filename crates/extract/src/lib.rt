@@ -1,5 +1,7 @@
 // The extract of a sheet: every list whose first element is the unhinted `private` becomes `()`. What is shown is put together in local
 // space by the sheet's notes, and from there read in form 1, so that what is lent for it is written once and never holds a hidden octet.
+#![tactic(auto)]
+
 mod cut; // cut.rt: the octets that are shown
 mod tiers; // tiers.rt: local space, sized by the sheet
 

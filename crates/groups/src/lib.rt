@@ -1,4 +1,6 @@
 // Lengths in groups of seven bits; the sheet of the entry at a place, and the octets of one that is to be added.
+#![tactic(auto)]
+
 mod lengths; // lengths.rt: lengths, read and told
 
 ghost use Rattle.std.specs.Prelude.{◌≡◌, ◌≤◌, ◌<◌, length, get_or, take};

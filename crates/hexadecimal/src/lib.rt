@@ -1,4 +1,6 @@
 // Hexadecimal strings: a pair of digits at a place, and the value of a digit.
+#![tactic(auto)]
+
 ghost use Rattle.std.specs.Prelude.{◌≤◌, ◌<◌, length};
 ghost use Rattle.model.specs.Octets.{hexval};
 ghost use Rattle.octets.specs.Classes.{Classed};

@@ -1,4 +1,6 @@
 // Hours in whole quarters: the count that a double is, the double that a count is, and the total of a line.
+#![tactic(auto)]
+
 ghost use Rattle.std.specs.Prelude.{◌≡◌, ◌*◌, ◌^◌, ◌<◌};
 ghost use Rattle.typed.specs.Quarters.{count_of, counted, quarters_of, quarter_bits, hours_of, total_by};
 ghost use Rattle.typed.specs.Cases.{totalled};

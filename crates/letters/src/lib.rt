@@ -1,5 +1,7 @@
 // Base-64 letters: three octets give four (RFC 4648's alphabet).
 // A constant is rebuilt at each look-up, so an entry builds the list once, by `alphabet`, and lends it down.
+#![tactic(auto)]
+
 ghost use Rattle.std.specs.Prelude.{◌≡◌, ◌<◌, get_or};
 ghost use Rattle.model.specs.Write.{letter_of};
 ghost use Rattle.letters.specs.Groups.{Alphabet, letters_of};

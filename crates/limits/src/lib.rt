@@ -1,5 +1,7 @@
 // The limits (S 6.1) and the record's width (S 4.3), for the code. `model/specs/Limits` and `model/specs/Table` have the same numbers for
 // the promises; where the two differ, proofs fail.
+#![tactic(auto)]
+
 
 // Octets of a source.
 pub const SOURCE: usize = 32768;

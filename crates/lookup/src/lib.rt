@@ -1,4 +1,6 @@
 // Sheets looked into: whether octets are one, whether a table is its own, what a node shows, and two of them compared.
+#![tactic(auto)]
+
 mod alike; // alike.rt: lexeme by lexeme
 pub mod noted; // noted.rt: a sheet by its notes
 pub mod turns; // turns.rt: a sheet and its records, one record at a time

@@ -1,5 +1,5 @@
 -- Whitespace, and what stands between hexadecimal and base-64 marks: the decoder reads it as the rules say.
-use Prim.Native.Nat.{ℕ, ◌%◌, ◌<◌}
+use Prim.Native.Nat.{ℕ, ◌*◌, ◌+◌, ◌%◌, ◌<◌}
 use native.Mathlib.Omega.{arith}
 use mathlib.Core.Path.{◌≡◌, refl, sym, ap, ap₂, ◌∙◌}
 use mathlib.Core.Bool.{true, false}
@@ -70,7 +70,7 @@ hex-sound (a ∷ b ∷ s) e =
 pub hex-complete : {l d : List ℕ} → Hex l d → unhex l ≡ some d
 unfolding unhex also
 hex-complete no-hex = refl
-hex-complete (two-hex {a = a} {b = b} t u h) = picked _ _ (lt-ltb (hexval a) 16 t) ∙ picked _ _ (lt-ltb (hexval b) 16 u) ∙ ap (also _) (hex-complete h)
+hex-complete (two-hex {a = a} {b = b} t u h) = picked _ _ (lt-ltb (hexval a) 16 t) ∙ picked _ _ (lt-ltb (hexval b) 16 u) ∙ ap (also ((hexval a * 16 + hexval b) ∷ [])) (hex-complete h)
 
 -- ---- base-64
 

@@ -94,10 +94,10 @@ pub record After (s : List ℕ) (P : List ℕ → Type 0) : Type 0 where
 
 pub strip-hexadecimals : {s l d k : List ℕ} → Hex l d → Upto 35 s l k → After s (λ r. Hexadecimals r d k)
 strip-hexadecimals no-hex u = record { begin = _; whites = last_of u; means = closing-hash }
-strip-hexadecimals (two-hex {a = a} {b = b} {s = l} {d = d} x y h) u =
+strip-hexadecimals {s = s} {k = k} (two-hex {a = a} {b = b} {s = l} {d = d} x y h) u =
     let f : First 35 a _ (b ∷ l) _ = first_of u in
     let g : First 35 b f.rest l _ = first_of f.upto in
-    let i : After g.rest (λ r. Hexadecimals r d _) = strip-hexadecimals h g.upto in
+    let i : After g.rest (λ r. Hexadecimals r d _) = strip-hexadecimals {s = g.rest} h g.upto in
     record { begin = a ∷ f.rest; whites = f.whites; means = hexadecimals x g.whites y i.whites i.means }
 
 pads-equals : {m n : ℕ} {s p k : List ℕ} → Pads n p → Upto m s p k → After s (λ r. Equals n r (m ∷ k))
@@ -110,12 +110,12 @@ pads-equals (a-pad {n = n} {s = p} q) u =
 module _ {ρ : Rules} where
   pub strip-base-64 : {m : ℕ} {s l d k : List ℕ} → Base64 ρ l d → Upto m s l k → After s (λ r. Base64Chars ρ m r d k)
   strip-base-64 no-letter u = record { begin = _; whites = last_of u; means = closing-mark }
-  strip-base-64 (four {a = a} {b = b} {c = c} {e = e} {s = l} {d = d} x y z w h) u =
+  strip-base-64 {m = m} {s = s} {k = k} (four {a = a} {b = b} {c = c} {e = e} {s = l} {d = d} x y z w h) u =
       let f₁ : First _ a _ (b ∷ c ∷ e ∷ l) _ = first_of u in
       let f₂ : First _ b f₁.rest (c ∷ e ∷ l) _ = first_of f₁.upto in
       let f₃ : First _ c f₂.rest (e ∷ l) _ = first_of f₂.upto in
       let f₄ : First _ e f₃.rest l _ = first_of f₃.upto in
-      let i : After f₄.rest (λ r. Base64Chars ρ _ r d _) = strip-base-64 h f₄.upto in
+      let i : After f₄.rest (λ r. Base64Chars ρ _ r d _) = strip-base-64 {s = f₄.rest} h f₄.upto in
       record { begin = a ∷ f₁.rest; whites = f₁.whites; means = base-64-chars (base-64-char x f₂.whites) (base-64-char y f₃.whites) (base-64-char z f₄.whites) (base-64-char w i.whites) i.means }
   strip-base-64 (three {a = a} {b = b} {c = c} {p = p} x y z v q) u =
       let f₁ : First _ a _ (b ∷ c ∷ p) _ = first_of u in

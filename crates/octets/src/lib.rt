@@ -1,6 +1,8 @@
 // What an octet is to the grammar: its class, by one fixed list of 256 numbers (specs/Classes.antt says what each means),
 // and its value as a digit, a base-64 letter or an escape.
 // A constant is rebuilt at each look-up, so that a list is built once for a text, by `classes` or `letters`, and lent down.
+#![tactic(auto)]
+
 ghost use Rattle.std.specs.Prelude.{◌≡◌};
 ghost use Rattle.model.specs.Octets.{hexval, octval, escape, letter};
 ghost use Rattle.octets.specs.Classes.{Class, Classed, Lettered};

@@ -1,5 +1,7 @@
 // Octets gone through beside the notes that records claim: whether each is that of the node that is met. Past a string without a hint the
 // next place is the one that the note claims, once it is known to be right: it is there before the octets are read.
+#![tactic(auto)]
+
 ghost use Rattle.std.specs.Prelude.{◌≡◌, ◌≤◌, ◌<◌, length, get_or, leb, eqb};
 ghost use Rattle.base.specs.Choice.{both};
 ghost use Rattle.model.specs.Limits.{max_source};

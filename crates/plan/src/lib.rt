@@ -1,6 +1,8 @@
 // A change judged, with nothing written: where it takes place, the sizes of the new tree, and whether that tree has room. What comes to
 // stand there is known by its sizes alone, the sheet by its notes, and the table by the number of its records and whether it is the
 // sheet's own.
+#![tactic(auto)]
+
 mod spots; // spots.rt: where a change takes place
 
 ghost use Rattle.std.specs.Prelude.{◌≡◌};

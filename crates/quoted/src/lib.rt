@@ -1,4 +1,6 @@
 // Quoted strings, from after their opening mark: a piece at a place, and runs of octets that stand for themselves.
+#![tactic(auto)]
+
 ghost use Rattle.std.specs.Prelude.{◌-◌, ◌≤◌, length, take, drop};
 ghost use Rattle.model.specs.Grammar.{rules};
 ghost use Rattle.model.specs.Strings.{marked};

@@ -1,5 +1,7 @@
 // Reading: a text of any form into canonical octets and the node table. The text becomes octets and notes in local space first (of
 // long canonical text, which is its own octets, only notes), so that syntax is judged before any limit, and nothing lent is written until nothing can be refused any more.
+#![tactic(auto)]
+
 mod tiers; // tiers.rt: local space for a text
 
 ghost use Rattle.std.specs.Prelude.{◌≡◌, length};

@@ -1,5 +1,7 @@
 // The node table as a lent slice of records. Every entry goes by the notes of a sheet, in local space. The functions that take
 // records are few and thin.
+#![tactic(auto)]
+
 mod asked; // asked.rt: a sheet changed as asked
 mod corrections; // corrections.rt: elements put into lists, and nodes removed
 mod foremen; // foremen.rt: extracts

@@ -1,4 +1,6 @@
 // Whether a tree has room, judged by sizes alone.
+#![tactic(auto)]
+
 ghost use Rattle.std.specs.Prelude.{◌≡◌};
 ghost use Rattle.rooms.specs.Rooms.{room_verdict};
 

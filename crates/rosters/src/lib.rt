@@ -1,5 +1,7 @@
 // A node's value, a shift line and a list of lines, with the table lent as records: the records are compared with the sheet, and the
 // node looked at by its notes. Notes stand in local space, in three sizes by the node count.
+#![tactic(auto)]
+
 ghost use Rattle.std.specs.Prelude.{◌≡◌, length as size};
 ghost use Rattle.typed.specs.Cases.{valued, lined, summed};
 ghost use Rattle.typed.specs.Asked.{valuing, lining, summing};

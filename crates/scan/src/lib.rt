@@ -1,4 +1,6 @@
 // Runs of octets at a place of a source: whitespace, octets by their class, those of a token; and any run copied into lent space.
+#![tactic(auto)]
+
 ghost use Rattle.std.specs.Prelude.{◌+◌, ◌≤◌, length, take, drop};
 ghost use Rattle.octets.specs.Classes.{Classed};
 ghost use Rattle.scan.specs.Runs.{Skipped, Ran, Reach};

@@ -1,4 +1,6 @@
 // A node's value, a shift line and a list of lines, by the notes of a sheet; and the entries over a table of numbers.
+#![tactic(auto)]
+
 mod lines; // lines.rt: lines, and lists of them
 mod numbers; // numbers.rt: the entries over a table of numbers
 mod strings; // strings.rt: a string's value

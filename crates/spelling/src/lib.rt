@@ -1,5 +1,7 @@
 // How form 3 spells a string: as a token where its octets make one, else quoted where all are printable, else in hexadecimal.
 // The spelling goes to the front of scratch, so that octets are copied in blocks.
+#![tactic(auto)]
+
 ghost use Rattle.std.specs.Prelude.{◌≡◌, ◌∷◌, [], ◌+◌, ◌≤◌, ◌<◌, length};
 ghost use Rattle.base.specs.Choice.{among, every};
 ghost use Rattle.model.specs.Write.{quote_all, hex_digit, hex_all, shown};

@@ -1,5 +1,7 @@
 // A sheet rewritten in place, and its table: the octets after a spot make room, the notes move, and what the new sheet leaves of the old
 // one is zeroed.
+#![tactic(auto)]
+
 mod notes; // notes.rt: notes that move
 
 ghost use Rattle.std.specs.Prelude.{◌≡◌, ◌+◌, ◌-◌, length, take, drop};

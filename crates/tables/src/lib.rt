@@ -1,4 +1,6 @@
 // The table of a sheet, told by its notes.
+#![tactic(auto)]
+
 mod claims; // claims.rt: the note that a record claims
 pub mod rows; // rows.rt: a node's record
 mod told; // told.rt: the record that a note tells

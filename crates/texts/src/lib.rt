@@ -1,5 +1,7 @@
 // A text of any form becomes canonical octets in scratch, in one pass, with the sizes of its tree and a note for each node. Whatever
 // takes a text takes it through these, and sees nothing of its form but whether it is its own octets.
+#![tactic(auto)]
+
 ghost use Rattle.std.specs.Prelude.{◌≡◌, length, eqb};
 ghost use Rattle.model.specs.Grammar.{rules};
 ghost use Rattle.model.specs.Answers.{place_of};

@@ -1,4 +1,6 @@
 // Values with a type, and hours: the types that the entries take and answer with. specs/ says what each means.
+#![tactic(auto)]
+
 ghost use Rattle.std.specs.Prelude.{◌≡◌};
 ghost use Rattle.typed.specs.Cases.{valued, unvalued, totalled, untotalled, lined, unlined, summed, unsummed};
 

@@ -1,4 +1,6 @@
 // Values from their octets, and octets from values, by kind.
+#![tactic(auto)]
+
 mod floats; // floats.rt: singles and doubles
 mod integers; // integers.rt: whole numbers
 mod numerals; // numerals.rt: digits to the base 256

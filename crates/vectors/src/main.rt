@@ -1,5 +1,7 @@
 // The library's answers to the cases of the reference program, a line for each. The cases come from standard input, and the
 // file `stdout` is what the reference program expects.
+#![tactic(auto)]
+
 mod calls;
 mod lines;
 mod runs;

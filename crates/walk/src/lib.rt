@@ -1,5 +1,7 @@
 // What the loops over lexemes share: the counts that they keep, and what measuring a text answers.
 // specs/ has the loops as definitions; proofs/ shows that they compute what the model says of the tree.
+#![tactic(auto)]
+
 ghost use Rattle.std.specs.Prelude.{◌≡◌, max};
 ghost use Rattle.model.specs.Count.{shut_by};
 

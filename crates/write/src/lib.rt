@@ -1,5 +1,7 @@
 // Writing: a sheet out in any of the three forms. The length is known before anything is written to the lent output, so that a
 // refusal leaves it as it was.
+#![tactic(auto)]
+
 ghost use Rattle.std.specs.Prelude.{◌≡◌, ◌≤◌};
 ghost use Rattle.model.specs.Answers.{written, writing};
 ghost use Rattle.answers.specs.Cases.{output};
