@@ -14,7 +14,7 @@ use Rattle.model.specs.Tree.{Tree, plain, hinted, list, Forest, nil, cons, digit
 use Rattle.model.proofs.Sizes.{verbatim-length}
 use Rattle.walk.proofs.Tabled.{rowss-length}
 use Rattle.extracts.specs.Extract.{word, hides, extract, extracts}
-use Rattle.extracts.proofs.Hidden.{hidden-list, shown-list}
+use Rattle.extracts.proofs.Hiding.{hidden-list, shown-list}
 use Rattle.extract.specs.Cut.{part, begins, private, cut}
 use Rattle.extract.proofs.Laid.{Laid, laid_none, laid_one, laid-back, laid-forest, list-long, cons-long}
 

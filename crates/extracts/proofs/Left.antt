@@ -6,7 +6,7 @@ use Rattle.base.proofs.Cases.{by_bool, picked, unpicked}
 use Rattle.model.specs.Tree.{Tree, plain, hinted, list, Forest, nil, cons}
 use Rattle.extracts.specs.Extract.{hides, extract, extracts}
 use Rattle.extracts.specs.Left.{Open, plain-open, hinted-open, list_open, Opens, nil-open, cons-open, strings, stringss, visible, visibles}
-use Rattle.extracts.proofs.Hidden.{hidden-list, shown-list, extracts-hides}
+use Rattle.extracts.proofs.Hiding.{hidden-list, shown-list, extracts-hides}
 
 empty-open : Open (list nil)
 unfolding hides
