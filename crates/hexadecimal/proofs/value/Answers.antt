@@ -1,0 +1,5 @@
+use Rattle.hexadecimal.proofs.Digits.{value-digit}
+use Rattle.hexadecimal.proofs.value.Goals as goal
+
+pub returns : goal.returns
+returns c = search value-digit
