@@ -64,9 +64,9 @@ module _ (notes : List ℕ) (k : ℕ) (g : Readable notes k) where
     unfolding Sound
     plain-sound = pick-left (PlainNote a b) _ (eqb x 0) (eq-eqb x 0 z) g.sound
 
-    pub plain_row : (r : coded.Row) → RowIs r (plain_by a b) → RowIs r (row_at notes k)
+    pub plain_row_lem : (r : coded.Row) → RowIs r (plain_by a b) → RowIs r (row_at notes k)
     unfolding row_by
-    plain_row r e = e ∙ ap row_numbers (sym (picked _ _ (eq-eqb x 0 z)))
+    plain_row_lem r e = e ∙ ap row_numbers (sym (picked _ _ (eq-eqb x 0 z)))
 
   module _ (n : x ≡ 0 → ⊥) where
     marked : pick (ltb x list_mark) (HintedNote a b x) (ListNote a b (x - list_mark))

@@ -1,0 +1,10 @@
+use Prim.Native.Nat.{◌-◌}
+use Rattle.blocks.proofs.Copies.{Blocked, blocked-none, blocked-on, blocked-end, copied-plain}
+use native.Mathlib.Omega.{arith}
+use Rattle.blocks.proofs.copy.Given as goal
+
+abbrev pub invariant-loop-k : goal.invariant-loop-k
+invariant-loop-k l = Blocked l.src l.from l.len l.initial.out l.pos l.out l.k
+
+abbrev pub decreases-loop-k : goal.decreases-loop-k
+decreases-loop-k l = l.len - l.k

@@ -1,0 +1,11 @@
+use Rattle.moves.specs.Moved.{Lowering}
+use Prim.Native.Nat.{◌-◌}
+use native.Mathlib.Omega.{arith}
+use Rattle.moves.proofs.Cells.{down-start, down-one, down-long, down-end}
+use Rattle.moves.proofs.lower.Given as goal
+
+abbrev pub invariant-loop-j : goal.invariant-loop-j
+invariant-loop-j l = Lowering l.initial.buf l.from l.to l.delta l.buf l.j
+
+abbrev pub decreases-loop-j : goal.decreases-loop-j
+decreases-loop-j l = l.to - l.j

@@ -1,0 +1,12 @@
+use Prim.Native.Nat.{◌-◌}
+use lib.ListN.{length}
+use Rattle.sheets.proofs.Packing.{further}
+use Rattle.sheets.proofs.Beginnings.{Far, far-start, far-end, far-colon, far-low, far-high, far-on}
+use native.Mathlib.Omega.{arith}
+use Rattle.sheets.proofs.begins.digits_on.Given as goal
+
+abbrev pub invariant-loop-i : goal.invariant-loop-i
+invariant-loop-i l = Far l.src l.at l.i
+
+abbrev pub decreases-loop-i : goal.decreases-loop-i
+decreases-loop-i l = length l.src - l.i

@@ -1,0 +1,10 @@
+use Prim.Native.Nat.{◌-◌}
+use Rattle.tables.proofs.Filling.{Filling, fill_start, fill-readable, fill_on, fill-long, fill_end}
+use native.Mathlib.Omega.{arith}
+use Rattle.tables.proofs.fill.Given as goal
+
+abbrev pub invariant-loop-k : goal.invariant-loop-k
+invariant-loop-k l = Filling l.notes l.count l.initial.table l.table l.k
+
+abbrev pub decreases-loop-k : goal.decreases-loop-k
+decreases-loop-k l = l.count - l.k
