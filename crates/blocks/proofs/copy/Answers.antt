@@ -13,4 +13,4 @@ pub loop-k-preserved : goal.loop-k-preserved
 loop-k-preserved c = search (blocked-on, arith)
 
 pub returns : goal.returns
-returns c = blocked-end _ _ _ _ _ _ _ c.loop-k.invariant (omega arith) (omega arith)
+returns c = blocked-end _ _ _ _ _ _ _ c.loop-k.invariant (omega arith) (omega arith) (omega arith)

@@ -1,0 +1,47 @@
+use Prim.Native.Nat.{◌-◌}
+use lib.ListN.{length}
+use Rattle.model.specs.Grammar.{rules}
+use Rattle.model.specs.Strings.{marked}
+use Rattle.marks.proofs.Taking.{Taking, taking-none}
+use Rattle.marks.proofs.Digits.{hex-space, hex-from, hex-fits, hex-inside, hex-after, hex-room, hex-mark, hex-less, hex-on, hex-end, hex-none}
+use native.Mathlib.Omega.{arith}
+use Rattle.marks.proofs.hex.Goals as goal
+
+pub loop-count-init : goal.loop-count-init
+loop-count-init c = search taking-none
+
+pub pairs-j-requires-clause-spacious : goal.pairs-j-requires-clause-spacious
+pairs-j-requires-clause-spacious c = search hex-space
+
+pub overflow_sub-o : goal.overflow_sub-o
+overflow_sub-o c = search (hex-from, arith)
+
+pub overflow_add-o : goal.overflow_add-o
+overflow_add-o c = search (hex-fits, arith)
+
+pub overflow_sub-count : goal.overflow_sub-count
+overflow_sub-count c = search (hex-after, arith)
+
+pub returns-then-src-j-eq35 : goal.returns-then-src-j-eq35
+returns-then-src-j-eq35 c = search (hex-mark, arith)
+
+pub pair_at-requires-clause-at_in_bounds : goal.pair_at-requires-clause-at_in_bounds
+pair_at-requires-clause-at_in_bounds c = search hex-inside
+
+pub bounds-out-o : goal.bounds-out-o
+bounds-out-o c = search (hex-room, arith)
+
+pub loop-count-smaller : goal.loop-count-smaller
+loop-count-smaller c = search (hex-less, arith)
+
+pub loop-count-preserved : goal.loop-count-preserved
+loop-count-preserved c = search (hex-on, arith)
+
+pub overflow_sub-count-in-Hash : goal.overflow_sub-count-in-Hash
+overflow_sub-count-in-Hash c = search (hex-after, arith)
+
+pub returns-in-Hash : goal.returns-in-Hash
+returns-in-Hash c = search hex-end
+
+pub returns-in-NoPair : goal.returns-in-NoPair
+returns-in-NoPair c = search hex-none

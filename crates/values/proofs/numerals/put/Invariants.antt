@@ -1,0 +1,9 @@
+use native.Mathlib.Omega.{arith}
+use Rattle.values.proofs.Putting.{Putting, putting-starts, put-in, putting-goes, putting-ends}
+use Rattle.values.proofs.numerals.put.Given as goal
+
+abbrev pub invariant-loop-i : goal.invariant-loop-i
+invariant-loop-i l = Putting l.initial.out l.k l.n l.turn l.out l.i l.m
+
+abbrev pub decreases-loop-i : goal.decreases-loop-i
+decreases-loop-i l = l.i
