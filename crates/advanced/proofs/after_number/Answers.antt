@@ -1,0 +1,28 @@
+use Rattle.advanced.proofs.Strings.{after-cut, after-few, after-colon, room-spacious, frame_small, frame-room, sized-none, sized-other, sized-some}
+use native.Mathlib.Omega.{arith}
+use borrow.Author.Rules.{rules}
+use Rattle.advanced.proofs.after_number.Goals as goal
+
+pub returns-then-at-src : goal.returns-then-at-src
+returns-then-at-src c = search (after-cut, arith)
+
+pub returns-then-n-src : goal.returns-then-n-src
+returns-then-n-src c = search (after-few, arith)
+
+pub returns-then-src-at-eq58 : goal.returns-then-src-at-eq58
+returns-then-src-at-eq58 c = search (after-colon, arith)
+
+pub decode-next-requires-clause-at_in_bounds : goal.decode-next-requires-clause-at_in_bounds
+decode-next-requires-clause-at_in_bounds c = (search rules, search (room-spacious, arith))
+
+pub returns-then-next-eq0 : goal.returns-then-next-eq0
+returns-then-next-eq0 c = search (sized-none, arith)
+
+pub returns-then-m-n : goal.returns-then-m-n
+returns-then-m-n c = search (sized-other, arith)
+
+pub frame-requires : goal.frame-requires
+frame-requires c = (search (frame_small, arith), frame-room _ _ _ _ _ _ _ (omega arith) c.requires.room c.decode-next.ensures (omega arith))
+
+pub returns : goal.returns
+returns c = search (sized-some, arith)
