@@ -9,7 +9,7 @@ ghost use Rattle.advanced.specs.Braced.{Holds};
 use walk::Extent;
 
 // What stands in braces: a tree, with the place after them, its octets, its nodes and its depth; or none.
-#[derive(Drop)]
+#[derive(Clone, Copy)]
 pub enum Inside {
     Held {
         next: usize,

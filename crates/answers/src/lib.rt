@@ -4,35 +4,35 @@
 ghost use Rattle.answers.specs.Cases.{RefusesAt, Refuses, RefusesWriting, RefusesComparing};
 
 // Why something was refused: the number of the row (S 7.1), and the place in the text (S 7.3); 0 where none is told.
-#[derive(Drop)]
+#[derive(Clone, Copy)]
 pub struct Refusal {
     pub number: u32,
     pub place: usize,
 }
 
 // The answer of reading, and of replacing: the canonical length and the node count.
-#[derive(Drop)]
+#[derive(Clone, Copy)]
 pub enum Reading {
     Accepted { length: usize, nodes: usize },
     Refused { refusal: Refusal },
 }
 
 // The answer of writing: how many octets were written.
-#[derive(Drop)]
+#[derive(Clone, Copy)]
 pub enum Writing {
     Accepted { length: usize },
     Refused { refusal: Refusal },
 }
 
 // The answer of comparing: whether two sheets are the same.
-#[derive(Drop)]
+#[derive(Clone, Copy)]
 pub enum Comparing {
     Accepted { same: bool },
     Refused { refusal: Refusal },
 }
 
 // Where a part of a sheet stands, if one is shown.
-#[derive(Drop)]
+#[derive(Clone, Copy)]
 pub enum Place {
     Part { start: usize, end: usize },
     NoPart,

@@ -7,14 +7,14 @@ ghost use Rattle.canonical.specs.Lexed.{Follows, Spans, Closes, ItemAt};
 use decimal::Number;
 
 // Where the octets of a verbatim string stand.
-#[derive(Drop)]
+#[derive(Clone, Copy)]
 pub enum Span {
     Is { start: usize, end: usize },
     Not,
 }
 
 // A lexeme; a string's octets, and its hint's, stand from start to end.
-#[derive(Drop)]
+#[derive(Clone, Copy)]
 pub enum Item {
     Open,
     Close,

@@ -8,7 +8,7 @@ ghost use Rattle.decimal.specs.Places.{Split, Took, Led, ending};
 use crate::width;
 
 // How often a power of ten was taken away from a number, and what is left of it.
-#[derive(Drop)]
+#[derive(Clone, Copy)]
 pub struct Part {
     pub digit: usize,
     pub left: usize,

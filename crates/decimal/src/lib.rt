@@ -15,7 +15,7 @@ pub use digits::put_decimal;
 const LARGE: usize = 1_000_000_000_000_000_000;
 
 // A number and the place after it. A number beyond the source's length is none: nothing in the source is as long.
-#[derive(Drop)]
+#[derive(Clone, Copy)]
 pub enum Number {
     Value { value: usize, next: usize },
     NoNumber,

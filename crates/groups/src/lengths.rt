@@ -6,7 +6,7 @@ ghost use Rattle.groups.specs.Places.{Lengths};
 ghost use Rattle.groups.specs.Octets.{Wide};
 
 // A length and the place after it. A length of more than three groups is none: no sheet is as long.
-#[derive(Drop)]
+#[derive(Clone, Copy)]
 pub enum Length {
     Is { value: usize, next: usize },
     NoLength,

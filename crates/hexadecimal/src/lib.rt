@@ -10,7 +10,7 @@ use octets::hex_of;
 use scan::skip_at;
 
 // An octet, or the closing mark.
-#[derive(Drop)]
+#[derive(Clone, Copy)]
 pub enum Pair {
     Two { octet: u8, next: usize },
     Hash { next: usize },

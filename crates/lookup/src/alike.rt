@@ -14,7 +14,7 @@ use sheets::places::{end_of, start_of, string_at};
 
 // A lexeme: 0 an opening parenthesis, 1 a closing one, 2 a string. A string's octets stand from start to end,
 // those of its hint from `from` to `to`. The next lexeme begins at next.
-#[derive(Drop)]
+#[derive(Clone, Copy)]
 struct Token {
     sort: u8,
     hinted: bool,

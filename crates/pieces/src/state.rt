@@ -8,7 +8,7 @@ ghost use Rattle.pieces.specs.Feeding.{space, state_after, sent_back, Piece, sto
 use crate::numbers;
 use crate::track::Track;
 
-#[derive(Drop)]
+#[derive(Clone, Copy)]
 pub struct State {
     // where the text stands, once it has gone past the sheet
     pub track: Track,
@@ -20,7 +20,7 @@ pub struct State {
 }
 
 // The state after a piece, the number (S 13.2), and the octets taken so far.
-#[derive(Drop)]
+#[derive(Clone, Copy)]
 pub struct Fed {
     pub state: State,
     pub number: u32,

@@ -12,7 +12,7 @@ ghost use Rattle.plan.specs.Planned.{Known, Small, Resizable, resized, Plans};
 use spots::find;
 
 // What is asked: a node gives way to a text's tree, a text's tree becomes element k of a list, or a node is removed.
-#[derive(Drop)]
+#[derive(Clone, Copy)]
 pub enum Asked {
     Replace { node: usize },
     Insert { node: usize, k: usize },
@@ -20,7 +20,7 @@ pub enum Asked {
 }
 
 // The canonical length, the node count and the depth of what comes; all 0 where nothing does.
-#[derive(Drop)]
+#[derive(Clone, Copy)]
 pub struct Sizes {
     pub len: usize,
     pub nodes: usize,
@@ -29,7 +29,7 @@ pub struct Sizes {
 
 // The nodes that give way: the first one's number and how many they are, their octets, and how many lists are around them; or the
 // number of the refusal.
-#[derive(Drop)]
+#[derive(Clone, Copy)]
 pub enum Found {
     Spot {
         first: usize,
@@ -44,7 +44,7 @@ pub enum Found {
 }
 
 // The first node that gives way, the octets that do, and the new length and node count; or the number of the refusal.
-#[derive(Drop)]
+#[derive(Clone, Copy)]
 pub enum Plan {
     Fits {
         first: usize,

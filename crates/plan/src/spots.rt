@@ -9,7 +9,7 @@ use sheets::notes::LIST;
 use sheets::places::SHIFT;
 
 // A node reached before the list ends, or none.
-#[derive(Drop)]
+#[derive(Clone, Copy)]
 pub enum Reached {
     At { node: usize },
     Past,

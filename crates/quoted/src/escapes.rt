@@ -8,7 +8,7 @@ ghost use Rattle.quoted.specs.Pieces.{Escapes};
 use octets::{escape_of, hex_of, octal_of};
 
 // A piece of a quoted string: an octet, nothing, or the closing mark.
-#[derive(Drop)]
+#[derive(Clone, Copy)]
 pub enum Piece {
     One { octet: u8, next: usize },
     Gone { next: usize },

@@ -13,7 +13,7 @@ use octets::letter_of;
 use scan::skip_at;
 
 // A letter, a pad or the closing mark.
-#[derive(Drop)]
+#[derive(Clone, Copy)]
 pub enum Letter {
     Char { octet: u8, next: usize },
     Pad { next: usize },
@@ -22,7 +22,7 @@ pub enum Letter {
 }
 
 // The values of four letters; or, before the closing mark, the values of the letters of `len` octets.
-#[derive(Drop)]
+#[derive(Clone, Copy)]
 pub enum Group {
     Four {
         a: u8,

@@ -28,7 +28,7 @@ pub use piecing::pieces_end;
 
 // A node's record: its nine numbers, in the order of S 4.1.
 #[repr(C)]
-#[derive(Drop)]
+#[derive(Clone, Copy)]
 pub struct Record {
     pub kind: u32,
     pub start: u32,

@@ -6,7 +6,7 @@ use super::strings::{Amount, amount_at};
 use typed::{Count, Line};
 
 // The hours of a list of three `f64` strings, if it is one.
-#[derive(Drop)]
+#[derive(Clone, Copy)]
 pub enum Found {
     Hours(Line),
     NoHours,
@@ -51,7 +51,7 @@ fn count_at(canonical: &[u8], notes: &[usize], nodes: usize, node: usize) -> Cou
 }
 
 // Lines added up, or the first node that is none.
-#[derive(Drop)]
+#[derive(Clone, Copy)]
 pub enum Added {
     Lines { count: usize, quarters: u32 },
     Bad { node: usize },

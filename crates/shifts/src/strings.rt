@@ -43,7 +43,7 @@ pub fn typed_at(canonical: &[u8], notes: &[usize], nodes: usize, node: usize) ->
 }
 
 // The double of an `f64` string, if it is one.
-#[derive(Drop)]
+#[derive(Clone, Copy)]
 pub enum Amount {
     Of(f64),
     NoAmount,

@@ -15,7 +15,7 @@ const THIRD: usize = SHIFT * SHIFT;
 const TOP: usize = SHIFT * SHIFT * SHIFT;
 
 // Octets and nodes of a sheet, and of the one that it becomes.
-#[derive(Drop)]
+#[derive(Clone, Copy)]
 pub struct Growth {
     pub old: usize,
     pub len: usize,

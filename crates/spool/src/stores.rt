@@ -8,7 +8,7 @@ use groups::groups_len;
 
 // The next store: an octet of the sheet, from a place in it to one in the area, which is never the last store; or the octet of the entry at
 // an offset, how many groups its length has, and whether it is the last store; or none. The octet past the entry is 0.
-#[derive(Drop)]
+#[derive(Clone, Copy)]
 pub enum Next {
     Body {
         from: usize,

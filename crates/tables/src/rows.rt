@@ -7,7 +7,7 @@ ghost use Rattle.model.specs.Table.{width, plain_row, hinted_row, list_row};
 ghost use Rattle.tables.specs.Rows.{record_list, RowIs, RowAt};
 
 // A record: 0 string, 1 string with hint, 2 list; offsets are into the canonical octets.
-#[derive(Drop)]
+#[derive(Clone, Copy)]
 pub struct Row {
     pub kind: u32,
     pub start: u32,

@@ -7,7 +7,7 @@ ghost use Rattle.typed.specs.Cases.{valued, unvalued, totalled, untotalled, line
 use answers::Refusal;
 
 // A typed value: a single, a double, a whole number, or raw octets, told by their place.
-#[derive(Drop)]
+#[derive(Clone, Copy)]
 pub enum Value {
     Single(f32),
     Double(f64),
@@ -16,14 +16,14 @@ pub enum Value {
 }
 
 // The value that octets are, if they are one.
-#[derive(Drop)]
+#[derive(Clone, Copy)]
 pub enum Typing {
     Is(Value),
     Untyped,
 }
 
 // A shift line: hours as doubles.
-#[derive(Drop)]
+#[derive(Clone, Copy)]
 pub struct Line {
     pub ordinary: f64,
     pub night: f64,
@@ -31,42 +31,42 @@ pub struct Line {
 }
 
 // The quarters of an hour that a double is, if it is a number of hours of a line.
-#[derive(Drop)]
+#[derive(Clone, Copy)]
 pub enum Count {
     Quarters(u32),
     NoCount,
 }
 
 // A sum of hours: the exact count of quarters, and the double that is a quarter of it.
-#[derive(Drop)]
+#[derive(Clone, Copy)]
 pub struct Total {
     pub quarters: u32,
     pub hours: f64,
 }
 
 // The answer for a node's value.
-#[derive(Drop)]
+#[derive(Clone, Copy)]
 pub enum Valuing {
     Accepted { value: Value },
     Refused { refusal: Refusal },
 }
 
 // The answer for the total of a line that the caller made up.
-#[derive(Drop)]
+#[derive(Clone, Copy)]
 pub enum Totalling {
     Accepted { total: Total },
     Refused { refusal: Refusal },
 }
 
 // The answer for a node's line, with its total.
-#[derive(Drop)]
+#[derive(Clone, Copy)]
 pub enum Lining {
     Accepted { line: Line, total: Total },
     Refused { refusal: Refusal },
 }
 
 // The answer for a list of lines: how many there are, and their total; or the first element that is no line.
-#[derive(Drop)]
+#[derive(Clone, Copy)]
 pub enum Summing {
     Accepted { lines: usize, total: Total },
     Refused { refusal: Refusal, node: usize },

@@ -87,7 +87,7 @@ fn width(m: u64) -> usize
 }
 
 // A number's sign and magnitude.
-#[derive(Drop)]
+#[derive(Clone, Copy)]
 struct Parts {
     turn: bool,
     size: u64,

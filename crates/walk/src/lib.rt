@@ -6,7 +6,7 @@ ghost use Rattle.std.specs.Prelude.{◌≡◌, max};
 ghost use Rattle.model.specs.Count.{shut_by};
 
 // The canonical length, the node count and the depth of the tree that a text means; or it means none, and the place that is told of it.
-#[derive(Drop)]
+#[derive(Clone, Copy)]
 pub enum Extent {
     Whole {
         len: usize,

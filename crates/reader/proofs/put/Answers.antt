@@ -1,0 +1,15 @@
+use Rattle.reader.proofs.Storing.{put-none, put_refused, put-source, put-room, put-accepted}
+use native.Mathlib.Omega.{arith}
+use Rattle.reader.proofs.put.Goals as goal
+
+pub returns-then-row-gt0 : goal.returns-then-row-gt0
+returns-then-row-gt0 c = search (put_refused, arith)
+
+pub copy-requires : goal.copy-requires
+copy-requires c = (search (put-source, arith), search (put-room, arith))
+
+pub returns-else-row-gt0 : goal.returns-else-row-gt0
+returns-else-row-gt0 c = search (put-accepted, arith)
+
+pub returns-in-Refused : goal.returns-in-Refused
+returns-in-Refused c = search (put-none, arith)

@@ -1,0 +1,10 @@
+use native.Mathlib.Omega.{arith}
+use Prim.Native.Nat.{◌-◌}
+use Rattle.spelling.proofs.Spellings.{Pairing, pair-start, pair-room, pair-on, pair_end, pair-long}
+use Rattle.spelling.proofs.put_pairs.Given as goal
+
+abbrev pub invariant-loop-i : goal.invariant-loop-i
+invariant-loop-i l = Pairing l.src l.start l.end l.pos l.initial.out l.out l.i l.o
+
+abbrev pub decreases-loop-i : goal.decreases-loop-i
+decreases-loop-i l = l.end - l.i

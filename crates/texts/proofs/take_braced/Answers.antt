@@ -1,0 +1,28 @@
+use Rattle.radix64.proofs.Marks.{brace}
+use Rattle.texts.proofs.Braces.{brace-room, brace-none, brace-more, brace-lent, brace-part, brace-short, brace-whole, brace-refused}
+use native.Mathlib.Omega.{arith}
+use Rattle.texts.proofs.take_braced.Goals as goal
+
+pub base-next-requires-clause-spacious : goal.base-next-requires-clause-spacious
+base-next-requires-clause-spacious c = (search (brace-room, arith), search brace)
+
+pub returns-then-next-eq0 : goal.returns-then-next-eq0
+returns-then-next-eq0 c = search (brace-none, arith)
+
+pub returns-then-next-text : goal.returns-then-next-text
+returns-then-next-text c = search (brace-more, arith)
+
+pub slice_bounds-part-end : goal.slice_bounds-part-end
+slice_bounds-part-end c = search (brace-lent, arith)
+
+pub slice_bounds-part-end-2 : goal.slice_bounds-part-end-2
+slice_bounds-part-end-2 c = search (brace-part, arith)
+
+pub note-requires : goal.note-requires
+note-requires c = search (brace-short, arith)
+
+pub returns-in-Whole : goal.returns-in-Whole
+returns-in-Whole c = search (brace-whole, arith)
+
+pub returns-in-Refused : goal.returns-in-Refused
+returns-in-Refused c = search (brace-refused, arith)
