@@ -121,8 +121,8 @@ pub record Shifted (notes : List ℕ) (first from to n : ℕ) (b : Growth) (afte
 -- ---- the notes of what comes
 
 -- the first node stands in the list `up`, and the others have parents of their own tree
-abbrev pub field_own : List ℕ → ℕ → ℕ → ℕ → ℕ → ℕ
-field_own notes start first up i = own_note (get_or notes i 0) start (pick (eqb i 0) up first)
+abbrev pub own_at : List ℕ → ℕ → ℕ → ℕ → ℕ → ℕ
+own_at notes start first up i = own_note (get_or notes i 0) start (pick (eqb i 0) up first)
 
 pub record Puttable (notes : List ℕ) (start first up : ℕ) : Type 0 where
   pub small : (i : ℕ) → i < length notes → get_or notes i 0 < roomy
@@ -131,7 +131,7 @@ pub record Puttable (notes : List ℕ) (start first up : ℕ) : Type 0 where
 
 pub record Put (notes : List ℕ) (start first up : ℕ) (after : List ℕ) : Type 0 where
   pub long : length after ≡ length notes
-  pub done : (i : ℕ) → i < length notes → get_or after i 0 ≡ field_own notes start first up i
+  pub done : (i : ℕ) → i < length notes → get_or after i 0 ≡ own_at notes start first up i
 
 -- the octets of a tree of n nodes
 pub record Coming (octets : List ℕ) (n : ℕ) (t : Tree) : Type 0 where
@@ -151,4 +151,4 @@ pub record Enterable (octets : List ℕ) (n start first up : ℕ) : Type 0 where
 
 pub record Entered (octets : List ℕ) (n start first up : ℕ) (after : List ℕ) : Type 0 where
   pub long : length after ≡ n
-  pub done : (t : Tree) → Coming octets n t → (i : ℕ) → i < n → get_or after i 0 ≡ field_own (noted t) start first up i
+  pub done : (t : Tree) → Coming octets n t → (i : ℕ) → i < n → get_or after i 0 ≡ own_at (noted t) start first up i

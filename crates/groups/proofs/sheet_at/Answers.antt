@@ -1,0 +1,21 @@
+use Rattle.groups.proofs.Lengthy.{length-within, runs_past, part-within, a-sheet, not-sheet, no-sheet}
+use native.Mathlib.Omega.{arith}
+use Rattle.groups.proofs.sheet_at.Goals as goal
+
+pub overflow_sub-area : goal.overflow_sub-area
+overflow_sub-area c = search (length-within, arith)
+
+pub returns-then-value-area : goal.returns-then-value-area
+returns-then-value-area c = search (runs_past, arith)
+
+pub slice_bounds-part-end : goal.slice_bounds-part-end
+slice_bounds-part-end c = search (part-within, arith)
+
+pub returns-then-sheet : goal.returns-then-sheet
+returns-then-sheet c = search (a-sheet, arith)
+
+pub returns-else-sheet : goal.returns-else-sheet
+returns-else-sheet c = search (not-sheet, arith)
+
+pub returns-in-NoLength : goal.returns-in-NoLength
+returns-in-NoLength c = search (no-sheet, arith)

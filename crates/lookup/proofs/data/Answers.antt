@@ -1,0 +1,18 @@
+use native.Mathlib.Omega.{arith}
+use Rattle.lookup.proofs.Shown.{data-ordered, data-ended, data-shown, data-at, data-none, data-none-at}
+use Rattle.lookup.proofs.data.Goals as goal
+
+pub slice_bounds-result-count : goal.slice_bounds-result-count
+slice_bounds-result-count c = search (data-ordered, arith)
+
+pub slice_bounds-result-start : goal.slice_bounds-result-start
+slice_bounds-result-start c = search (data-ordered, arith)
+
+pub slice_bounds-result-end : goal.slice_bounds-result-end
+slice_bounds-result-end c = search (data-ended, arith)
+
+pub returns-in-Part : goal.returns-in-Part
+returns-in-Part c = search (data-shown, data-at, arith)
+
+pub returns-in-NoPart : goal.returns-in-NoPart
+returns-in-NoPart c = search (data-none, data-none-at, arith)

@@ -1,0 +1,12 @@
+use native.Mathlib.Omega.{arith}
+use Prim.Native.Nat.{◌-◌}
+use lib.ListN.{length}
+use Rattle.lookup.specs.Agreed.{Agree}
+use Rattle.lookup.proofs.Agreeing.{agree-longer, agree-start, block_same, block-differs}
+use Rattle.lookup.proofs.parts.parts_equal.Given as goal
+
+abbrev pub invariant-loop-i : goal.invariant-loop-i
+invariant-loop-i l = Agree l.a l.b l.i
+
+abbrev pub decreases-loop-i : goal.decreases-loop-i
+decreases-loop-i l = length l.a - l.i

@@ -1,0 +1,22 @@
+use Rattle.base.proofs.Lists.{front_length}
+use Rattle.lookup.proofs.Sheets.{front-short, sheet-beyond, sheet-long, sheet-whole, sheet-none}
+use native.Mathlib.Omega.{arith}
+use Rattle.lookup.proofs.sheet.Goals as goal
+
+pub returns-then-length-canonical : goal.returns-then-length-canonical
+returns-then-length-canonical c = search (sheet-beyond, arith)
+
+pub returns-then-length-gt-CANONICAL : goal.returns-then-length-gt-CANONICAL
+returns-then-length-gt-CANONICAL c = search (sheet-long, arith)
+
+pub slice_bounds-part-end : goal.slice_bounds-part-end
+slice_bounds-part-end c = search (front_length, arith)
+
+pub measure-requires : goal.measure-requires
+measure-requires c = search (front-short, arith)
+
+pub returns-in-Whole : goal.returns-in-Whole
+returns-in-Whole c = search (sheet-whole, arith)
+
+pub returns-in-Refused : goal.returns-in-Refused
+returns-in-Refused c = search (sheet-none, arith)

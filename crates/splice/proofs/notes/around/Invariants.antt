@@ -1,0 +1,10 @@
+use Prim.Native.Nat.{◌-◌}
+use Rattle.splice.proofs.Moving.{Around, grow-start, grow-growing, grow-over, grow-aside, grow-long, grow-end}
+use native.Mathlib.Omega.{arith}
+use Rattle.splice.proofs.notes.around.Given as goal
+
+abbrev pub invariant-loop-j : goal.invariant-loop-j
+invariant-loop-j l = Around l.initial.notes l.first l.end l.by l.notes l.up l.j
+
+abbrev pub decreases-loop-j : goal.decreases-loop-j
+decreases-loop-j l = l.first - l.j
