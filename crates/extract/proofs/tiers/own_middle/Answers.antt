@@ -1,0 +1,10 @@
+use Rattle.reader.specs.Stored.{halved}
+use native.Mathlib.Omega.{arith}
+use borrow.Author.Rules.{rules}
+use Rattle.extract.proofs.tiers.own_middle.Goals as goal
+
+pub extract_own_in-requires-clause-noteable : goal.extract_own_in-requires-clause-noteable
+extract_own_in-requires-clause-noteable c = halved (search rules)
+
+pub extract_own_in-requires-clause-notes : goal.extract_own_in-requires-clause-notes
+extract_own_in-requires-clause-notes c = record { enough = search rules }

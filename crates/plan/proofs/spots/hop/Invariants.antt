@@ -1,0 +1,9 @@
+use Rattle.plan.proofs.Hopping.{Hopping, hop-start, hop-past, hop-inside, hop-on, hop-end}
+use native.Mathlib.Omega.{arith}
+use Rattle.plan.proofs.spots.hop.Given as goal
+
+abbrev pub invariant-loop-left : goal.invariant-loop-left
+invariant-loop-left l = Hopping l.notes l.end l.k l.from l.left l.j
+
+abbrev pub decreases-loop-left : goal.decreases-loop-left
+decreases-loop-left l = l.left
