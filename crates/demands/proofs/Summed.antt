@@ -22,7 +22,7 @@ use Rattle.typed.specs.Quarters.{total_by}
 use Rattle.typed.specs.declared.Total.{Total}
 use Rattle.demands.specs.Lines.{QuarterOf, AllLines, FirstBad}
 use Rattle.demands.proofs.Hours.{quarter-of}
-use Rattle.demands.proofs.Shown.{plain_row, hinted-row}
+use Rattle.demands.proofs.Shown.{plain_row_lem, hinted-row}
 use Rattle.demands.proofs.Standing.{Stands, inside, first-list, stands}
 use Rattle.demands.proofs.Weekly.{Week, whole, broken, SumsTo, sums-lines, sums-broken, decided, quarters-bound, node-within, element-node}
 
@@ -56,7 +56,7 @@ module _ (canonical : List ℕ) (len : ℕ) (table : List ℕ) (count node : ℕ
         where
           no-list : (x : Tree) → node_at t node ≡ x → (row_of t node).kind ≡ 2 → ⊥
           no-list (plain d) q e =
-              let z : ◌≡◌ {A = ℕ} 0 2 = sym (ap (λ (r : Row). r.kind) (plain_row canonical len table count node t o within d q)) ∙ e in omega arith
+              let z : ◌≡◌ {A = ℕ} 0 2 = sym (ap (λ (r : Row). r.kind) (plain_row_lem canonical len table count node t o within d q)) ∙ e in omega arith
           no-list (hinted a d) q e =
               let z : ◌≡◌ {A = ℕ} 1 2 = sym (ap (λ (r : Row). r.kind) (hinted-row canonical len table count node t o within a d q)) ∙ e in omega arith
           no-list (list f) q e = g f q

@@ -4,7 +4,7 @@ use mathlib.Core.List.{List, [], ◌∷◌, ◌++◌, append_assoc, head-eq_of_c
 use Prim.Native.Nat.{ℕ, zero, suc, ◌+◌, ◌*◌, ◌-◌, ◌<◌, ◌≤◌, max}
 use native.Mathlib.Omega.{arith}
 use borrow.Author.Tests.{lt-ltb, le-ltb}
-use lib.ListN.{length, take, drop, get_or, replicate, length-set, length-append, length-replicate}
+use lib.ListN.{length, take, drop, get_or, set, replicate, length-set, length-append, length-replicate}
 use lib.Seq.{sets, drop-drop, drop_at, take_all}
 use Rattle.base.proofs.Cases.{by_le, picked, unpicked}
 use Rattle.model.specs.Tree.{Tree, nodes}
@@ -188,3 +188,28 @@ module _ (Lent : List ℕ → Type 0) (answer : List ℕ → Outcome) (c : List 
   give-told l (Accepted len count) p =
       ap (outcome (Accepted len count) c) (told-settled notes count p.tree p.held old ys (omega (arith, p.recorded.0, p.recorded.1))) ∙ p.is (numbers ys) l
   give-told l (Refused f) p = p (numbers ys) l
+
+-- ---- the loop that tells them
+
+-- i of n records are told
+pub record Telling (notes : List ℕ) (r : Reading) (before : List Record) (n i : ℕ) (now : List Record) : Type 0 where
+  pub few : i ≤ n
+  pub told : now ≡ told_records notes (count_of r) i before
+
+pub telling-none : (notes : List ℕ) (r : Reading) (before : List Record) (n : ℕ) → Telling notes r before n 0 before
+unfolding told_records
+telling-none notes r before n = record { few = omega arith; told = refl }
+
+module _ (notes : List ℕ) (r : Reading) (before : List Record) (old n i : ℕ) (now : List Record) (g : Telling notes r before n i now) (e : n ≡ touched r old) where
+  pub telling-inside : Tells notes r old (length before) → i < n → i < length now
+  telling-inside t h = omega (arith, t.lent, ap length g.told ∙ length-told notes (count_of r) i before)
+
+  pub telling-tellable : Tells notes r old (length before) → Tellable notes r i
+  telling-tellable t = record { read = λ h. t.read i h }
+
+  pub telling-on : i < n → (z : Record) → z ≡ told_at notes (count_of r) i → Telling notes r before n (i + 1) (set now i z)
+  unfolding told_records
+  telling-on h z k = record { few = omega arith; told = rw (g.told, k, add-one) refl }
+
+  pub telling-end : n ≤ i → now ≡ told_records notes (count_of r) (touched r old) before
+  telling-end h = let z : i ≡ touched r old = omega (arith, g.few, e) in g.told ∙ ap (λ (k : ℕ). told_records notes (count_of r) k before) z

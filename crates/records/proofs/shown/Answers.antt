@@ -1,0 +1,18 @@
+use native.Mathlib.Omega.{arith}
+use Rattle.records.proofs.Showing.{place-ordered, place-ended, place-shown, place_at, place_none, place-front-at}
+use Rattle.records.proofs.shown.Goals as goal
+
+pub slice_bounds-result-count : goal.slice_bounds-result-count
+slice_bounds-result-count c = search (place-ordered, arith)
+
+pub slice_bounds-result-start : goal.slice_bounds-result-start
+slice_bounds-result-start c = search (place-ordered, arith)
+
+pub slice_bounds-result-end : goal.slice_bounds-result-end
+slice_bounds-result-end c = search (place-ended, arith)
+
+pub returns-in-Part : goal.returns-in-Part
+returns-in-Part c = search (place-shown, place_at, arith)
+
+pub returns-in-NoPart : goal.returns-in-NoPart
+returns-in-NoPart c = search (place_none, place-front-at, arith)
