@@ -1,13 +1,15 @@
 -- Places in a sheet by its records, and what is shown there.
-use mathlib.Core.Path.{◌≡◌, sym, ap, ◌∙◌}
-use mathlib.Core.Bool.{Bool}
-use mathlib.Core.List.{List}
+use mathlib.Core.Path.{◌≡◌, sym, ap, ◌∙◌, subst}
+use mathlib.Core.Bool.{Bool, true, false}
+use mathlib.Core.Option.{Option}
+use mathlib.Core.List.{List, []}
 use Prim.Native.Nat.{ℕ, ◌+◌, ◌-◌, ◌≤◌}
 use native.Mathlib.Omega.{arith}
 use lib.ListN.{length, take, drop}
-use Rattle.model.specs.Answers.{octets_at, hint_part, data_part, shown_or}
+use Rattle.std.specs.Borrow.{Bor}
+use Rattle.model.specs.Answers.{Part, octets_at, hint_part, data_part, hint_shown, data_shown, shown_or}
 use Rattle.answers.specs.Cases.{placed}
-use Rattle.answers.specs.Shown.{shown_at}
+use Rattle.answers.specs.Shown.{Shows, shown_at}
 use Rattle.answers.specs.declared.Place.{Place}
 use Rattle.answers.specs.declared.Place.TheVariants as place
 use Rattle.lookup.proofs.Shown.{hint-ordered, hint-ended, data-ordered, data-ended}
@@ -56,3 +58,24 @@ place-none-at p x y q = sym (ap (λ (p : Place). shown_at (placed p) x y) q)
 
 pub place-front-at : (p : Place) (x : ℕ × ℕ) → p ≡ place.NoPart → (x.0, 0 + x.1) ≡ shown_at (placed p) x x
 place-front-at p x q = let e : 0 + x.1 ≡ x.1 = omega arith in (λ i. (x.0, e i)) ∙ place-none-at p x x q
+
+-- ---- what a place shows
+module _ (p : Place) (c : List ℕ) (len : ℕ) (t : List ℕ) (count node : ℕ) where
+  pub hint-placed : placed p ≡ part_of true c len t count node → placed p ≡ hint_part c len t count node
+  unfolding part_of
+  hint-placed e = e
+
+  pub data-placed : placed p ≡ part_of false c len t count node → placed p ≡ data_part c len t count node
+  unfolding part_of
+  data-placed e = e
+
+  module _ (r : Bor (List ℕ)) (x y : ℕ × ℕ) where
+    pub shows-hint : (d : List ℕ) → placed p ≡ part_of true c len t count node → Shows r (shown_or (placed p) c d) (shown_at (placed p) x y)
+        → Shows r (hint_shown c len t count node d) (shown_at (hint_part c len t count node) x y)
+    unfolding hint_shown
+    shows-hint d e s = subst (λ (o : Option Part). Shows r (shown_or o c d) (shown_at o x y)) (hint-placed e) s
+
+    pub shows-data : placed p ≡ part_of false c len t count node → Shows r (shown_or (placed p) c []) (shown_at (placed p) x y)
+        → Shows r (data_shown c len t count node) (shown_at (data_part c len t count node) x y)
+    unfolding data_shown
+    shows-data e s = subst (λ (o : Option Part). Shows r (shown_or o c []) (shown_at o x y)) (data-placed e) s

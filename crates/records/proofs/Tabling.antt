@@ -2,6 +2,7 @@
 use mathlib.Core.Path.{◌≡◌, refl, sym, ◌∙◌, ap, ap₂}
 use mathlib.Core.List.{List, [], ◌∷◌, ◌++◌, append_assoc, head-eq_of_cons-eq, tail-eq_of_cons-eq}
 use Prim.Native.Nat.{ℕ, zero, suc, ◌+◌, ◌*◌, ◌-◌, ◌<◌, ◌≤◌, max}
+use native.Mathlib.Nat.{add-zero, add-suc}
 use native.Mathlib.Omega.{arith}
 use borrow.Author.Tests.{lt-ltb, le-ltb}
 use lib.ListN.{length, take, drop, get_or, set, replicate, length-set, length-append, length-replicate}
@@ -191,6 +192,9 @@ module _ (Lent : List ℕ → Type 0) (answer : List ℕ → Outcome) (c : List 
 
 -- ---- the loop that tells them
 
+one_more : (i : ℕ) → i + 1 ≡ suc i
+one_more i = add-suc i zero ∙ ap suc (add-zero i)
+
 -- i of n records are told
 pub record Telling (notes : List ℕ) (r : Reading) (before : List Record) (n i : ℕ) (now : List Record) : Type 0 where
   pub few : i ≤ n
@@ -209,7 +213,7 @@ module _ (notes : List ℕ) (r : Reading) (before : List Record) (old n i : ℕ)
 
   pub telling-on : i < n → (z : Record) → z ≡ told_at notes (count_of r) i → Telling notes r before n (i + 1) (set now i z)
   unfolding told_records
-  telling-on h z k = record { few = omega arith; told = rw (g.told, k, add-one) refl }
+  telling-on h z k = record { few = omega arith; told = rw (g.told, k, one_more i) refl }
 
   pub telling-end : n ≤ i → now ≡ told_records notes (count_of r) (touched r old) before
   telling-end h = let z : i ≡ touched r old = omega (arith, g.few, e) in g.told ∙ ap (λ (k : ℕ). told_records notes (count_of r) k before) z

@@ -7,7 +7,7 @@ ghost use Rattle.plan.specs.declared.Asked.TheVariants.{Replace, Insert, Remove}
 ghost use Rattle.editor.specs.Given.{Noteable};
 ghost use Rattle.records.specs.Numbers.{numbers};
 
-use crate::owned::own_by;
+use crate::own::own_by;
 use crate::{Record, tell_by};
 use answers::Reading;
 use plan::Asked;

@@ -6,7 +6,7 @@ ghost use Rattle.extracts.specs.Extracting.{extracting, extracting_own};
 ghost use Rattle.records.specs.Numbers.{numbers};
 ghost use Rattle.records.specs.Places.{Extractable};
 
-use crate::owned::own_by;
+use crate::own::own_by;
 use crate::{Record, tell_by};
 use answers::Reading;
 

@@ -5,7 +5,7 @@
 mod asked; // asked.rt: a sheet changed as asked
 mod corrections; // corrections.rt: elements put into lists, and nodes removed
 mod foremen; // foremen.rt: extracts
-pub mod owned; // owned.rt: whether records are a sheet's own
+pub mod own; // own.rt: whether records are a sheet's own
 mod piecing; // piecing.rt: texts in pieces
 mod told; // told.rt: the record that a note tells, and one handed on to be judged
 
@@ -23,7 +23,7 @@ use answers::{Place, Reading};
 use asked::change;
 pub use corrections::{insert, remove};
 pub use foremen::{extract, extract_own};
-pub use owned::own_by;
+pub use own::own_by;
 pub use piecing::pieces_end;
 
 // A node's record: its nine numbers, in the order of S 4.1.

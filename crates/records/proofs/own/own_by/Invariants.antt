@@ -1,7 +1,7 @@
 use Prim.Native.Nat.{◌-◌}
 use Rattle.lookup.specs.Pacing.{Goes}
 use Rattle.records.specs.Numbers.{numbers}
-use Rattle.records.proofs.owned.own_by.Given as goal
+use Rattle.records.proofs.own.own_by.Given as goal
 
 abbrev pub invariant-loop-state : goal.invariant-loop-state
 invariant-loop-state l = Goes l.canonical l.len (numbers l.records) l.nodes l.end l.notes l.state
