@@ -1,4 +1,0 @@
-pub mod Asked
-pub mod InWalk
-pub mod LongWalk
-pub mod TierWalk
