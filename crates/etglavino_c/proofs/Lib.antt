@@ -1,9 +1,4 @@
 pub mod Handed
-pub mod Addresses
-pub mod PlaceHanding
-pub mod PlaceWalk
-pub mod ReadingHanding
-pub mod PlacedHanding
 pub mod Spooled
 pub mod ValueHanded
 pub mod ExtractHanded

@@ -4,10 +4,10 @@
 
 mod batching; // batching.rt: sheets written back to back
 mod corrections; // corrections.rt: elements put into lists, and nodes removed
-mod extract; // extract.rt: extracts for foremen
+mod foremen; // foremen.rt: extracts for foremen
 mod piecing; // piecing.rt: texts in pieces
 mod spooling; // spooling.rt: the spool
-mod values; // values.rt: values with a type, and hours
+mod valuing; // valuing.rt: values with a type, and hours
 
 ghost use Rattle.std.specs.Prelude.{◌≡◌};
 ghost use Rattle.model.specs.Answers.{reading, replacing, writing, comparing, hint_part, data_part};

@@ -1,0 +1,6 @@
+use native.Mathlib.Omega.{arith}
+use Rattle.etglavino_c.proofs.Handed.{insert-placed}
+use Rattle.etglavino_c.proofs.corrections.etg_insert.Goals as goal
+
+pub returns : goal.returns
+returns c = search (insert-placed, arith)
