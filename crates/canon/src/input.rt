@@ -1,7 +1,7 @@
 // Standard input to its end, or as much of it as there is space for. A read that fails is no end.
 ghost use Rattle.io.specs.Counts.{IsPrefixLen};
 
-use libc::STDIN_FILENO;
+use std::io::Read;
 
 // How many reads may fail before the input counts as failed: a signal interrupts a read that has moved nothing.
 const TRIES: usize = 16;
@@ -13,23 +13,28 @@ pub struct Input {
 }
 
 // One read: how many octets it put at the front, none at the end of the input.
-fn more(space: &mut [u8]) -> Input
+fn more<R: Read>(from: &mut R, space: &mut [u8]) -> Input
     ensures { IsPrefixLen result.octets space.new }
 {
-    let got = libc::read(STDIN_FILENO, space);
-    Input {
-        octets: io::count(got, space),
-        failed: got < 0,
+    match from.read(space) {
+        Ok(octets) => Input {
+            octets,
+            failed: false,
+        },
+        Err(_) => Input {
+            octets: 0,
+            failed: true,
+        },
     }
 }
 
-pub fn read(source: &mut [u8]) -> Input
+pub fn read<R: Read>(from: &mut R, source: &mut [u8]) -> Input
     ensures { IsPrefixLen result.octets source.new }
 {
     let mut octets: usize = 0;
     let mut tries = TRIES;
     while octets < source.len() {
-        let step = more(&mut source[octets..]);
+        let step = more(from, &mut source[octets..]);
         if step.failed {
             if tries == 0 {
                 return Input {

@@ -5,7 +5,7 @@
 mod input;
 
 use answers::Reading;
-use libc::STDOUT_FILENO;
+use std::io;
 
 // One octet more than a source may have, so that a longer one is refused.
 const MOST: usize = limits::SOURCE + 1;
@@ -13,38 +13,36 @@ const MOST: usize = limits::SOURCE + 1;
 // Of its own table, which has 2,048 records.
 const NUMBERS: usize = 2048 * limits::WIDTH;
 
-fn refuse(number: u32) {
-    io::write_all(STDOUT_FILENO, b"refused ");
-    io::print_decimal(STDOUT_FILENO, number as u64);
-    io::write_all(STDOUT_FILENO, b"\n");
+fn refuse<P: Print>(rt: &P, number: u32) -> io::Result<()> {
+    println!(rt; "refused {number}")
 }
 
-fn show(canonical: &[u8], length: usize) {
+fn show<P: Print>(rt: &P, canonical: &[u8], length: usize) -> io::Result<()> {
     if length <= canonical.len() {
-        io::write_all(STDOUT_FILENO, &canonical[..length]);
+        rt.write_all(&canonical[..length])?;
     }
+    Ok(())
 }
 
-fn answer(source: &[u8]) {
+fn answer<P: Print>(rt: &P, source: &[u8]) -> io::Result<()> {
     let mut canonical: [u8; limits::CANONICAL] = [0; limits::CANONICAL];
     let mut table: [u32; NUMBERS] = [0; NUMBERS];
     match reader::read(3, source, &mut canonical, &mut table) {
-        Reading::Accepted { length, nodes: _ } => show(&canonical, length),
+        Reading::Accepted { length, nodes: _ } => show(rt, &canonical, length),
         Reading::Refused { refusal } => {
             let number = refusal.number;
-            refuse(number);
+            refuse(rt, number)
         }
     }
 }
 
-fn main() {
+fn main(rt: HostRuntime) -> io::Result<()> {
     let mut source: [u8; MOST] = [0; MOST];
-    let input = input::read(&mut source);
+    let input = input::read(&mut rt.stdin(), &mut source);
     if input.failed {
         // A text that was cut off may itself be a whole one, so nothing is shown of it.
-        io::write_all(STDOUT_FILENO, b"read failed\n");
-        return;
+        return println!(rt; "read failed");
     }
     let n = input.octets;
-    answer(&source[..n]);
+    answer(&rt, &source[..n])
 }

@@ -9,7 +9,7 @@ ghost use Rattle.cases.specs.Wire.{number4_at, number8_at, place_after, part_at,
 const NOWHERE: usize = 18446744073709551615;
 
 // A lent buffer as the file has it: its room, its fill, and where the elements given begin and end.
-#[derive(Drop)]
+#[derive(Clone, Copy)]
 pub struct Lending {
     pub room: usize,
     pub fill: u8,

@@ -1,62 +1,72 @@
 // The lines that are written (reference/README.md, "The file `expected`").
 use crate::calls::{Answer, DIFFERS};
 use cases::digest;
-use libc::STDOUT_FILENO;
+use std::io;
 
-fn put(value: u64) {
-    io::write_all(STDOUT_FILENO, b" ");
-    io::print_decimal(STDOUT_FILENO, value);
+fn put<P: Print>(rt: &P, value: u64) -> io::Result<()> {
+    print!(rt; " {value}")
 }
 
-fn end() {
-    io::write_all(STDOUT_FILENO, b"\n");
+fn end<P: Print>(rt: &P) -> io::Result<()> {
+    println!(rt)
 }
 
 // As far as the first value.
-fn begin(number: u64, name: &[u8], answer: Answer) {
-    io::print_decimal(STDOUT_FILENO, number);
-    io::write_all(STDOUT_FILENO, b" ");
-    io::write_all(STDOUT_FILENO, name);
+fn begin<P: Print>(rt: &P, number: u64, name: &str, answer: Answer) -> io::Result<()> {
+    print!(rt; "{number} {name}")?;
     if answer.number == DIFFERS {
-        io::write_all(STDOUT_FILENO, b" differs");
+        print!(rt; " differs")?;
     } else {
-        put(answer.number as u64);
+        put(rt, answer.number as u64)?;
     }
-    put(answer.first as u64);
+    put(rt, answer.first as u64)
 }
 
 // One value.
-pub fn one(number: u64, name: &[u8], answer: Answer) {
-    begin(number, name, answer);
-    end();
+pub fn one<P: Print>(rt: &P, number: u64, name: &str, answer: Answer) -> io::Result<()> {
+    begin(rt, number, name, answer)?;
+    end(rt)
 }
 
 // Two values.
-pub fn two(number: u64, name: &[u8], answer: Answer) {
-    begin(number, name, answer);
-    put(answer.second as u64);
-    end();
+pub fn two<P: Print>(rt: &P, number: u64, name: &str, answer: Answer) -> io::Result<()> {
+    let second = answer.second;
+    begin(rt, number, name, answer)?;
+    put(rt, second as u64)?;
+    end(rt)
 }
 
 // One value and an output.
-pub fn output(number: u64, name: &[u8], answer: Answer, out: &[u8]) {
-    begin(number, name, answer);
-    put(digest::of_octets(out));
-    end();
+pub fn output<P: Print>(
+    rt: &P,
+    number: u64,
+    name: &str,
+    answer: Answer,
+    out: &[u8],
+) -> io::Result<()> {
+    begin(rt, number, name, answer)?;
+    put(rt, digest::of_octets(out))?;
+    end(rt)
 }
 
 // Two values, a sheet and its table.
-pub fn sheet(number: u64, name: &[u8], answer: Answer, canonical: &[u8], table: &[u32]) {
-    begin(number, name, answer);
-    put(answer.second as u64);
-    put(digest::of_octets(canonical));
-    put(digest::of_numbers(table));
-    end();
+pub fn sheet<P: Print>(
+    rt: &P,
+    number: u64,
+    name: &str,
+    answer: Answer,
+    canonical: &[u8],
+    table: &[u32],
+) -> io::Result<()> {
+    let second = answer.second;
+    begin(rt, number, name, answer)?;
+    put(rt, second as u64)?;
+    put(rt, digest::of_octets(canonical))?;
+    put(rt, digest::of_numbers(table))?;
+    end(rt)
 }
 
 // In place of a line, where a case is not what the file format says.
-pub fn malformed(number: u64) {
-    io::write_all(STDOUT_FILENO, b"case ");
-    io::print_decimal(STDOUT_FILENO, number);
-    io::write_all(STDOUT_FILENO, b" is not well formed\n");
+pub fn malformed<P: Print>(rt: &P, number: u64) -> io::Result<()> {
+    println!(rt; "case {number} is not well formed")
 }

@@ -3,49 +3,57 @@
 #![tactic(auto)]
 
 mod calls;
+mod input;
 mod lines;
 mod runs;
 
 ghost use Rattle.std.specs.Prelude.{◌≡◌, length};
 
 use cases::wire::size;
-use libc::STDIN_FILENO;
+use std::io;
+use std::io::Read;
 
 // More cases than any corpus has: nothing says that an input ends.
 const MOST: u64 = 1000000000;
 
 // A case whose size has been read, into room of that size; false where it is not well formed.
-fn sized(number: u64, case: &mut [u8]) -> bool {
-    if io::read_full(STDIN_FILENO, case) < case.len() {
-        return false;
+fn sized<R: Read, P: Print>(
+    from: &mut R,
+    rt: &P,
+    number: u64,
+    case: &mut [u8],
+) -> io::Result<bool> {
+    if input::fill(from, case)? < case.len() {
+        return Ok(false);
     }
-    runs::run(number, case)
+    runs::run(rt, number, case)
 }
 
 // The next case; false where there is none, or none that is well formed.
-fn next(number: u64, case: &mut [u8]) -> bool {
+fn next<R: Read, P: Print>(from: &mut R, rt: &P, number: u64, case: &mut [u8]) -> io::Result<bool> {
     let mut head: [u8; 4] = [0; 4];
-    let got = io::read_full(STDIN_FILENO, &mut head);
+    let got = input::fill(from, &mut head)?;
     if got == 0 {
-        return false;
+        return Ok(false);
     }
     let size = size(&head[..got], case);
-    if sized(number, &mut case[..size]) {
-        return true;
+    if sized(from, rt, number, &mut case[..size])? {
+        return Ok(true);
     }
-    lines::malformed(number);
-    false
+    lines::malformed(rt, number)?;
+    Ok(false)
 }
 
-fn all(case: &mut [u8]) {
+fn all<R: Read, P: Print>(from: &mut R, rt: &P, case: &mut [u8]) -> io::Result<()> {
     let mut number: u64 = 0;
     while number < MOST {
-        if next(number, case) {
+        if next(from, rt, number, case)? {
             number += 1;
         } else {
-            return;
+            return Ok(());
         }
     }
+    Ok(())
 }
 
 // More than any case has.
@@ -55,7 +63,7 @@ fn case_space() -> [u8; 200000]
     [0; 200000]
 }
 
-fn main() {
+fn main(rt: HostRuntime) -> io::Result<()> {
     let mut case = case_space();
-    all(&mut case);
+    all(&mut rt.stdin(), &rt, &mut case)
 }
