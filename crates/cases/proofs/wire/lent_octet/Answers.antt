@@ -1,0 +1,9 @@
+use native.Mathlib.Omega.{arith}
+use Rattle.cases.proofs.Fills.{octet-given, octet-filled}
+use Rattle.cases.proofs.wire.lent_octet.Goals as goal
+
+pub returns-then-i-given : goal.returns-then-i-given
+returns-then-i-given c = search (octet-given, arith)
+
+pub returns-else-i-given : goal.returns-else-i-given
+returns-else-i-given c = search (octet-filled, arith)
