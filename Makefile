@@ -1,9 +1,9 @@
-# make: the archive, the shared object and the command, in target/ and tool/target/.
+# make: the archive, the shared object and the command, in target/make/ and tool/target/.
 # make install PREFIX=/usr/local [DESTDIR=/somewhere]: these, the header, etglavino.pc,
 # the man page and bash's completion. make uninstall takes the same and removes them.
 #
-# The proved archive is taken as it is in target/staticlib; `rt` makes it where it is
-# missing, or older than the crates.
+# The proved archive is taken as it is in crates/etglavino_c/out; `rt lib` makes it where
+# it is missing, or older than the crates.
 PREFIX ?= /usr/local
 DESTDIR ?=
 CARGO ?= cargo
@@ -14,7 +14,7 @@ soname := libetglavino.so.$(firstword $(subst ., ,$(version)))
 shared := libetglavino.so.$(version)
 
 made := target/make
-proved := target/staticlib/libetglavino_c.a
+proved := crates/etglavino_c/out/libetglavino_c.a
 archive := $(made)/libetglavino.a
 object := $(made)/$(shared)
 command := tool/target/release/etglavino
@@ -32,8 +32,8 @@ library: $(archive) $(object)
 command: $(proved)
 	$(CARGO) build --quiet --release --offline --manifest-path tool/Cargo.toml
 
-$(proved): crates.txt $(shell find crates -name '*.rt' -o -name '*.antt')
-	rt staticlib etglavino_c
+$(proved): crates.txt $(shell find crates -name out -prune -o '(' -name '*.rt' -o -name '*.antt' ')' -print)
+	cd crates/etglavino_c && rt lib
 
 $(made)/text.o: c/text.c include/etglavino.h
 	mkdir -p $(made)

@@ -1,7 +1,7 @@
 #!/usr/bin/env python3
 """instructions.py ARCHIVE [ARCHIVE]: instructions of one reading, counted by callgrind.
 
-For changes too small for a clock. Each archive is what `rt staticlib etglavino_c` makes; with two, the third number is what the
+For changes too small for a clock. Each archive is what `rt lib` makes in crates/etglavino_c; with two, the third number is what the
 second takes beyond the first, in per cent. Only what runs inside etg_read is counted. Takes a C compiler and valgrind.
 """
 import os

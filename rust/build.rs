@@ -30,16 +30,19 @@ fn main() {
 fn built() -> PathBuf {
     let package = PathBuf::from(env::var_os("CARGO_MANIFEST_DIR").expect("cargo sets it"));
     let root = package.parent().expect("the package is in a folder");
-    let folder = root.join("target").join("staticlib");
-    let archive = folder.join(ARCHIVE);
     let (crates, list) = (root.join("crates"), root.join("crates.txt"));
-    if crates.join("etglavino_c").is_dir() {
-        println!("cargo:rerun-if-changed={}", crates.display());
+    let made_in = crates.join("etglavino_c");
+    let folder = made_in.join("out");
+    let archive = folder.join(ARCHIVE);
+    if made_in.is_dir() {
+        for part in made_of(&crates) {
+            println!("cargo:rerun-if-changed={}", part.display());
+        }
         println!("cargo:rerun-if-changed={}", list.display());
         match modified(&archive) {
-            None => build(root, "there is no archive yet"),
+            None => build(&made_in, "there is no archive yet"),
             Some(made) if newest(&crates).max(modified(&list)) > Some(made) => {
-                build(root, "the archive is older than the crates")
+                build(&made_in, "the archive is older than the crates")
             }
             Some(_) => (),
         }
@@ -51,10 +54,21 @@ fn modified(path: &Path) -> Option<SystemTime> {
     fs::metadata(path).and_then(|file| file.modified()).ok()
 }
 
+/// What is in a folder, but for `out`, where `rt` keeps what it makes.
+fn within(folder: &Path) -> impl Iterator<Item = PathBuf> {
+    let entries = fs::read_dir(folder).into_iter().flatten().flatten();
+    let paths = entries.map(|entry| entry.path());
+    paths.filter(|path| path.file_name().is_some_and(|name| name != "out"))
+}
+
+/// The folders of the crates with their code and proofs.
+fn made_of(crates: &Path) -> impl Iterator<Item = PathBuf> {
+    within(crates).flat_map(|folder| within(&folder).collect::<Vec<_>>())
+}
+
 /// When the last of the files of code and proofs in a folder was changed.
 fn newest(folder: &Path) -> Option<SystemTime> {
-    let entries = fs::read_dir(folder).into_iter().flatten().flatten();
-    let times = entries.map(|entry| entry.path()).map(|path| {
+    let times = within(folder).map(|path| {
         let made_of = path
             .extension()
             .is_some_and(|end| end == "rt" || end == "antt");
@@ -66,27 +80,28 @@ fn newest(folder: &Path) -> Option<SystemTime> {
     times.max().flatten()
 }
 
-fn build(root: &Path, why: &str) {
+fn build(made_in: &Path, why: &str) {
     let mut terminal = OpenOptions::new().write(true).open("/dev/tty").ok();
-    let rt = "rt staticlib etglavino_c";
+    let rt = "rt lib";
+    let shown = format!("cd crates/etglavino_c && {rt}");
     show(
         &mut terminal,
-        &format!("etglavino: {why}: `{rt}` builds it"),
+        &format!("etglavino: {why}: `{shown}` builds it"),
     );
-    match run(root, rt, &mut terminal) {
+    match run(made_in, rt, &mut terminal) {
         Ok(status) if status.success() => (),
-        Ok(_) => fail(&format!("`{rt}` failed")),
+        Ok(_) => fail(&format!("`{shown}` failed")),
         Err(error) => fail(&format!("cannot run `rt`: {error}")),
     }
 }
 
 /// Runs a command, which may take minutes, and shows each line as it comes.
-fn run(root: &Path, command: &str, terminal: &mut Option<File>) -> io::Result<ExitStatus> {
+fn run(folder: &Path, command: &str, terminal: &mut Option<File>) -> io::Result<ExitStatus> {
     let (lines, end) = io::pipe()?;
     let mut words = command.split(' ');
     let mut started = Command::new(words.next().unwrap_or_default())
         .args(words)
-        .current_dir(root)
+        .current_dir(folder)
         .stdout(end.try_clone()?)
         .stderr(end)
         .spawn()?;

@@ -1,6 +1,6 @@
 """The program `canon` as it is built, against docs/SPECIFICATION.md (S 8.6): what it writes for what comes from standard input.
 
-Run from the repository's root, once the program is proved: python3 -m unittest discover -s tests
+Run from the repository's root, once `rt ci`, or `rt run` in crates/canon, has made the program: python3 -m unittest discover -s tests
 """
 
 import base64
@@ -10,7 +10,7 @@ import tempfile
 import unittest
 from pathlib import Path
 
-CANON = Path(__file__).parent.parent / "target" / "bin" / "canon"
+CANON = Path(__file__).parent.parent / "crates" / "canon" / "out" / "canon"
 OCTETS = bytes(range(256))
 
 # S 6.1: a source has at most 32,768 octets, lists nest at most 128 deep, a canonical form has at most 16,384 octets;

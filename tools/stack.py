@@ -15,7 +15,7 @@ import subprocess
 import sys
 
 ROOT = os.path.join(os.path.dirname(os.path.abspath(__file__)), "..")
-ARCHIVE = os.path.join(ROOT, "target", "staticlib", "libetglavino_c.a")
+ARCHIVE = os.path.join(ROOT, "crates", "etglavino_c", "out", "libetglavino_c.a")
 # The lines that tell an entry's figure.
 TOLD = {"include/etglavino.h": " *   {:<23}{:>9}", "docs/TRUST.md": "| `{}` | {} |"}
 WORD = 8

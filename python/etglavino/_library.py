@@ -15,8 +15,10 @@ from pathlib import Path
 from typing import Iterator
 
 ARCHIVE = "libetglavino_c.a"
-RT = ("rt", "staticlib", "etglavino_c")
+RT = ("rt", "lib")
 ROOT = Path(__file__).resolve().parents[2]
+CRATE = Path("crates", "etglavino_c")
+"""Where `rt` makes the archive, in the repository."""
 BUNDLED = Path(__file__).resolve().with_name("libetglavino.so")
 """What a wheel carries."""
 
@@ -40,8 +42,8 @@ def load() -> ctypes.CDLL:
 
 def _archive() -> Path:
     named = os.environ.get("ETGLAVINO_LIB")
-    archive = Path(named or ROOT / "target" / "staticlib") / ARCHIVE
-    if not named and (ROOT / "crates" / "etglavino_c").is_dir():
+    archive = Path(named or ROOT / CRATE / "out") / ARCHIVE
+    if not named and (ROOT / CRATE).is_dir():
         if not archive.is_file():
             _build("there is no archive yet")
         elif max(_changed()) > archive.stat().st_mtime_ns:
@@ -54,7 +56,8 @@ def _archive() -> Path:
 def _changed() -> Iterator[int]:
     """When each file that the archive is made of was changed."""
     yield (ROOT / "crates.txt").stat().st_mtime_ns
-    for folder, _, names in os.walk(ROOT / "crates"):
+    for folder, folders, names in os.walk(ROOT / "crates"):
+        folders[:] = [inner for inner in folders if inner != "out"]
         for name in names:
             if name.endswith((".rt", ".antt")):
                 yield os.stat(os.path.join(folder, name)).st_mtime_ns
@@ -63,10 +66,10 @@ def _changed() -> Iterator[int]:
 def _build(why: str) -> None:
     """Has `rt` build the archive. It may take minutes: what it says is shown as
     it comes, on standard error."""
-    shown = " ".join(RT)
+    shown = f"cd {CRATE.as_posix()} && {' '.join(RT)}"
     print(f"etglavino: {why}: `{shown}` builds it", file=sys.stderr, flush=True)
     try:
-        rt = subprocess.Popen(RT, cwd=ROOT, stdout=subprocess.PIPE, stderr=subprocess.STDOUT, text=True)
+        rt = subprocess.Popen(RT, cwd=ROOT / CRATE, stdout=subprocess.PIPE, stderr=subprocess.STDOUT, text=True)
     except OSError as error:
         advice = f"install the Rattle kit, or set ETGLAVINO_LIB to the folder that has {ARCHIVE}"
         raise LibraryMissing(f"cannot run `rt`: {error}; {advice}") from error

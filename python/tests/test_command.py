@@ -108,12 +108,12 @@ class Built(unittest.TestCase):
         folder = tempfile.TemporaryDirectory()
         self.addCleanup(folder.cleanup)
         self.root = Path(folder.name)
-        self.archive = self.root / "target/staticlib" / _library.ARCHIVE
+        self.archive = self.root / "crates/etglavino_c/out" / _library.ARCHIVE
         (self.root / "bin").mkdir()
         (self.root / "crates/etglavino_c/must-fail").mkdir(parents=True)
         for name in ("crates.txt", "crates/etglavino_c/lib.rt", "crates/etglavino_c/must-fail/a.edit"):
             (self.root / name).touch()
-        self.rt("echo 'rt: base proved'; echo 'rt: done' >&2; mkdir -p target/staticlib; touch target/staticlib/" + _library.ARCHIVE)
+        self.rt("echo 'rt: base proved'; echo 'rt: done' >&2; mkdir -p out; touch out/" + _library.ARCHIVE)
         environment = {"PATH": f"{self.root / 'bin'}:/usr/bin:/bin"}
         for patch in (mock.patch.dict(os.environ, environment), mock.patch.object(_library, "ROOT", self.root)):
             patch.start()
@@ -122,7 +122,7 @@ class Built(unittest.TestCase):
 
     def rt(self, script: str) -> None:
         path = self.root / "bin/rt"
-        path.write_text(f'#!/bin/sh\necho "$@" >> calls\n{script}\n')
+        path.write_text(f'#!/bin/sh\necho "$@" >> {self.root}/calls\n{script}\n')
         path.chmod(0o755)
 
     def said(self) -> str:
@@ -142,9 +142,9 @@ class Built(unittest.TestCase):
 
     def test_where_it_is_missing_and_once(self) -> None:
         said = self.said()
-        self.assertIn("there is no archive yet: `rt staticlib etglavino_c` builds it\n", said)
+        self.assertIn("there is no archive yet: `cd crates/etglavino_c && rt lib` builds it\n", said)
         self.assertTrue(said.endswith("\nrt: base proved\nrt: done\n"), said)
-        self.assertEqual(self.calls(), ["staticlib etglavino_c"])
+        self.assertEqual(self.calls(), ["lib"])
         self.assertEqual(self.said(), "")
         self.assertEqual(len(self.calls()), 1)
 
@@ -163,7 +163,7 @@ class Built(unittest.TestCase):
 
     def test_an_rt_that_fails(self) -> None:
         self.rt("echo 'rt: base: not proved' >&2; exit 1")
-        with self.assertRaisesRegex(LibraryMissing, "`rt staticlib etglavino_c` failed: rt: base: not proved"):
+        with self.assertRaisesRegex(LibraryMissing, "`cd crates/etglavino_c && rt lib` failed: rt: base: not proved"):
             self.said()
 
     def test_no_rt(self) -> None:

@@ -12,13 +12,13 @@ import unittest
 from pathlib import Path
 
 ROOT = Path(__file__).resolve().parents[2]
-ARCHIVE = "target/staticlib/libetglavino_c.a"
+ARCHIVE = "crates/etglavino_c/out/libetglavino_c.a"
 RT = """\
 #!/bin/sh
-echo "$@" >> calls
+echo "$@" >> ../../calls
 echo 'rt: base proved'
-mkdir -p target/staticlib
-ar rc target/staticlib/libetglavino_c.a && touch target/staticlib/libetglavino_c.a
+mkdir -p out
+ar rc out/libetglavino_c.a && touch out/libetglavino_c.a
 """
 
 
@@ -52,7 +52,7 @@ class Archive(unittest.TestCase):
 
     def calls(self) -> int:
         noted = self.root / "calls"
-        return noted.read_text().count("staticlib etglavino_c\n") if noted.exists() else 0
+        return noted.read_text().count("lib\n") if noted.exists() else 0
 
     def age(self, path: Path, seconds: int) -> None:
         """Makes a file so much younger than the archive."""
@@ -83,7 +83,7 @@ class Archive(unittest.TestCase):
                 seen += octets
         os.close(terminal)
         self.assertEqual(os.waitstatus_to_exitcode(os.waitpid(child, 0)[1]), 0, seen)
-        self.assertIn(b"there is no archive yet: `rt staticlib etglavino_c` builds it\r\n", seen)
+        self.assertIn(b"there is no archive yet: `cd crates/etglavino_c && rt lib` builds it\r\n", seen)
         self.assertIn(b"rt: base proved\r\n", seen)
 
     def test_an_rt_that_fails(self) -> None:
@@ -91,7 +91,7 @@ class Archive(unittest.TestCase):
         done = self.check()
         self.assertNotEqual(done.returncode, 0)
         self.assertIn("rt: base: not proved", done.stderr)
-        self.assertIn("`rt staticlib etglavino_c` failed", done.stderr)
+        self.assertIn("`cd crates/etglavino_c && rt lib` failed", done.stderr)
 
     def test_outside_a_repository(self) -> None:
         shutil.rmtree(self.root / "crates")
