@@ -1,7 +1,8 @@
 #!/usr/bin/env python3
 """places.py LTS [NEED...]: the places behind each need of a function, nearest first, with the fields that a path may name there.
 
-LTS is a function's `Lts.antt`, as `rt dev CRATE --generated DIR` writes it. A line's number is how many `.before` lead to it from `c`.
+LTS is a function's `Lts.antt`, as `rt check --generated DIR` writes it in the crate's folder. A line's number is how many `.before` lead
+to it from `c` in a Proof.antt; in an Answers.antt `c` has every step by its name.
 
 >>> print(listed('''
 ...       pub record Start : Type 0 where

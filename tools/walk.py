@@ -7,13 +7,13 @@ list by name and writes each step with the places that it finds.
 >>> walk = Walk(cells(2) + ["tokens", "owned"])
 >>> walk.fsplit("owned", "sheet", "rest")
 >>> walk.split("tokens", "token", "true")
->>> walk.assign("of-opd ! (" + walk.load("l1") + ")", "l0", "(tt, tt)")
+>>> walk.assign("of_opd ! (" + walk.load("l1") + ")", "l0", "(tt, tt)")
 >>> walk.keep("sheet", "token", *cells(2))
 >>> walk.forget("l0", "l1")
 >>> walk.free(2)
 >>> print(walk.ended("by ! exits"))
 move ! (5 ∷ []) $ fsplit ! $ move ! (6 ∷ []) $ split ! $
-assigns ! (of-opd ! (load ! (from ! (stop !)) (look ! 4 refl))) (from ! (stop !)) (init ! 6 refl (tt, tt)) $
+assigns ! (of_opd ! (load ! (from ! (stop !)) (look ! 4 refl))) (from ! (stop !)) (init ! 6 refl (tt, tt)) $
 keep ! (2 ∷ 0 ∷ 4 ∷ 5 ∷ 6 ∷ 7 ∷ []) $ forget ! 4 refl $ forget ! 2 refl $
 move ! (4 ∷ 5 ∷ []) $ free1 ! $ move ! (2 ∷ 3 ∷ []) $ free1 ! $ free0 ! $ by ! exits
 """
@@ -102,7 +102,7 @@ class Walk:
         """A lemma makes one thing of others; at once, or after an update."""
         self.move(*old)
         item = f"(later {item})" if later else item
-        self.say(f"use{len(old)} W {item} ({lemma})")
+        self.say(f"use{len(old)} 𝓛 {item} ({lemma})")
         if later:
             self.say("await ! tt")
         self.had[: len(old)] = [new]
@@ -117,9 +117,9 @@ class Walk:
 
     def operands(self, *loads):
         """The operands of a call or an aggregate."""
-        chain = "no-more !"
+        chain = "no_more !"
         for load in reversed(loads):
-            chain = f"and-then ! ({load}) ({chain})"
+            chain = f"and_then ! ({load}) ({chain})"
         return f"({chain})"
 
     def assign(self, value, local, typed):
