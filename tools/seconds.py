@@ -17,7 +17,7 @@ or kept from an earlier run, and how many edits were refused.
 | `scan` | 4 | 1 | 5 |
 >>> log = '''rt: base is kept: an earlier run on this machine proved the same files over the same libraries
 ... rt: scan proved
-... rt: must-fail scan/token_stops_at_digit: refused, as it must be: ./proofs/a/Answers.antt:8:13: error: `returns`: expected type
+... rt: must-fail scan/token_stops_at_digit.edit: refused, as it must be: ./proofs/a/Answers.antt:8:13: error: `returns`: expected type
 ... '''
 >>> print(table(log))
 2 crates, 1 edits, and no seconds
