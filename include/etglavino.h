@@ -1,7 +1,7 @@
 /* Etglavino: S-expressions (RFC 9804) read, written, corrected and compared.
  *
  * `make install` puts it where `pkg-config etglavino` finds it; or build it
- * with `rt staticlib etglavino_c` and link target/staticlib/libetglavino_c.a.
+ * by `rt lib` in crates/etglavino_c and link out/libetglavino_c.a there.
  * It needs nothing but the C library's memset and memcpy, allocates nothing,
  * keeps nothing between calls and never fails otherwise than by the number that
  * it returns.
@@ -145,7 +145,7 @@ struct etg_record {
 };
 
 /* The version of the library that is linked. This and the next one are in what
- * `make` builds and installs, and not in the archive of `rt staticlib` alone. */
+ * `make` builds and installs, and not in the archive of `rt lib` alone. */
 const char *etg_version(void);
 
 /* What a refusal's number means, in a sentence without capital and full stop;
