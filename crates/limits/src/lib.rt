@@ -2,7 +2,6 @@
 // the promises; where the two differ, proofs fail.
 #![tactic(auto)]
 
-
 // Octets of a source.
 pub const SOURCE: usize = 32768;
 

@@ -115,11 +115,12 @@ shape_of-notes-then-next-eq0 c = search (convert-notes, arith)
 pub returns-then-next-eq0 : goal.returns-then-next-eq0
 returns-then-next-eq0 c =
     let strung : Nodes c.args.src.now c.skip_at-i.result c.wrap-o.result c.loop-starts.out c.if-b-eq91.out c.if-b-eq91.mid c.if-b-eq91.end c.if-b-eq91.next =
-    elim c.if-b-eq91.branch
-    [ then-b-eq91 w ↦ rw (w.out-is, w.mid-is, w.end-is, w.next-is) w.hinted-next.ensures
-    | else-b-eq91 w ↦
-    rw (w.out-is, w.mid-is, w.end-is, w.next-is)
-    (node-plain _ _ _ _ (search rules) (search (node-spare, arith)) (search rules) (search rules) w.if-b-eq91.false _ _ _ w.simple-next.ensures) ]
+    elim c.if-b-eq91.branch [
+      | then-b-eq91 w ↦ rw (w.out-is, w.mid-is, w.end-is, w.next-is) w.hinted-next.ensures
+      | else-b-eq91 w ↦
+          rw (w.out-is, w.mid-is, w.end-is, w.next-is)
+          (node-plain _ _ _ _ (search rules) (search (node-spare, arith)) (search rules) (search rules) w.if-b-eq91.false _ _ _ w.simple-next.ensures)
+    ]
     in
     node-none _ _ _ _ _ _ _ _ _ _ _ _ _ c.loop-starts.invariant _ c.skip_at-i.ensures _ c.closed.ensures c.if-closed.false c.if-i-src-2.false _ c.wrap-o.ensures _ c.opens.ensures c.if-opens.false _ _ _ _ strung c.if-next-eq0.true _
 
@@ -129,54 +130,59 @@ up_of-up-requires c = search (convert-numbers, arith)
 pub keep_string-requires : goal.keep_string-requires
 keep_string-requires c =
     let strung : Nodes c.args.src.now c.skip_at-i.result c.wrap-o.result c.loop-starts.out c.if-b-eq91.out c.if-b-eq91.mid c.if-b-eq91.end c.if-b-eq91.next =
-    elim c.if-b-eq91.branch
-    [ then-b-eq91 w ↦ rw (w.out-is, w.mid-is, w.end-is, w.next-is) w.hinted-next.ensures
-    | else-b-eq91 w ↦
-    rw (w.out-is, w.mid-is, w.end-is, w.next-is)
-    (node-plain _ _ _ _ (search rules) (search (node-spare, arith)) (search rules) (search rules) w.if-b-eq91.false _ _ _ w.simple-next.ensures) ]
+    elim c.if-b-eq91.branch [
+      | then-b-eq91 w ↦ rw (w.out-is, w.mid-is, w.end-is, w.next-is) w.hinted-next.ensures
+      | else-b-eq91 w ↦
+          rw (w.out-is, w.mid-is, w.end-is, w.next-is)
+          (node-plain _ _ _ _ (search rules) (search (node-spare, arith)) (search rules) (search rules) w.if-b-eq91.false _ _ _ w.simple-next.ensures)
+    ]
     in
     node-keepable _ _ _ _ _ _ _ _ _ _ _ _ _ c.loop-starts.invariant _ c.skip_at-i.ensures _ c.closed.ensures c.if-closed.false c.if-i-src-2.false _ c.wrap-o.ensures _ c.opens.ensures c.if-opens.false _ _ _ _ strung c.if-next-eq0.false c.up_of-up.result c.up_of-up.ensures
 
 pub overflow_sub-size : goal.overflow_sub-size
 overflow_sub-size c =
     let strung : Nodes c.args.src.now c.skip_at-i.result c.wrap-o.result c.loop-starts.out c.if-b-eq91.out c.if-b-eq91.mid c.if-b-eq91.end c.if-b-eq91.next =
-    elim c.if-b-eq91.branch
-    [ then-b-eq91 w ↦ rw (w.out-is, w.mid-is, w.end-is, w.next-is) w.hinted-next.ensures
-    | else-b-eq91 w ↦
-    rw (w.out-is, w.mid-is, w.end-is, w.next-is)
-    (node-plain _ _ _ _ (search rules) (search (node-spare, arith)) (search rules) (search rules) w.if-b-eq91.false _ _ _ w.simple-next.ensures) ]
+    elim c.if-b-eq91.branch [
+      | then-b-eq91 w ↦ rw (w.out-is, w.mid-is, w.end-is, w.next-is) w.hinted-next.ensures
+      | else-b-eq91 w ↦
+          rw (w.out-is, w.mid-is, w.end-is, w.next-is)
+          (node-plain _ _ _ _ (search rules) (search (node-spare, arith)) (search rules) (search rules) w.if-b-eq91.false _ _ _ w.simple-next.ensures)
+    ]
     in
     node-from _ _ _ _ _ _ _ _ _ _ _ _ _ c.loop-starts.invariant _ c.skip_at-i.ensures _ c.closed.ensures c.if-closed.false c.if-i-src-2.false _ c.wrap-o.ensures _ c.opens.ensures c.if-opens.false _ _ _ _ strung c.if-next-eq0.false
 
 pub overflow_add-size-in-loop-starts : goal.overflow_add-size-in-loop-starts
 overflow_add-size-in-loop-starts c =
     let strung : Nodes c.args.src.now c.skip_at-i.result c.wrap-o.result c.loop-starts.out c.if-b-eq91.out c.if-b-eq91.mid c.if-b-eq91.end c.if-b-eq91.next =
-    elim c.if-b-eq91.branch
-    [ then-b-eq91 w ↦ rw (w.out-is, w.mid-is, w.end-is, w.next-is) w.hinted-next.ensures
-    | else-b-eq91 w ↦
-    rw (w.out-is, w.mid-is, w.end-is, w.next-is)
-    (node-plain _ _ _ _ (search rules) (search (node-spare, arith)) (search rules) (search rules) w.if-b-eq91.false _ _ _ w.simple-next.ensures) ]
+    elim c.if-b-eq91.branch [
+      | then-b-eq91 w ↦ rw (w.out-is, w.mid-is, w.end-is, w.next-is) w.hinted-next.ensures
+      | else-b-eq91 w ↦
+          rw (w.out-is, w.mid-is, w.end-is, w.next-is)
+          (node-plain _ _ _ _ (search rules) (search (node-spare, arith)) (search rules) (search rules) w.if-b-eq91.false _ _ _ w.simple-next.ensures)
+    ]
     in
     node-fits _ _ _ _ _ _ _ _ _ _ _ _ _ c.loop-starts.invariant _ c.skip_at-i.ensures _ c.closed.ensures c.if-closed.false c.if-i-src-2.false _ c.wrap-o.ensures _ c.opens.ensures c.if-opens.false _ _ _ _ strung c.if-next-eq0.false
 
 pub loop-starts-smaller : goal.loop-starts-smaller
 loop-starts-smaller c =
     let strung : Nodes c.args.src.now c.skip_at-i.result c.wrap-o.result c.loop-starts.out c.if-b-eq91.out c.if-b-eq91.mid c.if-b-eq91.end c.if-b-eq91.next =
-    elim c.if-b-eq91.branch
-    [ then-b-eq91 w ↦ rw (w.out-is, w.mid-is, w.end-is, w.next-is) w.hinted-next.ensures
-    | else-b-eq91 w ↦
-    rw (w.out-is, w.mid-is, w.end-is, w.next-is)
-    (node-plain _ _ _ _ (search rules) (search (node-spare, arith)) (search rules) (search rules) w.if-b-eq91.false _ _ _ w.simple-next.ensures) ]
+    elim c.if-b-eq91.branch [
+      | then-b-eq91 w ↦ rw (w.out-is, w.mid-is, w.end-is, w.next-is) w.hinted-next.ensures
+      | else-b-eq91 w ↦
+          rw (w.out-is, w.mid-is, w.end-is, w.next-is)
+          (node-plain _ _ _ _ (search rules) (search (node-spare, arith)) (search rules) (search rules) w.if-b-eq91.false _ _ _ w.simple-next.ensures)
+    ]
     in
     node-less _ _ _ _ _ _ _ _ _ _ _ _ _ c.loop-starts.invariant _ c.skip_at-i.ensures _ c.closed.ensures c.if-closed.false c.if-i-src-2.false _ c.wrap-o.ensures _ c.opens.ensures c.if-opens.false _ _ _ _ strung c.if-next-eq0.false
 
 pub loop-starts-preserved : goal.loop-starts-preserved
 loop-starts-preserved c =
     let strung : Nodes c.args.src.now c.skip_at-i.result c.wrap-o.result c.loop-starts.out c.if-b-eq91.out c.if-b-eq91.mid c.if-b-eq91.end c.if-b-eq91.next =
-    elim c.if-b-eq91.branch
-    [ then-b-eq91 w ↦ rw (w.out-is, w.mid-is, w.end-is, w.next-is) w.hinted-next.ensures
-    | else-b-eq91 w ↦
-    rw (w.out-is, w.mid-is, w.end-is, w.next-is)
-    (node-plain _ _ _ _ (search rules) (search (node-spare, arith)) (search rules) (search rules) w.if-b-eq91.false _ _ _ w.simple-next.ensures) ]
+    elim c.if-b-eq91.branch [
+      | then-b-eq91 w ↦ rw (w.out-is, w.mid-is, w.end-is, w.next-is) w.hinted-next.ensures
+      | else-b-eq91 w ↦
+          rw (w.out-is, w.mid-is, w.end-is, w.next-is)
+          (node-plain _ _ _ _ (search rules) (search (node-spare, arith)) (search rules) (search rules) w.if-b-eq91.false _ _ _ w.simple-next.ensures)
+    ]
     in
     node-on _ _ _ _ _ _ _ _ _ _ _ _ _ c.loop-starts.invariant _ c.skip_at-i.ensures _ c.closed.ensures c.if-closed.false c.if-i-src-2.false _ c.wrap-o.ensures _ c.opens.ensures c.if-opens.false _ _ _ _ strung c.if-next-eq0.false c.up_of-up.result c.up_of-up.ensures _ c.keep_string.ensures

@@ -15,9 +15,10 @@ overflow_add-level c = omega (arith, c.loop-j.invariant.few)
 
 pub loop-j-preserved : goal.loop-j-preserved
 loop-j-preserved c =
-    elim c.if-over.branch
-    [ then-over w ↦ rw w.level-is (level-held _ _ _ _ c.loop-j.invariant c.loop-j-test.true _ c.over.ensures w.if-over.true)
-    | else-over w ↦ rw w.level-is (level-aside _ _ _ _ c.loop-j.invariant c.loop-j-test.true _ c.over.ensures w.if-over.false) ]
+    elim c.if-over.branch [
+      | then-over w ↦ rw w.level-is (level-held _ _ _ _ c.loop-j.invariant c.loop-j-test.true _ c.over.ensures w.if-over.true)
+      | else-over w ↦ rw w.level-is (level-aside _ _ _ _ c.loop-j.invariant c.loop-j-test.true _ c.over.ensures w.if-over.false)
+    ]
 
 pub returns : goal.returns
 returns c = search (level-end, arith)
