@@ -21,7 +21,6 @@ use Rattle.model.specs.Tree.{canon}
 use Rattle.model.proofs.Apart.{rules-apart}
 use Rattle.model.proofs.Braces.{unnesting, held-lexemes, held_none}
 use Rattle.model.proofs.Canonical.{unnest-canon}
-use Rattle.model.proofs.Held.{Held}
 use Rattle.model.proofs.Nesting.{unnest}
 use Rattle.model.proofs.OutputSizes.{nodes-half, depth-within}
 use Rattle.model.proofs.Strict.{octets_of_lexemes}

@@ -5,8 +5,8 @@ use Prim.Native.Nat.{ℕ, ◌+◌, ◌-◌, ◌≤◌, ◌<◌}
 use native.Mathlib.Omega.{arith}
 use mathlib.Core.Path.{◌≡◌, refl, sym, ap, ◌∙◌, subst}
 use mathlib.Core.Bool.{Bool, true, false}
-use mathlib.Core.Option.{Option, none, some}
-use mathlib.Core.List.{List, [], ◌∷◌, ◌++◌}
+use mathlib.Core.Option.{none, some}
+use mathlib.Core.List.{List, []}
 use lib.ListN.{length, take, drop, length-drop}
 use lib.Seq.{length-take-le, drop_at, take-add}
 use lib.Dec.{eqb}
@@ -15,17 +15,15 @@ use Rattle.base.specs.Choice.{both}
 use Rattle.model.specs.Decode.{decode₁, canonical_of, braces}
 use Rattle.model.specs.Grammar.{rules}
 use Rattle.model.specs.Limits.{max_source}
-use Rattle.model.specs.Strings.{Read, got, refused, bind, upto, unbase, decoded}
-use Rattle.model.specs.Tree.{Tree, canon, nodes, depth}
+use Rattle.model.specs.Strings.{Read, got, refused, bind, upto, unbase}
+use Rattle.model.specs.Tree.{Tree, canon}
 use Rattle.model.proofs.Braces.{unbrace-test}
 use Rattle.model.proofs.Canonical.{canon-sound}
-use Rattle.model.proofs.Held.{Held, braces-sound, held-size}
 use Rattle.model.proofs.Marks.{upto-sound, base-sound}
 use Rattle.model.proofs.ReadCases.{bind-cases}
 use Rattle.model.proofs.Simples.{reading-cases}
 use Rattle.model.proofs.Sizes.{upto-size, base-size}
 use Rattle.model.proofs.Streams.{between}
-use Rattle.model.proofs.Unique.{canon-inj}
 use Rattle.walk.specs.Extent.{Wholly, Measures}
 use Rattle.walk.specs.declared.Extent.{Extent}
 use Rattle.walk.specs.declared.Extent.TheVariants.{Whole, Refused}
@@ -33,7 +31,7 @@ use Rattle.blocks.specs.Fronts.{Front}
 use Rattle.marks.specs.Decoded.{Spacious, Decoded, Decodes}
 use Rattle.sheets.specs.Notes.{Noted}
 use Rattle.advanced.specs.Nodes.{Spare}
-use Rattle.advanced.specs.Braced.{TreeAt, Holds}
+use Rattle.advanced.specs.Braced.{Holds}
 use Rattle.advanced.specs.declared.braces.Inside.TheVariants.{NoTree}
 use Rattle.advanced.specs.declared.braces.Inside.TheVariants as inside
 

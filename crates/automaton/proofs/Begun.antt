@@ -8,8 +8,8 @@ use lib.ListN.{length}
 use lib.Dec.{leb, ltb, eqb}
 use borrow.Author.Tests.{lt-ltb, eq-eqb, ne_eqb, eqb-true, eqb-false, leb-false}
 use Rattle.base.specs.Choice.{both}
-use Rattle.base.proofs.Cases.{by_bool, by-eq, pick-cases, picked, unpicked, true-both, among-true}
-use Rattle.model.specs.Automaton.{Phase, between, sizing, counting, filling, bracket, dead, State, state, free, ended, coming, step_at, step, run}
+use Rattle.base.proofs.Cases.{by_bool, pick-cases, picked, unpicked, among-true}
+use Rattle.model.specs.Automaton.{between, sizing, counting, bracket, dead, State, state, free, ended, coming, step_at, step, run}
 use Rattle.model.specs.Count.{Count, shut}
 use Rattle.model.specs.Lexemes.{hinting, close_strict}
 use Rattle.model.specs.Octets.{is_digit}
@@ -17,7 +17,7 @@ use Rattle.model.specs.Strings.{Read, got, refused, bind, number, decimal, first
 use Rattle.model.specs.Tree.{verbatim}
 use Rattle.automaton.specs.Begun.{digits_on, begun, begun_after}
 use Rattle.automaton.proofs.Runs.{dead-run}
-use Rattle.automaton.proofs.Through.{digit-step, hint-step, bracket-step, ready-between, Ready, ready-sizing, verbatim-run}
+use Rattle.automaton.proofs.Through.{digit-step, hint-step, ready-between, Ready, ready-sizing, verbatim-run}
 
 -- a got is no refusal
 not-got : {A G : Type 0} {a : A} {k : List ℕ} → got a k ≡ refused → G

@@ -6,7 +6,7 @@ use Rattle.base.specs.Choice.{chain, is_none}
 use Rattle.model.specs.Decode.{nestings, onto, enclose, place, place_in, only_tree, only_in, nest, decode₁}
 use Rattle.model.specs.Lexemes.{close_strict, strict_lexeme, before, lexemes_by, strict_lexemes}
 use Rattle.model.specs.Strings.{bind, number, decimal, first, after_length, verbatim_of}
-use Rattle.batch.specs.Runs.{first_up_to, first_sheet, Parted, parted, part_up_to, part_run}
+use Rattle.batch.specs.Runs.{first_up_to, first_sheet, parted, part_up_to, part_run}
 
 record Case : Type 0 where
   run : List ℕ

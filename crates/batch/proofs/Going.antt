@@ -1,11 +1,11 @@
 -- The loop over a run's lexemes: what is wanted from here on is what was wanted from the start.
 use Prim.Native.Nat.{ℕ, zero, suc, ◌+◌, ◌-◌, ◌≤◌, ◌<◌}
 use native.Mathlib.Omega.{arith}
-use mathlib.Core.Path.{◌≡◌, refl, sym, ap, ◌∙◌, subst}
+use mathlib.Core.Path.{◌≡◌, refl, sym, ap, subst}
 use mathlib.Core.List.{List, []}
 use lib.ListN.{length, drop, length-append, length-drop, drop_of_length-le}
 use Rattle.model.specs.Lexemes.{Lexeme, opening, closing, atom, hinting, strict_lexeme}
-use Rattle.model.specs.Strings.{got, refused}
+use Rattle.model.specs.Strings.{got}
 use Rattle.model.specs.Tree.{canon}
 use Rattle.model.proofs.Sizes.{verbatim-length}
 use Rattle.canonical.specs.Lexed.{Plainly, Hintedly, ItemAt}

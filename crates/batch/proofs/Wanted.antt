@@ -1,13 +1,10 @@
 -- What a run has to go on with while lists are open, so that its first sheet ends: one lexeme at a time, forwards and back.
 use Prim.Native.Nat.{ℕ, zero, suc}
-use native.Mathlib.Omega.{arith}
 use mathlib.Core.Path.{◌≡◌, refl, sym, ap, ◌∙◌, subst}
-use mathlib.Core.List.{List, [], ◌∷◌, ◌++◌, append_assoc}
-use lib.ListN.{length, length-append}
+use mathlib.Core.List.{List, ◌∷◌, ◌++◌, append_assoc}
 use Rattle.model.specs.Lexemes.{Lexeme, opening, closing, atom, hinting, strict_lexeme}
 use Rattle.model.specs.Strings.{got, refused}
-use Rattle.model.specs.Tree.{Tree, plain, hinted, list, Forest, nil, cons, verbatim, canon, canons}
-use Rattle.model.proofs.Exact.{canon-two}
+use Rattle.model.specs.Tree.{Tree, plain, hinted, list, Forest, nil, cons, canon, canons}
 use Rattle.model.proofs.ReadCases.{never, got_same}
 use Rattle.model.proofs.Strict.{octets_of_lexeme, strict-sound, strict-complete}
 use Rattle.batch.proofs.First.{Begins}

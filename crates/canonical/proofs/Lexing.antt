@@ -8,7 +8,6 @@ use lib.ListN.{length, take, drop, get_or, length-append, length-take, length-dr
 use lib.Seq.{drop-drop}
 use borrow.Author.Tests.{le-leb, lt-leb, eq-eqb, ne_eqb}
 use Rattle.base.proofs.Cases.{by-eq, picked, unpicked, among_in, among-low, among-high}
-use Rattle.model.specs.Edit.{within}
 use Rattle.model.specs.Lexemes.{atom, hinting, close_strict, strict_lexeme}
 use Rattle.model.specs.Octets.{is_digit}
 use Rattle.model.specs.Strings.{got, refused, bind, decimal, first, after_length, verbatim_of}

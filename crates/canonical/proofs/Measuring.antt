@@ -9,9 +9,7 @@ use lib.ListN.{length, drop, get_or, drop_of_length-le}
 use borrow.Author.Tests.{eq-eqb, ne_eqb}
 use Rattle.base.specs.Choice.{chain}
 use Rattle.base.proofs.Cases.{picked, unpicked}
-use Rattle.model.specs.Compare.{same}
 use Rattle.model.specs.Decode.{decode₁}
-use Rattle.model.specs.Edit.{within}
 use Rattle.model.specs.Lexemes.{Lexeme, opening, closing, atom, hinting, strict_lexeme, strict_lexemes}
 use Rattle.model.specs.Strings.{Read, got, refused}
 use Rattle.model.proofs.Exact.{canon-sound}

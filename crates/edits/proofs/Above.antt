@@ -1,13 +1,12 @@
 -- The list directly around a node, after a change: of nodes before the place, of those that came to stand there, of those after it.
 use Prim.Native.Nat.{ℕ, zero, suc, ◌+◌, ◌-◌, ◌≤◌, ◌<◌}
 use native.Mathlib.Omega.{arith}
-use native.Mathlib.Nat.{add-zero, zero-add}
+use native.Mathlib.Nat.{add-zero}
 use mathlib.Core.Path.{◌≡◌, refl, sym, ap, ap₂, ◌∙◌}
-use mathlib.Core.List.{List, [], ◌∷◌, ◌++◌, map}
-use lib.ListN.{length, take, drop, get_or, length-drop, length-map}
-use lib.Seq.{get_or-take, get_or-drop, length-take-le, take_all}
+use mathlib.Core.List.{List, ◌++◌, map}
+use lib.ListN.{length, take, drop, get_or, length-drop}
+use lib.Seq.{get_or-take, get_or-drop, length-take-le}
 use Rattle.base.proofs.Cases.{by_le}
-use Rattle.model.specs.Edit.{one}
 use Rattle.model.specs.Table.{parents, parentss, parent_of}
 use Rattle.model.specs.Tree.{Tree, plain, hinted, list, Forest, nil, cons, nodes, nodess}
 use Rattle.walk.proofs.Tabled.{parents-length, parentss-length}
@@ -15,7 +14,7 @@ use Rattle.edits.specs.Moves.{Change}
 use Rattle.edits.specs.Place.{up_at, up_moved}
 use Rattle.edits.proofs.Changed.{change-moves, change-back}
 use Rattle.edits.proofs.Moved.{in-first, in-second, in-third, get_or-map-in}
-use Rattle.edits.proofs.Parents.{parentss-one, parents-at, lead-ups-length, parents-change, parentss-moved, up-stays, up-shifts}
+use Rattle.edits.proofs.Parents.{parents-change, parentss-moved, up-stays, up-shifts}
 
 -- ---- a tree's own nodes, numbered from k on: but for the first, their parents are its own
 pub inner_up : (u : Tree) (k up i : ℕ) → 0 < i → i < nodes u → get_or (parents u k up) i 0 ≡ k + parent_of u i

@@ -1,16 +1,16 @@
 -- The lists directly around nodes, when something else comes to stand at a place: those of the nodes before it stay, and those of the
 -- nodes after it stay or are shifted by the change in node count.
-use Prim.Native.Nat.{ℕ, zero, suc, ◌+◌, ◌-◌, ◌≤◌, ◌<◌}
+use Prim.Native.Nat.{ℕ, ◌+◌, ◌-◌, ◌≤◌, ◌<◌}
 use native.Mathlib.Omega.{arith}
 use native.Mathlib.Nat.{zero-add}
 use mathlib.Core.Path.{◌≡◌, refl, sym, ap, ap₂, ◌∙◌}
 use mathlib.Core.List.{List, [], ◌∷◌, ◌++◌, append_assoc, append-nil, map}
-use lib.ListN.{length, take, drop, get_or, length-append}
+use lib.ListN.{length, take, drop, length-append}
 use lib.Seq.{take_at, drop_at}
 use borrow.Author.Tests.{lt-ltb, le-ltb}
 use Rattle.base.proofs.Cases.{by_le, picked, unpicked}
 use Rattle.model.specs.Edit.{join, one}
-use Rattle.model.specs.Table.{parents, parentss, parent_of}
+use Rattle.model.specs.Table.{parents, parentss}
 use Rattle.model.specs.Tree.{Tree, plain, hinted, list, Forest, nil, cons, nodes, nodess}
 use Rattle.walk.proofs.Tabled.{parents-length, parentss-length}
 use Rattle.edits.specs.Place.{Place, here, past, down, fill, number, beyond, lead_ups, up_at, trail_ups, up_moved}

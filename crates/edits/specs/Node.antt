@@ -1,6 +1,6 @@
 -- The lists around a node.
 use Rattle.std.specs.Prelude.{ℕ, ◌+◌, Bool, ltb}
-use Rattle.base.specs.Choice.{pick, both}
+use Rattle.base.specs.Choice.{both}
 use Rattle.model.specs.Table.{row_of}
 use Rattle.model.specs.Tree.{Tree}
 

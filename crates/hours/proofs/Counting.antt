@@ -1,18 +1,17 @@
 -- The quarters of a line, and its total.
-use Prim.Native.Nat.{ℕ, zero, suc, ◌+◌, ◌≤◌, ◌<◌, ◌^◌}
+use Prim.Native.Nat.{ℕ, ◌+◌, ◌≤◌}
 use native.Mathlib.Omega.{arith}
 use mathlib.Core.Path.{◌≡◌, refl, sym, ap, ◌∙◌, subst}
-use mathlib.Core.Bool.{Bool, true, false, not}
-use mathlib.Core.Option.{some, none}
+use mathlib.Core.Bool.{true, false, not}
 use lib.Dec.{T}
-use lib.Ieee.{Float, nan, inf, fin, ne, is_nan, binary64, to_bits}
+use lib.Ieee.{Float, nan, inf, fin, ne, is_nan, to_bits}
 use lib.Ieee.Compare.{differs_from_itself, nan_differs}
 use mir.Syntax.{w32}
 use mir.Val.{Fits}
 use Rattle.base.specs.Choice.{is_none}
 use Rattle.model.specs.Answers.{judged, verdict}
-use Rattle.typed.specs.Quarters.{units, count_of, counted, plus, quarters_of, total_by, total_for, total_of}
-use Rattle.typed.specs.Cases.{Totalled, totalled, untotalled}
+use Rattle.typed.specs.Quarters.{units, count_of, counted, plus, quarters_of, total_by, total_of}
+use Rattle.typed.specs.Cases.{totalled, untotalled}
 use Rattle.typed.specs.Asked.{totalling}
 use Rattle.typed.specs.declared.Line.{Line}
 use Rattle.typed.specs.declared.Total.{Total}

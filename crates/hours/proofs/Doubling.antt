@@ -3,16 +3,15 @@ use Prim.Native.Nat.{ℕ, zero, suc, ◌+◌, ◌-◌, ◌*◌, ◌^◌, ◌≤�
 use native.Mathlib.Omega.{arith}
 use native.Mathlib.Nat.{mul_assoc, mul-one, pow-suc, pow-succ'}
 use native.Mathlib.Numerals.{add-one}
-use mathlib.Core.Path.{◌≡◌, refl, sym, ap, ap₂, ◌∙◌, subst}
-use mathlib.Core.Bool.{Bool, not}
-use lib.Dec.{T, leb}
+use mathlib.Core.Path.{◌≡◌, refl, sym, ap, ◌∙◌, subst}
+use mathlib.Core.Bool.{not}
+use lib.Dec.{T}
 use lib.Ieee.{binary64, of_bits, nan_bits}
 use mir.Syntax.{w64}
 use mir.Val.{Fits}
 use borrow.Author.Tests.{le-leb, lt-leb}
 use Rattle.base.proofs.Cases.{picked, unpicked}
 use Rattle.typed.specs.Quarters.{doublings, bits_by, quarter_bits, hours_of, total_by}
-use Rattle.typed.specs.declared.Total.{Total}
 use Rattle.typed.proofs.Exact.{small-finite}
 
 pub record Doubling (n m k : ℕ) : Type 0 where

@@ -19,7 +19,7 @@ use Rattle.tables.specs.Told.{Holds}
 use Rattle.tables.proofs.Claiming.{claim-note, tree-claim}
 use Rattle.tables.proofs.Filling.{front, front-more, front-take, front-all}
 use Rattle.tables.proofs.Telling.{noted-at}
-use Rattle.owned.specs.Owned.{told, Own, Checked}
+use Rattle.owned.specs.Owned.{Own, Checked}
 use Rattle.lookup.specs.Pacing.{OwnTable, Judged, Claims}
 
 -- ---- a table's records, one by one

@@ -9,9 +9,9 @@ use lib.ListN.{length}
 use lib.Dec.{eqb}
 use borrow.Author.Tests.{eqb-true, ne_eqb}
 use Rattle.base.specs.Choice.{both, member}
-use Rattle.base.proofs.Cases.{by_bool, both_true, picked, unpicked, some_same, none-some}
+use Rattle.base.proofs.Cases.{by_bool, both_true, some_same, none-some}
 use Rattle.model.specs.Amended.{Apart}
-use Rattle.model.specs.Decode.{braces, lexeme_in, lexemes}
+use Rattle.model.specs.Decode.{braces, lexemes}
 use Rattle.model.specs.Grammar.{Rules, Whitespaces, no-whitespace}
 use Rattle.model.specs.Lexemes.{Lexeme, opening, closing, atom, hinting, lexeme, before}
 use Rattle.model.specs.Octets.{is_whitespace, is_alpha, is_simple_punc, is_token_start}

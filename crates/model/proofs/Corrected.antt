@@ -3,7 +3,7 @@ use Prim.Native.Nat.{ℕ}
 use mathlib.Core.Path.{◌≡◌, refl}
 use mathlib.Core.Bool.{true}
 use mathlib.Core.List.{List, [], ◌∷◌, ◌++◌, map}
-use lib.ListN.{length, take, drop, replicate}
+use lib.ListN.{length, take, replicate}
 use Rattle.base.specs.Choice.{member, every, equal, chain, is_none}
 use Rattle.model.specs.Answers.{verdict, judged, no_form, the, room_checks, text_checks, settled, fits, fitting, sheet_tree, owns, own_tree, Outcome, unchanged, braced, place_of, telling, filled}
 use Rattle.model.specs.Corrections.{inserted, no_place, inserting_checks, inserting, removed, removing_checks, removing}

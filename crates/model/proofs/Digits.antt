@@ -8,7 +8,7 @@ use lib.Dec.{eqb}
 use borrow.Author.Tests.{lt-ltb, le-ltb, ne_eqb, eqb-true, eqb-false}
 use Rattle.base.specs.Choice.{among}
 use Rattle.base.proofs.Cases.{by_le, by-eq, pick-cases, among-true, among_in}
-use Rattle.model.specs.Strings.{got, number, decimal, first}
+use Rattle.model.specs.Strings.{got, number, decimal}
 use Rattle.model.specs.Tree.{digits_up_to, digits}
 use Rattle.model.proofs.ReadCases.{got_same}
 

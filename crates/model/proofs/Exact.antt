@@ -2,10 +2,10 @@
 use Prim.Native.Nat.{ℕ, ◌*◌, ◌≤◌}
 use native.Mathlib.Omega.{arith}
 use mathlib.Core.Path.{◌≡◌, refl, sym, ap, ◌∙◌, subst}
-use mathlib.Core.Bool.{Bool, true, false}
-use mathlib.Core.Option.{Option, none, some}
-use mathlib.Core.List.{List, [], ◌∷◌, append-nil}
-use lib.ListN.{length, length-append}
+use mathlib.Core.Bool.{Bool, true}
+use mathlib.Core.Option.{Option, some}
+use mathlib.Core.List.{List, [], ◌∷◌}
+use lib.ListN.{length}
 use lib.Dec.{eqb}
 use borrow.Author.Tests.{ne_eqb, eqb-true}
 use Rattle.base.specs.Choice.{member, chain}
@@ -16,7 +16,7 @@ use Rattle.model.specs.Grammar.{Whitespaces, no-whitespace, Base64Chars, Display
 use Rattle.model.specs.Lexemes.{Lexeme, opening, closing, atom, hinting, strict_lexeme, lexemes_by, strict_lexemes}
 use Rattle.model.specs.Octets.{is_whitespace, letter}
 use Rattle.model.specs.Strings.{Read, got, refused, bind, upto, lastly, unbase, verbatim_of}
-use Rattle.model.specs.Tree.{Tree, plain, hinted, list, Forest, nil, cons, verbatim, canon, canons}
+use Rattle.model.specs.Tree.{Tree, plain, hinted, list, Forest, nil, cons, canon}
 use Rattle.model.proofs.Braces.{Lexes, lexes-end, lexes-more, lexes-held, lexemes-sound, lexemes-complete}
 pub use Rattle.model.proofs.Canonical.{unnest-canon, canon-sound, canon-complete, c-sexp-canon, c-sexp-sound, c-sexp-complete, sound₁, complete₁, canon-two}
 use Rattle.model.proofs.Held.{Held}
@@ -25,8 +25,7 @@ use Rattle.model.proofs.Marks.{upto-sound, upto-complete, base-sound, base-compl
 use Rattle.model.proofs.Nesting.{unnest, unnests, nest-sound, nest-complete}
 use Rattle.model.proofs.Unnested.{unnest-inj, unclosed, unempty, leads}
 use Rattle.model.proofs.Rules.{whites-upto, Split, base-64-strip, After, strip-base-64, simple-strip, strip-simple}
-use Rattle.model.proofs.Sizes.{digits-length, verbatim-length, upto-size, base-size, whites-size, advanced-size}
-use Rattle.model.proofs.Strict.{octets_of_lexemes, unnest-octets, strict-all-sound, strict-all-complete}
+use Rattle.model.proofs.Sizes.{upto-size, base-size, whites-size, advanced-size}
 use Rattle.model.proofs.Stripped.{Base64}
 
 -- ---- forms 3 and 4

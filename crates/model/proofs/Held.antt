@@ -1,15 +1,14 @@
 -- Braces where a value may stand: what they hold.
 use Prim.Native.Nat.{ℕ, ◌+◌, ◌≤◌, ◌<◌}
 use native.Mathlib.Omega.{arith}
-use mathlib.Core.Path.{◌≡◌, refl, sym, ap, ◌∙◌, subst}
+use mathlib.Core.Path.{◌≡◌, refl, ap, ◌∙◌, subst}
 use mathlib.Core.Bool.{Bool, true, false}
 use mathlib.Core.Option.{Option, none, some}
 use mathlib.Core.List.{List, [], ◌∷◌, ◌++◌}
 use lib.ListN.{length, length-append}
 use lib.Dec.{eqb}
-use borrow.Author.Tests.{eqb-true}
 use Rattle.base.specs.Choice.{both, member}
-use Rattle.base.proofs.Cases.{pick-cases, picked, unpicked, both_true}
+use Rattle.base.proofs.Cases.{pick-cases, picked, unpicked}
 use Rattle.model.specs.Decode.{decode₁, canonical_of, braces, lexeme_in}
 use Rattle.model.specs.Grammar.{Rules}
 use Rattle.model.specs.Lexemes.{Lexeme, lexeme}
@@ -19,7 +18,7 @@ use Rattle.model.specs.Tree.{Tree, canon}
 use Rattle.model.proofs.Canonical.{canon-sound, canon-complete}
 use Rattle.model.proofs.Lexemes.{lexeme-sound, lexed-short}
 use Rattle.model.proofs.Marks.{upto-sound, upto-complete, base-sound, base-complete}
-use Rattle.model.proofs.ReadCases.{bind-cases, never, got_same}
+use Rattle.model.proofs.ReadCases.{bind-cases, never}
 use Rattle.model.proofs.Simples.{reading-cases}
 use Rattle.model.proofs.Sizes.{upto-size, base-size}
 use Rattle.model.proofs.Stripped.{Upto, Base64}

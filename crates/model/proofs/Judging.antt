@@ -6,7 +6,6 @@ use mathlib.Core.Bool.{Bool, true, false}
 use mathlib.Core.List.{List, ◌∷◌}
 use Rattle.base.proofs.Cases.{picked, unpicked}
 use Rattle.model.specs.Answers.{Check, when, verdict, judged}
-use Rattle.model.specs.Strings.{refused}
 
 module _ {A : Type 0} (cs : List Check) (accepted : A) (refused : ℕ → A) where
   pub judged-accepted : verdict cs ≡ 0 → judged cs accepted refused ≡ accepted

@@ -9,7 +9,6 @@ use lib.ListN.{length}
 use mathlib.Core.Logic.{◌↔◌}
 use lib.Dec.{leb}
 use borrow.Author.Tests.{ne_eqb, leb-true}
-use Rattle.base.specs.Choice.{both}
 use Rattle.base.proofs.Cases.{by-eq, both_true, not-false, among-true}
 use Rattle.model.specs.Amended.{Wider, Apart}
 use Rattle.model.specs.Answers.{no_out_form, fits}

@@ -1,5 +1,5 @@
 -- Reading lexemes is exact.
-use Prim.Native.Nat.{ℕ, zero, suc, ◌<◌}
+use Prim.Native.Nat.{ℕ, ◌<◌}
 use native.Mathlib.Omega.{arith}
 use mathlib.Core.Path.{◌≡◌, refl, sym, ap, ◌∙◌, subst}
 use mathlib.Core.Option.{Option, none, some}
@@ -8,14 +8,14 @@ use lib.ListN.{length}
 use lib.Dec.{eqb}
 use borrow.Author.Tests.{ne_eqb, eqb-true}
 use Rattle.base.specs.Choice.{member}
-use Rattle.base.proofs.Cases.{pick-cases, unpicked, some_same, none-some}
+use Rattle.base.proofs.Cases.{pick-cases, unpicked, none-some}
 use Rattle.model.specs.Amended.{Apart}
 use Rattle.model.specs.Grammar.{Whitespaces, Rules}
 use Rattle.model.specs.Lexemes.{Lexeme, opening, closing, atom, hinting, close_hint, lexeme, before}
 use Rattle.model.specs.Octets.{is_whitespace, is_alpha, is_simple_punc, is_token_start}
-use Rattle.model.specs.Strings.{got, refused, bind, skip, first, marked, simple}
+use Rattle.model.specs.Strings.{got, refused, bind, skip, marked, simple}
 use Rattle.model.proofs.Marks.{skip-whites, whites-skip}
-use Rattle.model.proofs.ReadCases.{bind-cases, never, got_same, list_cases, list-nil, list-cons, read-cases, read-got}
+use Rattle.model.proofs.ReadCases.{bind-cases, never, got_same}
 use Rattle.model.proofs.Simples.{simple-sound, Begun, simple-begun, simple-complete, simple-skip}
 use Rattle.model.proofs.Sizes.{simple-short, whites-size}
 use Rattle.model.proofs.Stripped.{Simple}

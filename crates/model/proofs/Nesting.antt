@@ -7,7 +7,6 @@ use Rattle.base.specs.Choice.{chain}
 use Rattle.base.proofs.Cases.{some_same, none-some, chain-cases}
 use Rattle.model.specs.Decode.{onto, enclose, place, place_in, nestings, only_tree, only_in, nest}
 use Rattle.model.specs.Lexemes.{Lexeme, opening, closing, atom, hinting}
-use Rattle.model.specs.Strings.{first}
 use Rattle.model.specs.Tree.{Tree, plain, hinted, list, Forest, nil, cons}
 
 -- the lexemes of a tree, before others

@@ -2,17 +2,16 @@
 use Prim.Native.Nat.{ℕ, zero, suc, ◌+◌, ◌*◌, ◌≤◌, ◌<◌}
 use native.Mathlib.Omega.{arith}
 use mathlib.Core.Path.{◌≡◌, refl, sym, ap, ◌∙◌}
-use mathlib.Core.Bool.{Bool, true, false}
+use mathlib.Core.Bool.{true, false}
 use mathlib.Core.List.{List, [], ◌∷◌, ◌++◌}
 use lib.ListN.{length}
 use lib.Dec.{leb, ltb, eqb}
 use borrow.Author.Tests.{lt-ltb, le-ltb, le-leb, eq-eqb, ne_eqb, eqb-true, ltb-true, leb-true}
-use Rattle.base.specs.Choice.{pick, among}
-use Rattle.base.proofs.Below.{below, below_at}
+use Rattle.base.specs.Choice.{among}
 use Rattle.base.proofs.Cases.{by_bool, pick-cases, picked, unpicked, among-true}
 use Rattle.model.specs.Amended.{Apart}
 use Rattle.model.specs.Grammar.{Quotable, escaped-octet, escaped-octal, escaped-hex, escaped-cr, escaped-lf, escaped-cr-lf, escaped-lf-cr, Quotables, dquote, quotable, Rules, rules}
-use Rattle.model.specs.Octets.{is_printable, hexval, octval, find, escape}
+use Rattle.model.specs.Octets.{is_printable, hexval, octval}
 use Rattle.model.specs.Strings.{Read, got, refused, bind, past, hex_of, octal_by, octal_of, escaped, piece_of, quoted_by}
 use Rattle.model.proofs.ReadCases.{bind-cases, never, got_same}
 

@@ -9,7 +9,6 @@ use Rattle.base.specs.Choice.{among, member}
 use Rattle.base.proofs.Cases.{by-eq, among-true, among_in}
 use Rattle.model.specs.Grammar.{Whitespaces, no-whitespace, Digits, no_digit, Decimal, zero-decimal, Verbatim, Length, no_length, a-length, Hexadecimals, closing-hash, hexadecimals, Base64Char, base-64-char, Equals, no-equals, Base64Chars, closing-mark, base-64-chars, base-64-end-3, base-64-end-2, SimpleString, verbatim-string, quoted-string, token, hexadecimal, base-64, CSexp, c-string, c-display-string, c-list, CSexps, c-closing-parenthesis, c-sexp, Rules}
 use Rattle.model.specs.Octets.{is_whitespace, is_digit, hexval, letter}
-use Rattle.model.specs.Strings.{decimal, upto}
 use Rattle.model.specs.Tree.{Tree, plain, hinted, list, Forest, nil, cons, digits, verbatim, canon, canons}
 use Rattle.model.proofs.Classes.{hex-unwhite, letter-unwhite}
 use Rattle.model.proofs.Digits.{digits-small, digits_more, digits-ind, digits-next}

@@ -1,8 +1,8 @@
 -- Octets have one spelling in base-64, but for whitespace and "=" at the end: the letters are those that we would write.
-use Prim.Native.Nat.{ℕ, zero, suc, ◌+◌, ◌*◌, ◌/◌, ◌%◌, ◌≤◌, ◌<◌}
+use Prim.Native.Nat.{ℕ, suc, ◌+◌, ◌*◌, ◌/◌, ◌%◌, ◌≤◌, ◌<◌}
 use native.Mathlib.Omega.{arith}
-use mathlib.Core.Path.{◌≡◌, refl, sym, ap, ap₂, ◌∙◌}
-use mathlib.Core.Bool.{Bool, true, false}
+use mathlib.Core.Path.{◌≡◌, refl, sym, ap, ◌∙◌}
+use mathlib.Core.Bool.{Bool, true}
 use mathlib.Core.List.{List, [], ◌∷◌, ◌++◌, append_cancel_right}
 use mathlib.Core.Option.{some}
 use lib.Dec.{eqb, ltb}
@@ -12,7 +12,7 @@ use Rattle.base.proofs.Below.{below, below_at}
 use Rattle.base.proofs.Cases.{by_le, among-high, picked}
 use Rattle.model.specs.Amended.{unspaced, pads, Spelling}
 use Rattle.model.specs.Grammar.{Whitespaces, Base64Chars, octet₁, octet₂, octet₃, rules}
-use Rattle.model.specs.Octets.{is_whitespace, letter, leftover}
+use Rattle.model.specs.Octets.{letter, leftover}
 use Rattle.model.specs.Decode.{decode₂}
 use Rattle.model.specs.Tree.{Tree, canon}
 use Rattle.model.specs.Write.{letter_of}

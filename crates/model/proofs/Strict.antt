@@ -12,7 +12,7 @@ use Rattle.base.specs.Choice.{among}
 use Rattle.base.proofs.Cases.{pick-cases, picked, unpicked, some_same, none-some}
 use Rattle.model.specs.Lexemes.{Lexeme, opening, closing, atom, hinting, stay, close_strict, strict_lexeme, before, lexemes_by, strict_lexemes}
 use Rattle.model.specs.Octets.{is_digit}
-use Rattle.model.specs.Strings.{got, bind, decimal, first, after_length, verbatim_of}
+use Rattle.model.specs.Strings.{got, bind, decimal, after_length, verbatim_of}
 use Rattle.model.specs.Tree.{Tree, plain, hinted, list, Forest, nil, cons, digits, verbatim, canon, canons}
 use Rattle.model.proofs.Digits.{Numeral, numeral, decimal-sound}
 use Rattle.model.proofs.Lexemes.{before-cases}

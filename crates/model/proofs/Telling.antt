@@ -1,13 +1,13 @@
 -- A place is told with refusal 3, and with no other answer.
 use Prim.Native.Nat.{ℕ, zero, suc}
-use mathlib.Core.Path.{◌≡◌, refl, sym, ap, ◌∙◌}
+use mathlib.Core.Path.{◌≡◌, refl, ap, ◌∙◌}
 use mathlib.Core.Bool.{Bool, false}
 use mathlib.Core.Option.{some}
 use mathlib.Core.List.{List, [], ◌∷◌}
 use lib.Dec.{eqb}
 use Rattle.base.specs.Choice.{is_none}
 use Rattle.base.proofs.Cases.{by_bool, unpicked}
-use Rattle.model.specs.Answers.{Check, when, verdict, judged, no_form, the, room_checks, text_checks, Outcome, unchanged, place_of, telling, filled, reading_checks, reading}
+use Rattle.model.specs.Answers.{Check, when, verdict, judged, the, room_checks, text_checks, Outcome, unchanged, place_of, telling, filled, reading_checks, reading}
 use Rattle.model.specs.Decode.{decode}
 use Rattle.model.specs.Limits.{refusal_syntax}
 use Rattle.model.specs.Tree.{Tree}

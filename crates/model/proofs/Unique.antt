@@ -5,7 +5,7 @@ use mathlib.Core.Path.{◌≡◌, refl, sym, ap, ap₂, ◌∙◌}
 use mathlib.Core.List.{List, [], ◌∷◌, ◌++◌, append_assoc, append-nil}
 use lib.ListN.{get_or}
 use Rattle.base.proofs.Cases.{among-true}
-use Rattle.model.specs.Strings.{got, first, verbatim_of}
+use Rattle.model.specs.Strings.{got, verbatim_of}
 use Rattle.model.specs.Tree.{Tree, plain, hinted, list, Forest, nil, cons, verbatim, canon, canons}
 use Rattle.model.proofs.Strict.{Led, led}
 

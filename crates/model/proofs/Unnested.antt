@@ -1,11 +1,10 @@
 -- The lexemes of a tree tell the tree, and where they end.
-use Prim.Native.Nat.{ℕ}
 use mathlib.Core.Path.{◌≡◌, refl, sym, ap, ◌∙◌}
 use mathlib.Core.Option.{Option, none, some}
 use mathlib.Core.List.{List, [], ◌∷◌, ◌++◌, append_assoc, append_cancel_left}
 use Rattle.base.proofs.Cases.{none-some}
 use Rattle.model.specs.Lexemes.{Lexeme, opening, closing, atom, hinting}
-use Rattle.model.specs.Tree.{Tree, plain, hinted, list, Forest, nil, cons, canon}
+use Rattle.model.specs.Tree.{Tree, plain, hinted, list, Forest, nil, cons}
 use Rattle.model.proofs.Nesting.{unnest, unnests}
 use Rattle.model.proofs.Strict.{octets_of_lexemes, unnest-octets}
 use Rattle.model.proofs.Unique.{tree-inj}

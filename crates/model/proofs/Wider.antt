@@ -4,7 +4,7 @@ use mathlib.Core.Path.{◌≡◌, refl, subst}
 use mathlib.Core.Bool.{Bool, true}
 use mathlib.Core.List.{List, [], ◌∷◌}
 use Rattle.model.specs.Tree.{Tree, Forest}
-use Rattle.model.specs.Grammar.{Rules, Quotable, escaped-octet, escaped-octal, escaped-hex, escaped-cr, escaped-lf, escaped-cr-lf, escaped-lf-cr, Quotables, dquote, quotable, Base64Chars, closing-mark, base-64-chars, base-64-end-3, base-64-end-2, SimpleString, verbatim-string, quoted-string, token, hexadecimal, base-64, Display, Value, display-string, list-value, Values, closing-parenthesis, a-whitespace, Basic, b-c-sexp, b-base-64, Advanced, sexp, Language, form-1, form-2, form-3, form-4, braced-value}
+use Rattle.model.specs.Grammar.{Rules, Quotable, escaped-octet, escaped-octal, escaped-hex, escaped-cr, escaped-lf, escaped-cr-lf, escaped-lf-cr, Quotables, dquote, quotable, Base64Chars, closing-mark, base-64-chars, base-64-end-3, base-64-end-2, SimpleString, verbatim-string, quoted-string, token, hexadecimal, base-64, Display, Value, display-string, list-value, Values, closing-parenthesis, a-whitespace, b-c-sexp, b-base-64, Advanced, sexp, Language, form-1, form-2, form-3, form-4, braced-value}
 use Rattle.model.specs.Amended.{Wider}
 
 module _ {ρ σ : Rules} (w : Wider ρ σ) where

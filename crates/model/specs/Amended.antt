@@ -1,5 +1,5 @@
 -- Rules beside those in force: which languages hold at least the same texts, and what two spellings of base-64 have in common.
-use Rattle.std.specs.Prelude.{ℕ, zero, suc, ◌<◌, ◌≤◌, ◌≡◌, Bool, true, List, [], ◌∷◌, ◌++◌}
+use Rattle.std.specs.Prelude.{ℕ, zero, suc, ◌<◌, ◌≤◌, ◌≡◌, true, List, [], ◌∷◌, ◌++◌}
 use Rattle.base.specs.Choice.{pick}
 use Rattle.model.specs.Grammar.{Rules}
 use Rattle.model.specs.Octets.{is_whitespace, octval, leftover, find}

@@ -1,7 +1,7 @@
 -- Inserting and removing (S 8.7, 8.8): what they answer, and what the lent sheet and table hold afterwards. Both are corrections, as
 -- replacing is: rows 7 and 8, then 9, and the tree that they make is put where the sheet stood (`filled`).
 use Rattle.std.specs.Prelude.{ℕ, Bool, not, List, [], ◌∷◌, leb, eqb}
-use Rattle.base.specs.Choice.{pick, is_none}
+use Rattle.base.specs.Choice.{is_none}
 use Rattle.model.specs.Tree.{Tree}
 use Rattle.model.specs.Node.{node_at, has_place}
 use Rattle.model.specs.Edit.{insert, remove}

@@ -1,5 +1,5 @@
 -- What an octet is to the grammar: RFC 9804's ranges, with the values of digits, letters and escapes (S 3.4 to 3.10).
-use Rattle.std.specs.Prelude.{ℕ, ◌+◌, ◌-◌, Bool, true, List, [], ◌∷◌, eqb}
+use Rattle.std.specs.Prelude.{ℕ, ◌+◌, ◌-◌, Bool, List, [], ◌∷◌, eqb}
 use Rattle.base.specs.Choice.{pick, either, among, member}
 
 -- whitespace = SP / HTAB / vtab / CR / LF / ff; S 3.4

@@ -9,7 +9,6 @@ use borrow.Author.Tests.{eqb-true}
 use Rattle.base.specs.Choice.{pick, both, among, member}
 use Rattle.base.proofs.Below.{below, below_at}
 use Rattle.base.proofs.Cases.{pick-cases, both_true, not-true}
-use Rattle.model.specs.Lexemes.{opening, closing}
 use Rattle.model.specs.Octets.{is_whitespace, is_digit, is_alpha, is_simple_punc, is_token_start, is_token_octet, is_printable, hexval, letter}
 use Rattle.octets.specs.Classes.{Class, Classed, Lettered}
 

@@ -2,10 +2,10 @@
 use Prim.Native.Nat.{ℕ}
 use native.Mathlib.Omega.{arith}
 use mathlib.Core.Path.{◌≡◌, refl, sym, ap, ◌∙◌}
-use mathlib.Core.List.{List, [], ◌∷◌}
-use Rattle.model.specs.Edit.{join, within, across, replace, put, put_in, insert, remove}
+use mathlib.Core.List.{[], ◌∷◌}
+use Rattle.model.specs.Edit.{join, within, replace, put, put_in, insert, remove}
 use Rattle.model.specs.Node.{node_at, node_in, node_among}
-use Rattle.model.specs.Tree.{Tree, plain, hinted, list, Forest, nil, cons, nodes}
+use Rattle.model.specs.Tree.{Tree, plain, list, nil, cons, nodes}
 
 -- a string of one octet
 abbrev s : ℕ → Tree

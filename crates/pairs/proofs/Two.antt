@@ -1,10 +1,10 @@
 -- Two places: the whole is what is filled at either, and where each stands does not depend on the other but for its number.
-use Prim.Native.Nat.{ℕ, ◌+◌, ◌≤◌}
+use Prim.Native.Nat.{◌+◌, ◌≤◌}
 use native.Mathlib.Omega.{arith}
-use mathlib.Core.Path.{◌≡◌, refl, sym, ap, ap₂, ◌∙◌}
+use mathlib.Core.Path.{◌≡◌, refl, sym, ap, ap₂}
 use mathlib.Core.List.{[], ◌∷◌}
 use lib.ListN.{length, length-append}
-use Rattle.edits.specs.Place.{Place, here, past, down, fill, before, after, number}
+use Rattle.edits.specs.Place.{Place, here, past, down, fill, before, number}
 use Rattle.edits.proofs.Fill.{fill-length, fill-nodes}
 use Rattle.model.specs.Edit.{join}
 use Rattle.model.specs.Tree.{Tree, plain, hinted, list, Forest, nil, cons, canon, canons, nodes, nodess}

@@ -1,19 +1,18 @@
 -- Node counts hopped over, by notes.
-use Prim.Native.Nat.{ℕ, zero, suc, ◌+◌, ◌-◌, ◌≤◌, ◌<◌}
+use Prim.Native.Nat.{ℕ, suc, ◌+◌, ◌-◌, ◌≤◌, ◌<◌}
 use native.Mathlib.Omega.{arith}
-use mathlib.Core.Path.{◌≡◌, refl, sym, ap, ap₂, ◌∙◌}
-use mathlib.Core.Option.{Option, none, some}
+use mathlib.Core.Path.{◌≡◌, refl, sym, ap, ◌∙◌}
 use mathlib.Core.List.{List}
 use lib.ListN.{length, get_or}
 use lib.Dec.{ltb}
 use borrow.Author.Tests.{lt-ltb, le-ltb, eq-eqb, ne_eqb}
 use Rattle.base.specs.Choice.{pick}
 use Rattle.base.proofs.Cases.{by-eq, picked, unpicked}
-use Rattle.model.specs.Table.{Row, row_numbers}
+use Rattle.model.specs.Table.{Row}
 use Rattle.sheets.specs.Notes.{list_mark}
 use Rattle.sheets.specs.Places.{shift}
-use Rattle.tables.specs.Rows.{row_list, RowIs}
-use Rattle.tables.specs.Told.{row_by, start_part, end_part, third_part, row_at, Readable}
+use Rattle.tables.specs.Rows.{RowIs}
+use Rattle.tables.specs.Told.{row_by, third_part, row_at, Readable}
 use Rattle.tables.specs.declared.rows.Row as coded
 use Rattle.edits.specs.Element.{element}
 use Rattle.plan.specs.Spots.{Counts, Hoppable, Hops, Shown}

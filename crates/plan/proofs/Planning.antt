@@ -1,5 +1,5 @@
 -- The plan: what is found, resized and judged.
-use Prim.Native.Nat.{ℕ, ◌-◌, ◌≤◌, ◌<◌}
+use Prim.Native.Nat.{ℕ, ◌≤◌, ◌<◌}
 use native.Mathlib.Omega.{arith}
 use mathlib.Core.Path.{◌≡◌, refl, sym, ap, ◌∙◌, subst}
 use mathlib.Core.Bool.{Bool, true, false, not}
@@ -21,7 +21,7 @@ use Rattle.tables.specs.Told.{Holds}
 use Rattle.lookup.specs.Noted.{Sheet}
 use Rattle.lookup.proofs.Sheets.{tree_of, sheet-of, Own, own_of}
 use Rattle.lookup.proofs.Sheets as good
-use Rattle.plan.specs.Asked.{changed, given, placeless, change_tree}
+use Rattle.plan.specs.Asked.{changed, given, placeless}
 use Rattle.plan.specs.Spots.{Findable, Finding, Refusing, Finds}
 use Rattle.plan.specs.Planned.{Known, Lends, Sized, Small, AtSpot, Resizable, resized, Plans}
 use Rattle.plan.proofs.Finding.{spot-refused, spot-accepted}

@@ -9,7 +9,7 @@ use lib.Dec.{leb, eqb}
 use borrow.Author.Tests.{le-leb, lt-leb, eq-eqb, ne_eqb}
 use Rattle.base.specs.Choice.{is_none}
 use Rattle.base.proofs.Cases.{by_le, by-eq, unpicked}
-use Rattle.model.specs.Answers.{when, verdict, judged, the, own_tree, unchanged, filled}
+use Rattle.model.specs.Answers.{when, verdict, the, own_tree, filled}
 use Rattle.model.specs.Corrections.{removed, removing_checks, removing}
 use Rattle.model.specs.Edit.{remove}
 use Rattle.model.specs.Table.{records}

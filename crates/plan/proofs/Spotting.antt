@@ -2,18 +2,17 @@
 use Prim.Native.Nat.{ℕ, zero, suc, ◌+◌, ◌-◌, ◌≤◌, ◌<◌}
 use native.Mathlib.Omega.{arith}
 use mathlib.Core.Path.{◌≡◌, refl, sym, ap, ap₂, ◌∙◌, subst}
-use mathlib.Core.Bool.{Bool, true, false, not}
+use mathlib.Core.Bool.{Bool, true, false}
 use mathlib.Core.Option.{Option, none, some}
 use mathlib.Core.List.{List}
 use lib.ListN.{length, take, get_or}
 use lib.Dec.{ltb, eqb}
-use borrow.Author.Tests.{lt-ltb, le-ltb, eq-eqb, ne_eqb}
+use borrow.Author.Tests.{le-ltb, eq-eqb, ne_eqb}
 use Rattle.base.specs.Choice.{pick, is_none}
 use Rattle.base.proofs.Cases.{by_le, picked, unpicked}
 use Rattle.model.specs.Limits.{most_nodes}
-use Rattle.model.specs.Node.{node_at, has_place}
 use Rattle.model.specs.Table.{Row, rows, row_of, row_numbers}
-use Rattle.model.specs.Tree.{Tree, Forest, nil, nodes}
+use Rattle.model.specs.Tree.{Tree, Forest, nodes}
 use Rattle.tables.specs.Rows.{row_list, RowIs}
 use Rattle.tables.specs.Told.{row_at, Readable, Holds}
 use Rattle.tables.specs.declared.rows.Row as coded
@@ -26,7 +25,7 @@ use Rattle.edits.proofs.Demand.{entry_in, entry-some}
 use Rattle.edits.proofs.Find.{nodes-pos}
 use Rattle.edits.proofs.Hop.{element-same}
 use Rattle.plan.specs.Asked.{changed, given, node_of, placeless}
-use Rattle.plan.specs.Spots.{Recorded, Levels, NodeAt, Kept, EntryAt, NoEntry, Entry, Hoppable, Hops, Shown, SlotAt, NoSlot, Slot, SpotOf, Finding, Finds, Findable}
+use Rattle.plan.specs.Spots.{Recorded, Levels, NodeAt, Kept, EntryAt, Entry, Hoppable, Hops, Shown, SlotAt, Slot, SpotOf, Finds, Findable}
 use Rattle.plan.specs.declared.Asked.{Asked}
 use Rattle.plan.specs.declared.Asked.TheVariants.{Replace, Insert, Remove}
 use Rattle.plan.specs.declared.Found.{Found}

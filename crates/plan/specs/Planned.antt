@@ -1,5 +1,5 @@
 -- A change by steps: its spot, the sizes of the new tree, and what rows 7, 8, 9 and 4 to 6 say of it.
-use Rattle.std.specs.Prelude.{ℕ, ◌+◌, ◌-◌, ◌≤◌, ◌<◌, ◌≡◌, Bool, true, not, List, length}
+use Rattle.std.specs.Prelude.{ℕ, ◌+◌, ◌-◌, ◌≤◌, ◌≡◌, Bool, true, not, List, length}
 use Rattle.std.proofs.Math.Option.{some}
 use Rattle.base.specs.Choice.{is_none}
 use Rattle.model.specs.Tree.{Tree, Forest, canon, canons, nodes, nodess, depth, depths}

@@ -1,6 +1,6 @@
 -- Where a change takes place, found by notes: the nodes that give way, their octets, and the lists around them.
-use Rattle.std.specs.Prelude.{ℕ, zero, suc, ◌+◌, ◌-◌, ◌≤◌, ◌<◌, ◌≡◌, Bool, true, false, not, List, length, take, ltb}
-use Rattle.std.proofs.Math.Option.{Option, none, some}
+use Rattle.std.specs.Prelude.{ℕ, zero, suc, ◌+◌, ◌-◌, ◌≤◌, ◌<◌, ◌≡◌, Bool, true, false, not, List, take, ltb}
+use Rattle.std.proofs.Math.Option.{none, some}
 use Rattle.base.specs.Choice.{pick, is_none}
 use Rattle.model.specs.Tree.{Tree, nodes}
 use Rattle.model.specs.Table.{rows, row_of}

@@ -1,15 +1,15 @@
 -- A text taken and judged, its octets put and its table filled: what is left is what the tree that it means gives.
-use Prim.Native.Nat.{ℕ, ◌+◌, ◌*◌, ◌/◌, ◌≤◌, ◌<◌}
+use Prim.Native.Nat.{ℕ, ◌+◌, ◌/◌, ◌≤◌, ◌<◌}
 use native.Mathlib.Omega.{arith}
-use mathlib.Core.Path.{◌≡◌, refl, sym, ap, ap₂, ◌∙◌, subst}
+use mathlib.Core.Path.{◌≡◌, sym, ap, ◌∙◌, subst}
 use mathlib.Core.Bool.{true}
-use mathlib.Core.Option.{Option, none, some}
+use mathlib.Core.Option.{Option}
 use mathlib.Core.List.{List, []}
 use lib.ListN.{length, take, drop, length-take}
 use lib.Seq.{sets}
-use Rattle.model.specs.Answers.{the, Outcome, unchanged_at, place_of, filled}
+use Rattle.model.specs.Answers.{Outcome, unchanged_at, place_of, filled}
 use Rattle.model.specs.Decode.{decode}
-use Rattle.model.specs.Limits.{no_refusal, max_source}
+use Rattle.model.specs.Limits.{no_refusal}
 use Rattle.model.specs.Table.{width, records, table_of}
 use Rattle.model.specs.Tree.{Tree, canon, nodes, depth}
 use Rattle.model.proofs.Laws.{nodes-within-half, small-nodes}
@@ -19,7 +19,7 @@ use Rattle.walk.specs.declared.Extent.TheVariants as extent
 use Rattle.walk.proofs.Tabled.{table-length}
 use Rattle.scan.specs.Writes.{Wrote}
 use Rattle.tables.specs.Told.{Holds, Fillable, Filled}
-use Rattle.texts.specs.Texts.{Takeable, Taken}
+use Rattle.texts.specs.Texts.{Taken}
 use Rattle.texts.proofs.Sizes.{tripled}
 use Rattle.answers.specs.Cases.{outcome, RefusesAt, Refuses}
 use Rattle.answers.specs.declared.Refusal.{Refusal}

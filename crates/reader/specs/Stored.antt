@@ -1,11 +1,11 @@
 -- Reading by steps: what a text's tree, if it has one, gives.
-use Rattle.std.specs.Prelude.{ℕ, ◌*◌, ◌≤◌, ◌≡◌, List, ◌∷◌, length, ltb}
+use Rattle.std.specs.Prelude.{ℕ, ◌*◌, ◌≤◌, ◌≡◌, List, ◌∷◌}
 use Rattle.std.proofs.Math.Option.{Option}
 use Rattle.std.proofs.lemmas.List.Edits.{sets}
-use Rattle.base.specs.Choice.{pick, is_none}
+use Rattle.base.specs.Choice.{is_none}
 use Rattle.model.specs.Tree.{Tree}
 use Rattle.model.specs.Table.{records, table_of}
-use Rattle.model.specs.Limits.{max_depth, most_nodes, max_canonical, no_refusal, refusal_syntax, refusal_depth, refusal_nodes, refusal_size}
+use Rattle.model.specs.Limits.{most_nodes, refusal_syntax}
 use Rattle.model.specs.Answers.{Outcome, when, judged, the, room_checks, filled, unchanged, telling}
 use Rattle.answers.specs.declared.Reading.{Reading}
 use Rattle.answers.specs.declared.Reading.TheVariants as reading

@@ -1,16 +1,15 @@
 -- Rows 4 to 6, judged by sizes.
-use Prim.Native.Nat.{ℕ, ◌-◌, ◌≤◌, ◌<◌}
+use Prim.Native.Nat.{ℕ, ◌≤◌, ◌<◌}
 use native.Mathlib.Omega.{arith}
 use mathlib.Core.Path.{◌≡◌, refl, sym, ap, ◌∙◌}
 use mathlib.Core.Bool.{Bool, true, false}
-use mathlib.Core.Option.{none}
 use mathlib.Core.List.{List}
 use lib.ListN.{length}
 use lib.Dec.{ltb}
 use borrow.Author.Tests.{lt-ltb, le-ltb, ltb-false}
 use Rattle.base.specs.Choice.{pick, either}
 use Rattle.base.proofs.Cases.{pick-cases, picked, unpicked}
-use Rattle.model.specs.Answers.{verdict, the, room_checks}
+use Rattle.model.specs.Answers.{verdict, room_checks}
 use Rattle.model.specs.Limits.{max_depth, max_canonical, no_refusal, refusal_depth, refusal_nodes, refusal_size}
 use Rattle.model.specs.Table.{records}
 use Rattle.model.specs.Tree.{Tree, canon, nodes, depth}

@@ -8,7 +8,7 @@ use mathlib.Core.Option.{some}
 use mathlib.Core.List.{List, ◌∷◌, ◌++◌}
 use lib.ListN.{length, drop, get_or, length-drop, length-append, drop_of_length-le}
 use Rattle.model.specs.Automaton.{State, state, between, start, free, run, place}
-use Rattle.model.specs.Count.{Count, count, shut_by, step}
+use Rattle.model.specs.Count.{count, shut_by, step}
 use Rattle.model.specs.Lexemes.{Lexeme, close_strict, strict_lexeme}
 use Rattle.model.specs.Strings.{got, refused, verbatim_of}
 use Rattle.model.specs.Tree.{verbatim}

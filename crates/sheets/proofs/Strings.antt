@@ -1,20 +1,19 @@
 -- The note of a string that was just written.
 use mir.Syntax.{w64}
 use mir.Val.{Fits}
-use Prim.Native.Nat.{ℕ, ◌+◌, ◌*◌, ◌-◌, ◌≤◌, ◌<◌}
+use Prim.Native.Nat.{ℕ, ◌+◌, ◌-◌, ◌≤◌, ◌<◌}
 use native.Mathlib.Omega.{arith}
-use mathlib.Core.Path.{◌≡◌, refl, sym, ap, ◌∙◌}
+use mathlib.Core.Path.{◌≡◌, sym, ap, ◌∙◌}
 use mathlib.Core.List.{List, ◌∷◌}
 use lib.ListN.{length, set, length-set}
 use Rattle.base.proofs.Cases.{by_le}
-use Rattle.model.specs.Lexemes.{Lexeme, atom, hinting}
+use Rattle.model.specs.Lexemes.{Lexeme}
 use Rattle.model.specs.Limits.{max_source}
-use Rattle.model.specs.Table.{Row, body_start, body_end}
-use Rattle.model.specs.Tree.{digits, verbatim}
+use Rattle.model.specs.Table.{body_start, body_end}
+use Rattle.model.specs.Tree.{digits}
 use Rattle.model.proofs.Sizes.{verbatim-length}
-use Rattle.decimal.specs.Numbers.{Wide}
 use Rattle.decimal.proofs.Writing.{wide-1, wide-2, wide-3, wide-4, wide-5}
-use Rattle.walk.specs.Events.{event, Frame, above, events, string_row, hint_row}
+use Rattle.walk.specs.Events.{event, Frame, above, events}
 use Rattle.sheets.specs.Places.{shift, span_by}
 use Rattle.sheets.specs.Notes.{note_by, note_of, Small}
 use Rattle.sheets.specs.Strung.{Verbatim, Bodied, BodyFrom, Strung, plainly, hintedly, string_row_of, Keepable, KeptString}

@@ -1,14 +1,12 @@
 -- Lines added up, one after the other.
 use Prim.Native.Nat.{ℕ, zero, suc, ◌+◌, ◌-◌, ◌*◌, ◌≤◌, ◌<◌}
 use native.Mathlib.Omega.{arith}
-use mathlib.Core.Path.{◌≡◌, refl, sym, ap, ap₂, ◌∙◌, subst}
+use mathlib.Core.Path.{◌≡◌, refl, sym, ap, ap₂, ◌∙◌}
 use mathlib.Core.List.{List, [], ◌∷◌}
 use mir.Syntax.{w32, w64}
 use mir.Val.{Fits}
-use lib.Dec.{ltb}
 use borrow.Author.Tests.{eq-eqb, ne_eqb, lt-ltb, le-ltb}
 use Rattle.base.proofs.Cases.{picked, unpicked}
-use Rattle.model.specs.Limits.{most_nodes}
 use Rattle.model.specs.Table.{Row, row_of}
 use Rattle.model.specs.Tree.{Tree}
 use Rattle.tables.specs.Rows.{RowIs}
@@ -17,9 +15,8 @@ use Rattle.tables.specs.declared.rows.Row as coded
 use Rattle.typed.specs.Lines.{line_count, elements_up_to, elements, Sum, lines, bad, added, added_by, sum_of, sum_at}
 use Rattle.typed.specs.declared.Count.{Count}
 use Rattle.typed.specs.declared.Count.TheVariants.{Quarters, NoCount}
-use Rattle.shifts.specs.declared.lines.Added.{Added}
 use Rattle.shifts.specs.declared.lines.Added.TheVariants.{Lines, Bad}
-use Rattle.shifts.specs.Known.{row_for, Known, KnownAt, CountAt, sum_for, SumAt}
+use Rattle.shifts.specs.Known.{Known, KnownAt, CountAt, sum_for, SumAt}
 use Rattle.shifts.proofs.Inside.{row_is, row-counted}
 use Rattle.shifts.proofs.Lining.{line-few, line-four}
 

@@ -18,7 +18,7 @@ use Rattle.lookup.proofs.Sheets.{tree_of, none_of, sheet-of}
 use Rattle.lookup.proofs.Sheets as lookup
 use Rattle.typed.specs.Coding.{refusal_not_typed, refusal_not_line}
 use Rattle.typed.specs.Quarters.{quarters_of, total_by, total_for}
-use Rattle.typed.specs.Lines.{typed_row, hours_at, quarters_in, kept_if, line_at, line_count, Sum, lines, sum_at}
+use Rattle.typed.specs.Lines.{typed_row, hours_at, quarters_in, kept_if, line_at, line_count, Sum, sum_at}
 use Rattle.typed.specs.Cases.{unvalued, valued, unlined, lined, unsummed, summed}
 use Rattle.typed.specs.Asked.{node_checks, value_in, node_value, valuing, node_line, lining, node_sum, summed_by, summing}
 use Rattle.typed.specs.declared.Value.{Value}

@@ -1,8 +1,8 @@
 -- A node's record, by its note: its places, and the nodes that it counts.
 use Prim.Native.Nat.{ℕ, zero, suc, ◌+◌, ◌-◌, ◌≤◌, ◌<◌}
 use native.Mathlib.Omega.{arith}
-use mathlib.Core.Path.{◌≡◌, refl, sym, ap, ◌∙◌, subst}
-use mathlib.Core.List.{List, [], ◌∷◌, ◌++◌}
+use mathlib.Core.Path.{◌≡◌, sym, ap, ◌∙◌, subst}
+use mathlib.Core.List.{List, ◌++◌}
 use lib.ListN.{get_or-append, length, get_or}
 use lib.Seq.{get_or-append-add}
 use Rattle.base.proofs.Cases.{by_le}
@@ -14,7 +14,7 @@ use Rattle.tables.specs.Told.{row_at, Readable, Holds}
 use Rattle.tables.specs.declared.rows.Row as coded
 use Rattle.tables.proofs.Telling.{holds_row, holds-readable}
 use Rattle.lookup.proofs.Shown.{Inside, rows_inside}
-use Rattle.shifts.specs.Known.{row_for, Spans, Known, KnownAt}
+use Rattle.shifts.specs.Known.{row_for, Spans, KnownAt}
 
 -- ---- a node counts no more nodes than there are
 

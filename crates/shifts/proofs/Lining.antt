@@ -1,15 +1,15 @@
 -- A line of three amounts, and its quarters.
-use Prim.Native.Nat.{ℕ, ◌+◌, ◌≤◌, ◌<◌}
+use Prim.Native.Nat.{ℕ, ◌+◌, ◌≤◌}
 use native.Mathlib.Omega.{arith}
-use mathlib.Core.Path.{◌≡◌, refl, sym, ap, ◌∙◌, subst}
-use mathlib.Core.Bool.{Bool, true, false}
+use mathlib.Core.Path.{◌≡◌, refl, sym, ap, ◌∙◌}
+use mathlib.Core.Bool.{true}
 use mathlib.Core.Option.{Option, none, some}
 use mathlib.Core.List.{List}
 use lib.Dec.{eqb}
 use lib.Ieee.{Float}
 use borrow.Author.Tests.{eq-eqb, ne_eqb, eqb-true}
-use Rattle.base.specs.Choice.{pick, both}
-use Rattle.base.proofs.Cases.{by_bool, picked, unpicked, true-both, both_true, pick-cases}
+use Rattle.base.specs.Choice.{both}
+use Rattle.base.proofs.Cases.{by_bool, picked, unpicked, true-both, both_true}
 use Rattle.model.specs.Table.{Row, row_of}
 use Rattle.model.specs.Tree.{Tree}
 use Rattle.tables.specs.Rows.{RowIs}
@@ -25,7 +25,7 @@ use Rattle.shifts.specs.declared.strings.Amount.{Amount}
 use Rattle.shifts.specs.declared.strings.Amount.TheVariants.{Of, NoAmount}
 use Rattle.shifts.specs.declared.lines.Found.{Found}
 use Rattle.shifts.specs.declared.lines.Found.TheVariants.{Hours, NoHours}
-use Rattle.shifts.specs.Known.{row_for, Known, KnownAt, amount_of, AmountAt, hours_of, HoursAt, CountAt}
+use Rattle.shifts.specs.Known.{KnownAt, amount_of, AmountAt, hours_of, HoursAt, CountAt}
 use Rattle.shifts.proofs.Inside.{row_is, row-counted}
 
 module _ (c notes : List ℕ) (count node : ℕ) (k : KnownAt c notes count node) (row : coded.Row) (is : RowIs row (row_at notes node)) where

@@ -1,18 +1,14 @@
 -- A string's value, by its record.
-use Prim.Native.Nat.{ℕ, ◌<◌}
+use Prim.Native.Nat.{ℕ}
 use mathlib.Core.Path.{◌≡◌, refl, sym, ap, ◌∙◌}
-use mathlib.Core.Option.{Option, none, some}
 use mathlib.Core.List.{List}
-use lib.ListN.{length}
 use lib.Seq.{slice}
 use lib.Ieee.{Float}
 use lib.IntN.{ℤ}
 use borrow.Author.Tests.{eq-eqb, ne_eqb}
 use Rattle.base.proofs.Cases.{picked, unpicked}
-use Rattle.model.specs.Table.{Row, row_of}
-use Rattle.model.specs.Tree.{Tree}
 use Rattle.tables.specs.Rows.{RowIs}
-use Rattle.tables.specs.Told.{row_at, Holds}
+use Rattle.tables.specs.Told.{row_at}
 use Rattle.tables.specs.declared.rows.Row as coded
 use Rattle.typed.specs.Typed.{kind_of, value_at}
 use Rattle.typed.specs.Lines.{row_kind, typed_row, double_in, amount_in}
@@ -22,7 +18,7 @@ use Rattle.typed.specs.declared.Typing.{Typing}
 use Rattle.typed.specs.declared.Typing.TheVariants.{Is, Untyped}
 use Rattle.shifts.specs.declared.strings.Amount.{Amount}
 use Rattle.shifts.specs.declared.strings.Amount.TheVariants.{Of, NoAmount}
-use Rattle.shifts.specs.Known.{row_for, Known, KnownAt, TypedAt, amount_of, AmountAt}
+use Rattle.shifts.specs.Known.{row_for, KnownAt, TypedAt, amount_of, AmountAt}
 use Rattle.shifts.proofs.Inside.{row_is}
 
 module _ (c : List ℕ) (row : coded.Row) where

@@ -1,5 +1,5 @@
 -- A whole addition, by its start.
-use Prim.Native.Nat.{ℕ, zero, suc, ◌+◌, ◌-◌, ◌≤◌, ◌<◌}
+use Prim.Native.Nat.{ℕ, zero, suc, ◌+◌, ◌-◌}
 use native.Mathlib.Omega.{arith}
 use mathlib.Core.Path.{◌≡◌, refl, sym, ap, ap₂, ◌∙◌}
 use mathlib.Core.Bool.{true, false}
@@ -7,7 +7,7 @@ use mathlib.Core.List.{List, ◌++◌}
 use lib.ListN.{length, length-append, take}
 use lib.Seq.{length-take-le}
 use Rattle.base.proofs.Cases.{differ}
-use Rattle.spools.specs.Adding.{Start, fresh, started, starting, stored, stores, adding}
+use Rattle.spools.specs.Adding.{Start, started, starting, stored, stores, adding}
 use Rattle.spools.specs.Groups.{groups}
 use Rattle.spools.specs.Rules.{Addable}
 use Rattle.spools.specs.Spool.{entry}

@@ -1,7 +1,7 @@
 -- What opening shows, and a start, by what going through the area found.
 use Prim.Native.Nat.{ℕ, ◌+◌, ◌-◌, ◌≤◌, ◌<◌}
 use native.Mathlib.Omega.{arith}
-use mathlib.Core.Path.{◌≡◌, refl, sym, ap, ap₂, ◌∙◌, subst}
+use mathlib.Core.Path.{◌≡◌, sym, ap, ap₂, ◌∙◌, subst}
 use mathlib.Core.Bool.{Bool, true, false, not}
 use mathlib.Core.Option.{none, some}
 use mathlib.Core.List.{List, []}
@@ -13,7 +13,7 @@ use Rattle.model.specs.Limits.{max_canonical}
 use Rattle.model.specs.Tree.{Tree}
 use Rattle.spools.specs.Rules.{Addable, NoRoom}
 use Rattle.spools.specs.Adding.{fresh, started, starting}
-use Rattle.spools.specs.Spool.{entry, spool_of, place_from, shows, Opening as Shown, opening}
+use Rattle.spools.specs.Spool.{entry, spool_of, shows, Opening as Shown, opening}
 use Rattle.spools.proofs.Damaged.{spool-damage}
 use Rattle.spools.proofs.Judged.{none_of, some_of, sheet-of-lent, sheet-of-small, damaged-10, bad-7, room-6, start-of, start-refused, opening_of, opening-none}
 use Rattle.spools.proofs.Placed.{part-octets}

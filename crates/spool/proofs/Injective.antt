@@ -4,9 +4,8 @@ use native.Mathlib.Omega.{arith}
 use mathlib.Core.Path.{◌≡◌, sym, ap}
 use mathlib.Core.Bool.{true, false}
 use mathlib.Core.List.{List}
-use Rattle.spools.specs.Adding.{Adding as State, Start, Added as Whole}
+use Rattle.spools.specs.Adding.{Start, Added as Whole}
 use Rattle.spools.specs.Spool.{Opening as Shown}
-use Rattle.answers.specs.declared.Refusal.{Refusal}
 use Rattle.answers.proofs.Injective.{refusal-injective}
 use Rattle.spool.specs.Cases.{opened, state_of, start_of, added_of}
 use Rattle.spool.specs.declared.Opening.{Opening}

@@ -4,12 +4,12 @@ use native.Mathlib.Omega.{arith}
 use mathlib.Core.Path.{◌≡◌, refl, sym, ap, ◌∙◌, subst}
 use mathlib.Core.Bool.{Bool, true, false, not}
 use mathlib.Core.List.{List, ◌∷◌}
-use lib.ListN.{length, length-append, get_or, take, set, get_or-eq_default}
+use lib.ListN.{length, length-append, get_or, take, get_or-eq_default}
 use lib.Seq.{length-take-le}
 use lib.Dec.{leb, ltb}
 use borrow.Author.Tests.{lt-ltb, le-ltb, le-leb, lt-leb, eq-eqb, ne_eqb, ltb-true, ltb-false, leb-true}
 use Rattle.base.specs.Choice.{pick, both}
-use Rattle.base.proofs.Cases.{by_bool, by_le, by-eq, picked, unpicked, both_true, true-both, not-true, differ}
+use Rattle.base.proofs.Cases.{by_bool, by_le, by-eq, unpicked, both_true, true-both, not-true, differ}
 use Rattle.model.specs.Limits.{max_canonical}
 use Rattle.spools.specs.Adding.{Store, store, lastly, stores, stores_of, going}
 use Rattle.spools.specs.Groups.{groups_up_to, groups}
@@ -20,7 +20,7 @@ use Rattle.spools.proofs.Order.{stores-behind, stores-at-end, lastly-length, las
 use Rattle.spool.specs.Cases.{state_of}
 use Rattle.groups.specs.Octets.{Wide, Long}
 use Rattle.groups.proofs.Octets.{entry-data}
-use Rattle.spool.specs.Stores.{offset_of, stores_of_len, next_of, Stores, NextOf}
+use Rattle.spool.specs.Stores.{offset_of, stores_of_len, Stores, NextOf}
 use Rattle.spool.specs.declared.Adding.{Adding}
 use Rattle.spool.specs.declared.stores.Next.TheVariants.{Body, Octet, Nothing}
 

@@ -1,9 +1,9 @@
 -- How a text of each form is taken.
-use Prim.Native.Nat.{ℕ, ◌*◌, ◌≤◌, ◌<◌}
+use Prim.Native.Nat.{ℕ, ◌≤◌, ◌<◌}
 use native.Mathlib.Omega.{arith}
-use mathlib.Core.Path.{◌≡◌, refl, sym, ap, ◌∙◌, subst}
+use mathlib.Core.Path.{◌≡◌, refl, subst}
 use mathlib.Core.Bool.{Bool, true, false}
-use mathlib.Core.Option.{Option, some}
+use mathlib.Core.Option.{Option}
 use mathlib.Core.List.{List, [], ◌∷◌}
 use lib.ListN.{length, get_or}
 use lib.Dec.{eqb}
@@ -15,7 +15,7 @@ use Rattle.model.specs.Answers.{braced, place_of}
 use Rattle.model.specs.Automaton.{place}
 use Rattle.model.specs.Decode.{nestings, only_tree, only_in, nest, decode₁, decode₂, decode₃, decode}
 use Rattle.model.specs.Lexemes.{lexemes_by, strict_lexemes}
-use Rattle.model.specs.Tree.{Tree, canon}
+use Rattle.model.specs.Tree.{Tree}
 use Rattle.walk.specs.declared.Extent.{Extent}
 use Rattle.texts.specs.Texts.{Takeable, Braced, Enclosed, Coded, Opens, Bare, Taken}
 

@@ -1,6 +1,6 @@
 -- What is asked and told of a text. Advanced text is converted; canonical text, and basic text without braces, is its own octets;
 -- base-64 in braces is decoded first.
-use Rattle.std.specs.Prelude.{ℕ, ◌+◌, ◌*◌, ◌≤◌, ◌<◌, ◌≡◌, Bool, true, false, List, length, take, get_or, ltb}
+use Rattle.std.specs.Prelude.{ℕ, ◌≤◌, ◌<◌, ◌≡◌, Bool, true, false, List, length, take, get_or, ltb}
 use Rattle.std.proofs.Math.Option.{Option, some}
 use Rattle.base.specs.Choice.{pick}
 use Rattle.model.specs.Tree.{Tree, canon, nodes, depth}

@@ -1,15 +1,15 @@
 -- Numbers and their octets.
-use Prim.Native.Nat.{ℕ, zero, suc, ◌+◌, ◌-◌, ◌*◌, ◌/◌, ◌%◌, ◌^◌, ◌≤◌, ◌<◌}
+use Prim.Native.Nat.{ℕ, zero, suc, ◌+◌, ◌-◌, ◌*◌, ◌^◌, ◌≤◌, ◌<◌}
 use native.Mathlib.Omega.{arith}
-use native.Mathlib.Nat.{pow-suc, pow-succ', pow-le-pow_right, lt_of_lt_of_le, le_trans, mul-le-mul_right, mul_assoc, mul-one, one-mul}
-use mathlib.Core.Path.{◌≡◌, refl, sym, ap, ◌∙◌, subst}
-use mathlib.Core.Bool.{Bool, true, false, not, ◌&&◌}
-use mathlib.Core.List.{List, [], ◌∷◌, ◌++◌, map}
-use lib.Dec.{T, ltb, eqb, lit<, lit≤, lt→ltb, ltb→lt}
+use native.Mathlib.Nat.{pow-suc, pow-succ', lt_of_lt_of_le, le_trans, mul-le-mul_right, mul_assoc, mul-one}
+use mathlib.Core.Path.{◌≡◌, sym, ap, ◌∙◌, subst}
+use mathlib.Core.Bool.{true}
+use mathlib.Core.List.{List, [], ◌∷◌, map}
+use lib.Dec.{T, ltb, lt→ltb, ltb→lt}
 use lib.Ieee.Fits.{and_i, and_l, and_r}
 use lib.ListN.{length, get_or, take, drop}
 use lib.Seq.{slice}
-use Rattle.typed.specs.Octets.{be, octs, turned, octets}
+use Rattle.typed.specs.Octets.{be, turned, octets}
 
 -- ---- lists of octets
 

@@ -1,18 +1,17 @@
 -- The double that is a quarter of a count is exactly that.
 use Prim.Native.Nat.{ℕ, zero, suc, ◌+◌, ◌-◌, ◌*◌, ◌/◌, ◌%◌, ◌^◌, ◌≤◌, ◌<◌}
 use native.Mathlib.Omega.{arith}
-use native.Mathlib.Nat.{mul_assoc, mul_comm, mul-one, pow-suc, pow-succ', mul-le-mul_right, mul-lt-mul_of_pos_right, lt_of_lt_of_le, le_trans}
+use native.Mathlib.Nat.{mul_assoc, mul-one, pow-succ'}
 use mathlib.Core.Path.{◌≡◌, refl, sym, ap, ◌∙◌, subst}
-use mathlib.Core.Bool.{Bool, true, false, not}
-use lib.Dec.{T, leb, lit<, lit≤}
-use lib.Pow.{pow-add, pow_pos, pow_mono}
-use lib.Ieee.{Float, binary64, to_bits, of_bits, is_nan, nan_bits}
+use mathlib.Core.Bool.{Bool, not}
+use lib.Dec.{T, leb, lit<}
+use lib.Pow.{pow-add}
+use lib.Ieee.{Float, binary64, to_bits, nan_bits}
 use lib.Ieee.Bits.{to_bits-of_bits, nan_bits_is}
 use borrow.Author.Tests.{le-leb, lt-leb}
-use Rattle.base.specs.Choice.{pick}
 use Rattle.typed.specs.Quarters.{units, doublings, bits_by, quarter_bits, hours_of}
 use Rattle.typed.proofs.Base.{by_le, pick_yes, pick_no}
-use Rattle.typed.proofs.Quarterly.{units-high, units-low}
+use Rattle.typed.proofs.Quarterly.{units-high}
 use Rattle.typed.proofs.Floating.{no-nan-bits}
 
 -- x is exactly n quarters, with the sign clear

@@ -1,10 +1,9 @@
 -- Worked examples, computed from the definitions: that of S 16.6, and each kind's edges.
-use Prim.Native.Nat.{ℕ, ◌^◌, ◌-◌}
+use Prim.Native.Nat.{ℕ}
 use mathlib.Core.Path.{◌≡◌, refl}
 use mathlib.Core.Bool.{true, false}
-use mathlib.Core.Option.{Option, none, some}
 use mathlib.Core.List.{List, [], ◌∷◌, map}
-use lib.IntN.{ℤ, pos, negsuc}
+use lib.IntN.{pos, negsuc}
 use lib.Ieee.{fin, of_bits}
 use Rattle.typed.specs.Typed.{single_of, double_of, whole_of, kind_of, float_of, finite}
 use Rattle.typed.specs.Octets.{signed, shortest, be, octs}
@@ -13,7 +12,6 @@ use Rattle.typed.specs.Quarters.{units, count_of, doublings, bits_by, quarter_bi
 use Rattle.typed.specs.declared.Value.TheVariants.{Single, Double, Whole}
 use Rattle.typed.specs.declared.Typing.{Typing}
 use Rattle.typed.specs.declared.Typing.TheVariants.{Is, Untyped}
-use Rattle.typed.specs.declared.Count.{Count}
 use Rattle.typed.specs.declared.Count.TheVariants.{Quarters, NoCount}
 use Rattle.base.specs.Choice.{equal}
 

@@ -1,13 +1,13 @@
 -- Floats of either format from their octets.
-use Prim.Native.Nat.{ℕ, zero, suc, ◌+◌, ◌-◌, ◌*◌, ◌/◌, ◌%◌, ◌^◌, ◌≤◌, ◌<◌}
+use Prim.Native.Nat.{ℕ, ◌-◌, ◌*◌, ◌%◌, ◌^◌, ◌≤◌, ◌<◌}
 use native.Mathlib.Omega.{arith}
 use mathlib.Core.Path.{◌≡◌, refl, sym, ap, ◌∙◌, subst}
 use mathlib.Core.Bool.{Bool, true, false, not, ◌&&◌}
 use mathlib.Core.List.{List, [], ◌∷◌, map}
-use lib.Dec.{T, eqb, ltb, lit<, lit≤}
-use lib.ListN.{length, get_or}
+use lib.Dec.{T, eqb}
+use lib.ListN.{length}
 use lib.Seq.{slice, length-slice}
-use lib.Ieee.{Float, Format, binary32, binary64, of_bits, nan_bits, top, ones, hid}
+use lib.Ieee.{Float, Format, of_bits, nan_bits, top, ones, hid}
 use lib.Ieee.Bits.{nan_bits_above}
 use borrow.Author.Tests.{lt-ltb, le-ltb, eq-eqb, ne_eqb}
 use mir.Syntax.{w32}
@@ -16,10 +16,8 @@ use Rattle.base.specs.Choice.{pick}
 use Rattle.typed.specs.Octets.{be, turned}
 use Rattle.typed.specs.Typed.{finite, float_of}
 use Rattle.typed.specs.declared.Value.{Value}
-use Rattle.typed.specs.declared.Value.TheVariants.{Single, Double, Whole, Raw}
-use Rattle.typed.specs.declared.Typing.{Typing}
 use Rattle.typed.specs.declared.Typing.TheVariants.{Is, Untyped}
-use Rattle.typed.proofs.Base.{by_le, by-eq, by_bool, pick_yes, pick_no, and_yes, and-no-l, and-no-r}
+use Rattle.typed.proofs.Base.{pick_yes, pick_no, and_yes, and-no-l, and-no-r}
 
 pub unturned : (l : List ℕ) → map (turned false) l ≡ l
 unturned [] = refl

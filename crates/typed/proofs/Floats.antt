@@ -1,27 +1,26 @@
 -- Digits written and read, and the octets of a float.
-use Prim.Native.Nat.{ℕ, zero, suc, ◌+◌, ◌-◌, ◌*◌, ◌/◌, ◌%◌, ◌^◌, ◌≤◌, ◌<◌}
+use Prim.Native.Nat.{ℕ, zero, suc, ◌+◌, ◌*◌, ◌/◌, ◌%◌, ◌^◌, ◌<◌}
 use native.Mathlib.Omega.{arith}
-use native.Mathlib.Nat.{pow-suc, pow-succ', lt_of_lt_of_le, mul_assoc, div-lt_iff_lt-mul, zero-add, add-suc, one-mul, suc_inj}
+use native.Mathlib.Nat.{pow-suc, mul_assoc, div-lt_iff_lt-mul, zero-add, one-mul, suc_inj}
 use mathlib.Core.Path.{◌≡◌, refl, sym, ap, ◌∙◌, subst}
 use mathlib.Core.Bool.{Bool, true, false, not, ◌&&◌}
-use mathlib.Core.List.{List, [], ◌∷◌, ◌++◌, map}
-use lib.Dec.{T, eqb, ltb, lit<, lit≤, lt→ltb}
+use mathlib.Core.List.{List, [], ◌∷◌}
+use lib.Dec.{T, eqb, ltb, lit<, lt→ltb}
 use lib.ListN.{length}
-use lib.Ieee.{Float, nan, Format, binary32, binary64, of_bits, to_bits, fits, is_nan, nan_bits, top, ones, hid}
+use lib.Ieee.{Float, Format, binary32, of_bits, to_bits, fits, is_nan, top, ones, hid}
 use lib.Ieee.Fits.{and_i}
 use lib.Ieee.Bits.{of_bits-to_bits, to_bits-lt, to_bits-of_bits, nan_bits_is, nan_bits_above}
 use mir.Syntax.{w64}
 use mir.Val.{Fits}
 use borrow.Author.Tests.{ltb-true, le-ltb, eqb-true}
-use Rattle.base.specs.Choice.{pick}
-use Rattle.typed.specs.Octets.{be, octs, octets, turned}
+use Rattle.typed.specs.Octets.{be, octs, octets}
 use Rattle.typed.specs.Typed.{finite, float_of}
 use Rattle.typed.specs.declared.Value.{Value}
 use Rattle.typed.specs.declared.Typing.{Typing}
 use Rattle.typed.specs.declared.Typing.TheVariants.{Is, Untyped}
 use Rattle.typed.proofs.Base.{by_bool, pick_yes, pick_no}
 use Rattle.typed.proofs.Digits.{octets-head, octets-rest, be-lt}
-use Rattle.typed.proofs.Floating.{float-made, finite-yes, finite-no, unturned}
+use Rattle.typed.proofs.Floating.{float-made}
 
 -- ---- digits written are read back
 

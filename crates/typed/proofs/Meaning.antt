@@ -1,21 +1,19 @@
 -- The quarters of the bits are those of the number that the logic's IEEE 754 has.
 use Prim.Native.Nat.{ℕ, zero, suc, ◌+◌, ◌-◌, ◌*◌, ◌/◌, ◌%◌, ◌^◌, ◌≤◌, ◌<◌}
 use native.Mathlib.Omega.{arith}
-use native.Mathlib.Nat.{mul_assoc, mul_comm, mul-one, eq_of_mul-eq-mul_right, mul-le-mul, mul-le-mul_left, mul-le-mul_right, mul-lt-mul_of_pos_right, lt_of_lt_of_le, lt_of_le_of_lt, le_trans, div-add-mod', pow-suc}
+use native.Mathlib.Nat.{mul_assoc, mul_comm, mul-one, eq_of_mul-eq-mul_right, mul-le-mul, mul-lt-mul_of_pos_right, lt_of_lt_of_le, pow-suc}
 use mathlib.Core.Path.{◌≡◌, refl, sym, ap, ◌∙◌, subst}
-use mathlib.Core.Bool.{Bool, true, false, not, ◌&&◌, cond}
-use lib.Dec.{T, leb, eqb, ltb, lit<, lit≤, eqb→eq}
-use lib.Pow.{pow-add, pow_pos, pow_mono, field}
-use lib.IntN.{ℤ, pos, negsuc}
-use lib.Ieee.{Float, nan, inf, fin, Format, binary64, of_bits, of_fields, to_bits, fits, up, down, odd, ones, top, hid, is_nan}
-use lib.Ieee.Bits.{of_bits-to_bits, to_bits-lt}
+use mathlib.Core.Bool.{Bool, false, cond}
+use lib.Dec.{T, leb, eqb}
+use lib.Pow.{pow_pos, pow_mono, field}
+use lib.Ieee.{Float, nan, inf, fin, binary64, of_bits, of_fields, to_bits, fits, up, down, odd}
+use lib.Ieee.Bits.{of_bits-to_bits}
 use lib.Ieee.Exact.{HasValue, odd_sign}
-use borrow.Author.Tests.{lt-ltb, le-ltb, le-leb, lt-leb, eq-eqb, ne_eqb}
-use Rattle.base.specs.Choice.{pick}
-use Rattle.typed.specs.Quarters.{units, count_of}
+use borrow.Author.Tests.{lt-leb, ne_eqb}
+use Rattle.typed.specs.Quarters.{units}
 use Rattle.typed.proofs.Quarterly.{units-low, units-high}
 use Rattle.typed.proofs.Exact.{Exactly}
-use Rattle.typed.proofs.Base.{by_le, by-eq, by_bool, pick_yes, pick_no}
+use Rattle.typed.proofs.Base.{by_le, by-eq}
 
 -- ---- the value of a pattern, in units of 2 ^ -1074
 

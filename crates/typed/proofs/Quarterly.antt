@@ -1,17 +1,15 @@
 -- The quarters of a pattern.
-use Prim.Native.Nat.{ℕ, zero, suc, ◌+◌, ◌-◌, ◌*◌, ◌/◌, ◌%◌, ◌^◌, ◌≤◌, ◌<◌}
+use Prim.Native.Nat.{ℕ, ◌+◌, ◌-◌, ◌*◌, ◌/◌, ◌%◌, ◌^◌, ◌≤◌, ◌<◌}
 use native.Mathlib.Omega.{arith}
-use native.Mathlib.Nat.{mod-eq_of_lt, mul-div-mul_right, le-div_iff_mul-le, div-add-mod', mul-pos, mul-lt-mul_of_pos_right, mul-le-mul, mul-le-mul_right, mul-le-mul_left, lt_of_lt_of_le, le_trans, mod-lt, mul-mod_left, mul-div_left, mul_assoc, eq_of_mul-eq-mul_right, lt_of_le_of_lt, div-mul-le_self, le_of_eq}
+use native.Mathlib.Nat.{mod-eq_of_lt, mul-div-mul_right, le-div_iff_mul-le, div-add-mod', mul-pos, mul-lt-mul_of_pos_right, mul-le-mul, mul-le-mul_left, lt_of_lt_of_le, le_trans, mod-lt, mul-mod_left, mul-div_left, mul_assoc, eq_of_mul-eq-mul_right, lt_of_le_of_lt, div-mul-le_self}
 use mathlib.Core.Path.{◌≡◌, refl, sym, ap, ◌∙◌, subst}
-use mathlib.Core.Bool.{Bool, true, false, not, ◌&&◌}
+use mathlib.Core.Bool.{Bool, true, false, ◌&&◌}
 use lib.Dec.{T, leb, ltb, eqb, lit<, lit≤, eqb→eq, leb→le, ltb→lt}
 use lib.Ieee.Fits.{and_l, and_r}
 use lib.Pow.{pow-add, pow_pos, pow_mono}
-use lib.Arith.{digits_mod}
 use borrow.Author.Tests.{lt-ltb, le-ltb, le-leb, lt-leb, eq-eqb, ne_eqb}
 use Rattle.base.specs.Choice.{pick}
 use Rattle.typed.specs.Quarters.{units, count_of}
-use Rattle.typed.specs.declared.Count.{Count}
 use Rattle.typed.specs.declared.Count.TheVariants.{Quarters, NoCount}
 use Rattle.typed.proofs.Base.{by_le, by-eq, by_bool, pick_yes, pick_no, and_yes, and-no-l, and-no-r}
 

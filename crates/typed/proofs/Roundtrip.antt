@@ -1,17 +1,17 @@
 -- What was read is written back, and what is written is read back.
-use Prim.Native.Nat.{ℕ, zero, suc, ◌+◌, ◌-◌, ◌*◌, ◌^◌, ◌≤◌, ◌<◌}
+use Prim.Native.Nat.{ℕ, zero, suc, ◌+◌, ◌^◌, ◌≤◌, ◌<◌}
 use native.Mathlib.Omega.{arith}
 use native.Mathlib.Nat.{one-mul}
 use mathlib.Core.Path.{◌≡◌, refl, sym, ap, ◌∙◌, subst}
-use mathlib.Core.Bool.{Bool, true, false, not, ◌&&◌}
-use mathlib.Core.Option.{Option, none, some}
+use mathlib.Core.Bool.{Bool, true, false, ◌&&◌}
+use mathlib.Core.Option.{none, some}
 use mathlib.Core.List.{List, [], ◌∷◌, map}
 use lib.Dec.{T, leb, eqb}
-use lib.IntN.{ℤ, pos, negsuc}
+use lib.IntN.{ℤ, pos}
 use lib.ListN.{length}
 use lib.Seq.{slice}
-use lib.Ieee.{Float, Format, binary32, binary64, of_bits, to_bits, fits, is_nan, top}
-use borrow.Author.Tests.{le-leb, eqb-true}
+use lib.Ieee.{Float, Format, binary32, binary64, of_bits, to_bits, fits}
+use borrow.Author.Tests.{le-leb}
 use Rattle.base.specs.Choice.{pick}
 use Rattle.base.proofs.Cases.{true-both, picked, pick-cases, none-some, some_same}
 use Rattle.typed.specs.Octets.{be, octs, octets, turned, signed, shortest}
@@ -22,7 +22,7 @@ use Rattle.typed.specs.declared.Value.TheVariants.{Single, Double, Whole, Raw}
 use Rattle.typed.specs.declared.Typing.{Typing}
 use Rattle.typed.specs.declared.Typing.TheVariants.{Is, Untyped}
 use Rattle.typed.proofs.Base.{by_bool, pick_yes, pick_no}
-use Rattle.typed.proofs.Wide.{Wide, joined, more-wide}
+use Rattle.typed.proofs.Wide.{joined, more-wide}
 use Rattle.typed.proofs.Digits.{octets-head, octets-slice, be-lt}
 use Rattle.typed.proofs.Floats.{Size, float-bits, float-coded, be-octs, be-inj, length-octs, octets-octs}
 use Rattle.typed.proofs.Wholly.{half, turned-octets}

@@ -1,27 +1,24 @@
 -- The octets of a whole number.
 use Prim.Native.Nat.{ℕ, zero, suc, ◌+◌, ◌-◌, ◌*◌, ◌/◌, ◌%◌, ◌^◌, ◌≤◌, ◌<◌}
 use native.Mathlib.Omega.{arith}
-use native.Mathlib.Nat.{pow-suc, pow-succ', div-div-eq-div-mul, le-div_iff_mul-le, div-lt_iff_lt-mul, div-one, lt_of_lt_of_le, mul-le-mul_right, le_trans, zero-add, one-mul, suc_inj, pow-le-pow_right, mul-le-mul_left, mul_assoc}
-use native.Mathlib.Numerals.{add-one}
+use native.Mathlib.Nat.{pow-suc, pow-succ', div-div-eq-div-mul, le-div_iff_mul-le, div-lt_iff_lt-mul, div-one}
 use mathlib.Core.Path.{◌≡◌, refl, sym, ap, ◌∙◌, subst}
-use mathlib.Core.Bool.{Bool, true, false, not, ◌&&◌}
-use mathlib.Core.List.{List, [], ◌∷◌, ◌++◌, map}
-use lib.Dec.{T, leb, eqb, ltb, lit<, lit≤}
-use lib.IntN.{ℤ, pos, negsuc}
-use lib.ListN.{length, drop}
-use borrow.Author.Tests.{lt-ltb, le-ltb, le-leb, lt-leb, eq-eqb, ne_eqb}
+use mathlib.Core.Bool.{Bool, true, false}
+use mathlib.Core.List.{List, [], ◌∷◌, map}
+use lib.Dec.{T, leb, eqb, ltb}
+use lib.IntN.{ℤ, pos}
+use lib.ListN.{length}
+use borrow.Author.Tests.{le-ltb, lt-leb, ne_eqb}
 use Rattle.typed.specs.Octets.{be, octs, octets, turned, signed, shortest}
 use Rattle.typed.specs.Typed.{whole_of}
 use Rattle.typed.proofs.Wide.{Wide, joined}
-use Rattle.typed.specs.declared.Value.{Value}
 use Rattle.typed.specs.declared.Value.TheVariants.{Whole}
-use Rattle.typed.specs.declared.Typing.{Typing}
-use Rattle.typed.specs.declared.Typing.TheVariants.{Is, Untyped}
-use Rattle.typed.proofs.Base.{by_le, by-eq, by_bool}
+use Rattle.typed.specs.declared.Typing.TheVariants.{Is}
+use Rattle.typed.proofs.Base.{by-eq}
 use Rattle.typed.proofs.Digits.{octets-head, octets-rest}
 use Rattle.typed.proofs.Floating.{unturned}
 use Rattle.typed.proofs.Wholly.{whole-made, signed-plus, signed-minus, turned-octets, length-turned}
-use Rattle.typed.proofs.Wide.{powers, scaled}
+use Rattle.typed.proofs.Wide.{powers}
 use Rattle.typed.proofs.Floats.{be-octs, length-octs, octets-octs}
 
 -- ---- digits from the front

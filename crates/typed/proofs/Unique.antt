@@ -1,29 +1,24 @@
 -- A value has one list of octets, and octets that are read are written back.
-use Prim.Native.Nat.{ℕ, zero, suc, ◌+◌, ◌-◌, ◌*◌, ◌/◌, ◌%◌, ◌^◌, ◌≤◌, ◌<◌}
+use Prim.Native.Nat.{ℕ, suc, ◌+◌, ◌-◌, ◌*◌, ◌^◌, ◌≤◌, ◌<◌}
 use native.Mathlib.Omega.{arith}
-use native.Mathlib.Nat.{pow-suc, pow-succ', lt_of_lt_of_le, lt_of_le_of_lt, le_trans, mul-le-mul_right, mul-le-mul_left, mul_assoc, mul-one, one-mul, pow-le-pow_right, le_refl}
+use native.Mathlib.Nat.{pow-succ', lt_of_lt_of_le, le_trans, mul-le-mul_right, mul_assoc, mul-one}
 use mathlib.Core.Path.{◌≡◌, refl, sym, ap, ◌∙◌, subst}
 use mathlib.Core.Bool.{Bool, true, false, not, ◌&&◌}
-use mathlib.Core.List.{List, [], ◌∷◌, ◌++◌, map}
-use lib.Dec.{T, leb, eqb, ltb, lit<, lit≤}
-use lib.IntN.{ℤ, pos, negsuc, pos-ne-negsuc}
-use lib.ListN.{length, drop}
-use lib.Seq.{slice, length-slice}
-use lib.Ieee.{Float}
-use borrow.Author.Tests.{lt-ltb, le-ltb, le-leb, lt-leb, eq-eqb, ne_eqb, leb-true}
-use Rattle.base.specs.Choice.{pick}
-use Rattle.typed.specs.Octets.{be, octs, octets, turned, signed, shortest}
-use Rattle.typed.specs.Typed.{single_of, double_of, whole_of, value_at, float_of}
+use mathlib.Core.List.{List, [], ◌∷◌, map}
+use lib.Dec.{T, leb, eqb, ltb}
+use lib.IntN.{ℤ, pos, pos-ne-negsuc}
+use lib.ListN.{length}
+use borrow.Author.Tests.{lt-ltb, le-leb, eq-eqb, ne_eqb, leb-true}
+use Rattle.typed.specs.Octets.{be, octets, turned, signed, shortest}
+use Rattle.typed.specs.Typed.{whole_of}
 use Rattle.typed.proofs.Wide.{joined}
-use Rattle.typed.specs.declared.Value.{Value}
-use Rattle.typed.specs.declared.Value.TheVariants.{Single, Double, Whole, Raw}
-use Rattle.typed.specs.declared.Typing.{Typing}
+use Rattle.typed.specs.declared.Value.TheVariants.{Whole}
 use Rattle.typed.specs.declared.Typing.TheVariants.{Is, Untyped}
 use Rattle.typed.proofs.Base.{by_le, by-eq, by_bool, pick_yes, pick_no}
-use Rattle.typed.proofs.Digits.{octets-head, octets-rest, octets-slice, be-lt}
+use Rattle.typed.proofs.Digits.{octets-head, octets-rest, be-lt}
 use Rattle.typed.proofs.Wholly.{turned-octets, length-turned}
-use Rattle.typed.proofs.Wide.{powers, scaled, longer}
-use Rattle.typed.proofs.Floats.{be-inj, float_one}
+use Rattle.typed.proofs.Wide.{scaled, longer}
+use Rattle.typed.proofs.Floats.{be-inj}
 use Rattle.typed.proofs.Shorten.{turned-back, signed_by}
 
 off : false ≡ true → ⊥

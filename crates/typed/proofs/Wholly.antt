@@ -1,25 +1,23 @@
 -- Whole numbers from their octets.
-use Prim.Native.Nat.{ℕ, zero, suc, ◌+◌, ◌-◌, ◌*◌, ◌/◌, ◌%◌, ◌^◌, ◌≤◌, ◌<◌}
+use Prim.Native.Nat.{ℕ, zero, suc, ◌+◌, ◌-◌, ◌*◌, ◌^◌, ◌≤◌, ◌<◌}
 use native.Mathlib.Omega.{arith}
-use native.Mathlib.Nat.{pow-le-pow_right, lt_of_lt_of_le, le_trans, mul-le-mul, mul-le-mul_right, one-mul}
+use native.Mathlib.Nat.{pow-le-pow_right, lt_of_lt_of_le, mul-le-mul, one-mul}
 use mathlib.Core.Path.{◌≡◌, refl, sym, ap, ◌∙◌, subst}
-use mathlib.Core.Bool.{Bool, true, false, not, ◌&&◌, cond}
+use mathlib.Core.Bool.{Bool, true, false, ◌&&◌, cond}
 use mathlib.Core.List.{List, [], ◌∷◌, map}
-use lib.Dec.{T, leb, eqb, ltb, lit<, lit≤}
+use lib.Dec.{T, leb, ltb, lit<}
 use lib.IntN.{ℤ, pos, negsuc}
 use lib.ListN.{length, get_or}
 use lib.Seq.{slice, length-slice}
 use lib.Ieee.{minus}
-use borrow.Author.Tests.{lt-ltb, le-ltb, le-leb, lt-leb, eq-eqb, ne_eqb}
+use borrow.Author.Tests.{lt-ltb, le-ltb, le-leb, lt-leb}
 use Rattle.base.specs.Choice.{pick}
 use Rattle.typed.specs.Octets.{be, turned, octets, signed, shortest}
 use Rattle.typed.specs.Typed.{whole_of}
-use Rattle.typed.specs.declared.Value.{Value}
-use Rattle.typed.specs.declared.Value.TheVariants.{Single, Double, Whole, Raw}
-use Rattle.typed.specs.declared.Typing.{Typing}
+use Rattle.typed.specs.declared.Value.TheVariants.{Whole}
 use Rattle.typed.specs.declared.Typing.TheVariants.{Is, Untyped}
-use Rattle.typed.proofs.Base.{by_le, by-eq, by_bool, pick_yes, pick_no, and_yes, and-no-l, and-no-r}
-use Rattle.typed.proofs.Digits.{octets-known, octets-head, octets-rest, octets-slice, be-lt, be-turned}
+use Rattle.typed.proofs.Base.{pick_yes, pick_no, and_yes, and-no-l, and-no-r}
+use Rattle.typed.proofs.Digits.{octets-known, octets-rest, octets-slice, be-lt, be-turned}
 use Rattle.typed.proofs.Floating.{unturned}
 use Rattle.typed.proofs.Shortly.{slice-none, slice_first}
 

@@ -1,5 +1,5 @@
 -- What the entries answer: for all inputs, refused ones too (S 10.2 to 10.5).
-use Rattle.std.specs.Prelude.{ℕ, Bool, true, false, List, [], ◌∷◌, leb}
+use Rattle.std.specs.Prelude.{ℕ, true, List, [], ◌∷◌, leb}
 use Rattle.std.proofs.Math.Option.{Option, none, some}
 use Rattle.base.specs.Choice.{is_none}
 use Rattle.model.specs.Limits.{no_refusal, refusal_not_own, refusal_no_node}
@@ -14,8 +14,6 @@ use Rattle.typed.specs.declared.Value.{Value}
 use Rattle.typed.specs.declared.Line.{Line}
 use Rattle.typed.specs.declared.Typing.{Typing}
 use Rattle.typed.specs.declared.Typing.TheVariants.{Is, Untyped}
-use Rattle.typed.specs.declared.Count.{Count}
-use Rattle.typed.specs.declared.Count.TheVariants.{Quarters, NoCount}
 
 -- rows 7 and 8, which come before what is asked of a node
 unfoldable pub node_checks : List ℕ → ℕ → List ℕ → ℕ → ℕ → List Check → List Check

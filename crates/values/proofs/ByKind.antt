@@ -1,14 +1,13 @@
 -- The value by its kind.
 use Prim.Native.Nat.{ℕ}
-use mathlib.Core.Path.{◌≡◌, refl, sym, ap, ◌∙◌, subst}
+use mathlib.Core.Path.{◌≡◌, ◌∙◌}
 use mathlib.Core.List.{List}
 use lib.Seq.{slice}
-use borrow.Author.Tests.{eq-eqb, ne_eqb}
-use Rattle.base.specs.Choice.{pick}
+use borrow.Author.Tests.{ne_eqb}
 use Rattle.typed.specs.Typed.{single_of, double_of, whole_of, value_at}
 use Rattle.typed.specs.declared.Value.TheVariants.{Raw}
 use Rattle.typed.specs.declared.Typing.{Typing}
-use Rattle.typed.specs.declared.Typing.TheVariants.{Is, Untyped}
+use Rattle.typed.specs.declared.Typing.TheVariants.{Is}
 
 module _ (k : ℕ) (src : List ℕ) (s e : ℕ) (r : Typing) where
   pub kind_1 : k ≡ 1 → r ≡ single_of (slice s e src) → r ≡ value_at k src s e

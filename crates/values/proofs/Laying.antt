@@ -1,13 +1,12 @@
 -- What the writers leave.
 use Prim.Native.Nat.{ℕ, zero, suc, ◌+◌, ◌-◌, ◌*◌, ◌%◌, ◌≤◌, ◌<◌, max}
 use native.Mathlib.Omega.{arith}
-use native.Mathlib.Nat.{suc-sub-suc}
 use native.Mathlib.Numerals.{add-one}
 use mathlib.Core.Path.{◌≡◌, refl, sym, ap, ap₂, ◌∙◌, subst}
-use mathlib.Core.Bool.{Bool, true, false, not}
+use mathlib.Core.Bool.{Bool, true, false}
 use mathlib.Core.Option.{Option, none, some}
 use mathlib.Core.List.{List, [], ◌∷◌, ◌++◌, map}
-use lib.Dec.{T, leb, ltb}
+use lib.Dec.{T, ltb}
 use lib.IntN.{ℤ, pos}
 use mir.Syntax.{w64}
 use mir.Val.{SFits, to_z, of_z}
@@ -17,11 +16,11 @@ use lib.Seq.{slice, length-slice, sets}
 use lib.Ieee.{Float, nan, Format, binary32, binary64, to_bits, ne, top, ones, hid}
 use lib.Ieee.Compare.{differs_from_itself}
 use borrow.Author.Tests.{lt-ltb, le-ltb, le-leb, lt-leb}
-use Rattle.base.specs.Choice.{pick, both, is_none}
-use Rattle.base.proofs.Cases.{picked, unpicked, true-both, by_bool, differ}
+use Rattle.base.specs.Choice.{pick, is_none}
+use Rattle.base.proofs.Cases.{picked, unpicked, true-both, by_bool}
 use Rattle.base.proofs.Stores.{sets-all}
-use Rattle.model.specs.Limits.{refusal_size, refusal_not_own}
-use Rattle.model.specs.Answers.{Output, unwritten, settled, verdict, judged}
+use Rattle.model.specs.Limits.{refusal_not_own}
+use Rattle.model.specs.Answers.{settled, verdict, judged}
 use Rattle.scan.specs.Writes.{Wrote}
 use Rattle.answers.specs.Cases.{output, RefusesWriting}
 use Rattle.answers.specs.declared.Writing.{Writing}

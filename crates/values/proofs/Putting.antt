@@ -1,19 +1,19 @@
 -- Writing digits and copies.
 use Prim.Native.Nat.{ℕ, zero, suc, ◌+◌, ◌-◌, ◌*◌, ◌/◌, ◌%◌, ◌^◌, ◌≤◌, ◌<◌}
 use native.Mathlib.Omega.{arith}
-use native.Mathlib.Nat.{pow-suc, pow-le-pow_right, lt_of_lt_of_le, lt_of_le_of_lt, le_trans, mul-le-mul_left, mul_assoc, div-div-eq-div-mul, le-div_iff_mul-le, div-lt_iff_lt-mul, mul-pos, zero-add, one-mul}
+use native.Mathlib.Nat.{pow-suc, pow-le-pow_right, mul_assoc, div-div-eq-div-mul, le-div_iff_mul-le, div-lt_iff_lt-mul, one-mul}
 use native.Mathlib.Numerals.{add-one}
 use mathlib.Core.Path.{◌≡◌, refl, sym, ap, ◌∙◌, subst}
-use mathlib.Core.Bool.{Bool, true, false}
-use mathlib.Core.List.{List, [], ◌∷◌, ◌++◌, map, map-append, append_assoc, append-nil}
-use lib.Dec.{T, lit<, lit≤}
-use lib.ListN.{length, get_or, take, drop, set, length-set}
-use lib.Seq.{slice, length-slice, drop-cons, drop-set-lt, get_or-set_same, get_or-drop, get_or-take, paste, paste-zero, paste-suc, length-paste, take_all}
+use mathlib.Core.Bool.{Bool, true}
+use mathlib.Core.List.{List, [], ◌∷◌, ◌++◌, map, map-append, append_assoc}
+use lib.Dec.{lit<}
+use lib.ListN.{length, drop, set, length-set}
+use lib.Seq.{drop-cons, drop-set-lt, get_or-set_same}
 use mir.Syntax.{w64}
 use mir.Val.{Fits}
 use Rattle.typed.specs.Octets.{octs, turned}
 use Rattle.typed.specs.Coding as coding
-use Rattle.typed.proofs.Wide.{Wide, powers, scaled, more-is}
+use Rattle.typed.proofs.Wide.{Wide, scaled, more-is}
 use Rattle.typed.proofs.Base.{by_le, by-eq}
 
 pub octet-turned : (t : Bool) (d : ℕ) → t ≡ true → 255 - d ≡ turned t d

@@ -6,7 +6,7 @@ use mathlib.Core.Option.{some}
 use mathlib.Core.List.{List}
 use lib.ListN.{length, take}
 use Rattle.base.proofs.Stores.{sets-all}
-use Rattle.model.specs.Answers.{the, settled, fitting, sheet_tree, written}
+use Rattle.model.specs.Answers.{the, settled, sheet_tree, written}
 use Rattle.model.specs.Decode.{decode₁}
 use Rattle.model.specs.Tree.{Tree, canon}
 use Rattle.model.specs.Write.{advanced, basic, encode}

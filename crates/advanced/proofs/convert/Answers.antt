@@ -1,11 +1,8 @@
-use Prim.Native.Nat.{◌-◌}
-use lib.ListN.{length}
-use Rattle.advanced.proofs.Converting.{Converting, convert-none, convert-inside, convert-long, convert-notes, convert-stacks, convert-numbers, convert-more, convert-whole, convert-short}
-use Rattle.advanced.proofs.Stepping.{one-room, one_less, open-on, close-none, close-leaving, close-on, node-low, node-spare, node-none, node-from, node-fits, node-less, node-keepable, node-on}
+use Rattle.advanced.proofs.Converting.{convert-none, convert-inside, convert-long, convert-notes, convert-stacks, convert-numbers, convert-more, convert-whole, convert-short}
+use Rattle.advanced.proofs.Stepping.{one-room, one_less, open-on, close-none, close-leaving, close-on, node-spare, node-none, node-from, node-fits, node-less, node-keepable, node-on}
 use Rattle.advanced.proofs.Hints.{spare-room, node-plain}
 use Rattle.advanced.proofs.Holding.{held-refused, held-less, held-deep, held-many, held-long, held_on}
 use Rattle.advanced.specs.Nodes.{Nodes}
-use mathlib.Core.Logic.{⊎_elim}
 use native.Mathlib.Omega.{arith}
 use borrow.Author.Rules.{rules}
 use Rattle.advanced.proofs.convert.Goals as goal

@@ -1,7 +1,5 @@
 use native.Mathlib.Omega.{arith}
-use lib.ListN.{length}
-use Prim.Native.Nat.{◌-◌}
-use Rattle.batch.proofs.Going.{Going, going_start, going-short, going-other, going-open, going-unopened, going-closed, going-close, plain-less, going-plain, past-plain, hinted-less, going-hinted, past-hinted}
+use Rattle.batch.proofs.Going.{going_start, going-short, going-other, going-open, going-unopened, going-closed, going-close, plain-less, going-plain, past-plain, hinted-less, going-hinted, past-hinted}
 use Rattle.batch.proofs.split.Goals as goal
 
 pub loop-at-init : goal.loop-at-init

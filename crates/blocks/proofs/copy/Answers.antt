@@ -1,5 +1,4 @@
-use Prim.Native.Nat.{◌-◌}
-use Rattle.blocks.proofs.Copies.{Blocked, blocked-none, blocked-on, blocked-end, copied-plain}
+use Rattle.blocks.proofs.Copies.{blocked-none, blocked-on, blocked-end, copied-plain}
 use native.Mathlib.Omega.{arith}
 use Rattle.blocks.proofs.copy.Goals as goal
 

@@ -1,6 +1,5 @@
 use Prim.Native.Nat.{◌-◌}
-use Rattle.blocks.proofs.Copies.{Blocked, blocked-none, blocked-on, blocked-end, copied-plain}
-use native.Mathlib.Omega.{arith}
+use Rattle.blocks.proofs.Copies.{Blocked}
 use Rattle.blocks.proofs.copy.Given as goal
 
 abbrev pub invariant-loop-k : goal.invariant-loop-k

@@ -1,7 +1,7 @@
-use Rattle.decimal.proofs.Reading.{Counting, count_none, count_low, count-high, count-end, capped-more, capped-huge}
+use Rattle.decimal.proofs.Reading.{count_none, count_low, count-high, count-end, capped-more, capped-huge}
 use lib.ListN.{length}
 use native.Mathlib.Omega.{arith}
-use Prim.Native.Nat.{◌-◌, ◌<◌}
+use Prim.Native.Nat.{◌<◌}
 use Rattle.decimal.proofs.number_at.Goals as goal
 
 pub loop-i-init : goal.loop-i-init

@@ -1,7 +1,6 @@
-use Rattle.decimal.proofs.Reading.{Counting, count_none, count_low, count-high, count-end, capped-more, capped-huge}
+use Rattle.decimal.proofs.Reading.{Counting}
 use lib.ListN.{length}
-use native.Mathlib.Omega.{arith}
-use Prim.Native.Nat.{◌-◌, ◌<◌}
+use Prim.Native.Nat.{◌-◌}
 use Rattle.decimal.proofs.number_at.Given as goal
 
 abbrev pub invariant-loop-i : goal.invariant-loop-i

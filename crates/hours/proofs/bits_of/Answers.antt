@@ -1,5 +1,4 @@
-use Prim.Native.Nat.{◌-◌}
-use Rattle.hours.proofs.Doubling.{Doubling, doubling-starts, doubling-mul, doubling-add, doubling-less, doubling-goes, bits-sub, bits-mul, bits-add, bits-made, bits-zero}
+use Rattle.hours.proofs.Doubling.{doubling-starts, doubling-mul, doubling-add, doubling-less, doubling-goes, bits-sub, bits-mul, bits-add, bits-made, bits-zero}
 use native.Mathlib.Omega.{arith}
 use Rattle.hours.proofs.bits_of.Goals as goal
 

@@ -1,6 +1,5 @@
 use Prim.Native.Nat.{◌-◌}
-use Rattle.hours.proofs.Doubling.{Doubling, doubling-starts, doubling-mul, doubling-add, doubling-less, doubling-goes, bits-sub, bits-mul, bits-add, bits-made, bits-zero}
-use native.Mathlib.Omega.{arith}
+use Rattle.hours.proofs.Doubling.{Doubling}
 use Rattle.hours.proofs.bits_of.Given as goal
 
 abbrev pub invariant-loop-m : goal.invariant-loop-m

@@ -1,10 +1,5 @@
-use Rattle.marks.proofs.Taking.{Taking, taking-none}
+use Rattle.marks.proofs.Taking.{taking-none}
 use Rattle.marks.proofs.Letters.{base-space, base-from, base-fits, base-rest-space, padded-fits, padded-end, still, slow-low, slow-room, slow-less, slow-on, slow-rest-low, slow-rest-few, slow-rest-room, slow-end, slow-none}
-use Prim.Native.Nat.{◌-◌}
-use lib.ListN.{length}
-use mathlib.Core.List.{[]}
-use Rattle.model.specs.Strings.{unbase}
-use Rattle.model.proofs.Streams.{between}
 use native.Mathlib.Omega.{arith}
 use borrow.Author.Rules.{rules}
 use Rattle.marks.proofs.base.Goals as goal

@@ -1,12 +1,10 @@
-use Rattle.marks.proofs.Taking.{Taking, taking-none}
-use Rattle.marks.proofs.Letters.{base-space, base-from, base-fits, base-rest-space, padded-fits, padded-end, still, slow-low, slow-room, slow-less, slow-on, slow-rest-low, slow-rest-few, slow-rest-room, slow-end, slow-none}
+use Rattle.marks.proofs.Taking.{Taking}
 use Prim.Native.Nat.{◌-◌}
 use lib.ListN.{length}
 use mathlib.Core.List.{[]}
 use Rattle.model.specs.Grammar.{rules}
 use Rattle.model.specs.Strings.{unbase}
 use Rattle.model.proofs.Streams.{between}
-use native.Mathlib.Omega.{arith}
 use Rattle.marks.proofs.base.Given as goal
 
 abbrev pub invariant-loop-count : goal.invariant-loop-count

@@ -1,6 +1,4 @@
-use Rattle.marks.proofs.Letters.{Grouping, grouping-none, grouping-inside, grouping-end, grouping-room, grouping-on, four_low}
-use Prim.Native.Nat.{◌-◌}
-use lib.ListN.{length}
+use Rattle.marks.proofs.Letters.{grouping-none, grouping-inside, grouping-end, grouping-room, grouping-on, four_low}
 use native.Mathlib.Omega.{arith}
 use Rattle.marks.proofs.groups.Goals as goal
 

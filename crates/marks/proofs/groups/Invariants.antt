@@ -1,7 +1,6 @@
-use Rattle.marks.proofs.Letters.{Grouping, grouping-none, grouping-inside, grouping-end, grouping-room, grouping-on, four_low}
+use Rattle.marks.proofs.Letters.{Grouping}
 use Prim.Native.Nat.{◌-◌}
 use lib.ListN.{length}
-use native.Mathlib.Omega.{arith}
 use Rattle.marks.proofs.groups.Given as goal
 
 abbrev pub invariant-loop-i : goal.invariant-loop-i

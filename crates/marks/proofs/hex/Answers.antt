@@ -1,8 +1,4 @@
-use Prim.Native.Nat.{◌-◌}
-use lib.ListN.{length}
-use Rattle.model.specs.Grammar.{rules}
-use Rattle.model.specs.Strings.{marked}
-use Rattle.marks.proofs.Taking.{Taking, taking-none}
+use Rattle.marks.proofs.Taking.{taking-none}
 use Rattle.marks.proofs.Digits.{hex-space, hex-from, hex-fits, hex-inside, hex-after, hex-room, hex-mark, hex-less, hex-on, hex-end, hex-none}
 use native.Mathlib.Omega.{arith}
 use Rattle.marks.proofs.hex.Goals as goal

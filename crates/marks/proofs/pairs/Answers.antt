@@ -1,7 +1,5 @@
-use Rattle.marks.proofs.Digits.{Pairing, pairing-none, pairing-inside, pairing-end, pairing-room, pairing-on}
+use Rattle.marks.proofs.Digits.{pairing-none, pairing-inside, pairing-end, pairing-room, pairing-on}
 use Rattle.hexadecimal.proofs.Digits.{digit-by-class}
-use Prim.Native.Nat.{◌-◌}
-use lib.ListN.{length}
 use native.Mathlib.Omega.{arith}
 use Rattle.marks.proofs.pairs.Goals as goal
 

@@ -1,8 +1,6 @@
-use Rattle.marks.proofs.Digits.{Pairing, pairing-none, pairing-inside, pairing-end, pairing-room, pairing-on}
-use Rattle.hexadecimal.proofs.Digits.{digit-by-class}
+use Rattle.marks.proofs.Digits.{Pairing}
 use Prim.Native.Nat.{◌-◌}
 use lib.ListN.{length}
-use native.Mathlib.Omega.{arith}
 use Rattle.marks.proofs.pairs.Given as goal
 
 abbrev pub invariant-loop-i : goal.invariant-loop-i

@@ -1,9 +1,5 @@
 use Rattle.marks.proofs.Pieces.{quotes-inside, quotes-from, quotes-source, quotes-space, quotes-after, quotes-room, one_less, gone-less, quotes-one, quotes-gone, quotes-end, quotes-none}
-use Rattle.model.specs.Grammar.{rules}
-use Rattle.model.specs.Strings.{marked}
-use Rattle.marks.proofs.Taking.{Taking, taking-none}
-use Prim.Native.Nat.{◌-◌}
-use lib.ListN.{length}
+use Rattle.marks.proofs.Taking.{taking-none}
 use native.Mathlib.Omega.{arith}
 use Rattle.marks.proofs.quotes.Goals as goal
 

@@ -1,5 +1,3 @@
-use Rattle.moves.specs.Moved.{Lowering}
-use Prim.Native.Nat.{◌-◌}
 use native.Mathlib.Omega.{arith}
 use Rattle.moves.proofs.Cells.{down-start, down-one, down-long, down-end}
 use Rattle.moves.proofs.lower.Goals as goal

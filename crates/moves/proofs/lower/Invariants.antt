@@ -1,7 +1,5 @@
 use Rattle.moves.specs.Moved.{Lowering}
 use Prim.Native.Nat.{◌-◌}
-use native.Mathlib.Omega.{arith}
-use Rattle.moves.proofs.Cells.{down-start, down-one, down-long, down-end}
 use Rattle.moves.proofs.lower.Given as goal
 
 abbrev pub invariant-loop-j : goal.invariant-loop-j

@@ -1,6 +1,4 @@
-use Prim.Native.Nat.{◌-◌}
 use native.Mathlib.Omega.{arith}
-use Rattle.moves.specs.Moved.{Lowering}
 use Rattle.moves.proofs.Cells.{down-start, down-block, down-long}
 use Rattle.moves.proofs.lower_blocks.Goals as goal
 

@@ -1,7 +1,5 @@
 use Prim.Native.Nat.{◌-◌}
-use native.Mathlib.Omega.{arith}
 use Rattle.moves.specs.Moved.{Lowering}
-use Rattle.moves.proofs.Cells.{down-start, down-block, down-long}
 use Rattle.moves.proofs.lower_blocks.Given as goal
 
 abbrev pub invariant-loop-j : goal.invariant-loop-j

@@ -1,4 +1,3 @@
-use Rattle.moves.specs.Moved.{Raising}
 use native.Mathlib.Omega.{arith}
 use Rattle.moves.proofs.Cells.{up_start, up_one, up-long, up-end}
 use Rattle.moves.proofs.raise.Goals as goal

@@ -1,6 +1,4 @@
 use Rattle.moves.specs.Moved.{Raising}
-use native.Mathlib.Omega.{arith}
-use Rattle.moves.proofs.Cells.{up_start, up_one, up-long, up-end}
 use Rattle.moves.proofs.raise.Given as goal
 
 abbrev pub invariant-loop-j : goal.invariant-loop-j

@@ -1,6 +1,4 @@
-use native.Mathlib.Omega.{arith}
 use Rattle.moves.specs.Moved.{Raising}
-use Rattle.moves.proofs.Cells.{up_start, up-block, up-long}
 use Rattle.moves.proofs.raise_blocks.Given as goal
 
 abbrev pub invariant-loop-j : goal.invariant-loop-j

@@ -1,6 +1,5 @@
-use Prim.Native.Nat.{◌-◌}
 use native.Mathlib.Omega.{arith}
-use Rattle.moves.proofs.Cells.{Zeroing, zero-start, zero-on, zero-long, zero-end}
+use Rattle.moves.proofs.Cells.{zero-start, zero-on, zero-long, zero-end}
 use Rattle.moves.proofs.zero.Goals as goal
 
 pub loop-j-init : goal.loop-j-init

@@ -1,6 +1,5 @@
 use Prim.Native.Nat.{◌-◌}
-use native.Mathlib.Omega.{arith}
-use Rattle.moves.proofs.Cells.{Zeroing, zero-start, zero-on, zero-long, zero-end}
+use Rattle.moves.proofs.Cells.{Zeroing}
 use Rattle.moves.proofs.zero_numbers.Given as goal
 
 abbrev pub invariant-loop-j : goal.invariant-loop-j

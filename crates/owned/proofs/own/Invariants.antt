@@ -1,7 +1,6 @@
-use native.Mathlib.Omega.{arith}
 use Prim.Native.Nat.{◌-◌}
 use lib.ListN.{length}
-use Rattle.owned.proofs.Owning.{Standing, own-start, stand-on, stand-last, own-up, own-inside, own-short, own-full, shut_none, shut-ready, shut-off, shut-on, own_meets, own-few, own-unread, own-note, own-fits, plain-off, plain-less, plain-on, begin-off, begin-on, hint-off, hint-less, hint-on}
+use Rattle.owned.proofs.Owning.{Standing}
 use Rattle.owned.proofs.own.Given as goal
 
 abbrev pub invariant-loop-nodes : goal.invariant-loop-nodes

@@ -1,7 +1,7 @@
 -- `read` calls itself once, for basic text outside braces; its form falls.
 use native.Mathlib.Omega.{arith}
 use Rattle.texts.proofs.Sizes.{formed, formed-long}
-use Rattle.reader.proofs.Entry.{bare-less, read-bare, read-refused, read_taken}
+use Rattle.reader.proofs.Entry.{read-bare, read-refused, read_taken}
 use Rattle.reader.proofs.+read.Goals as goal
 
 pub returns-then-row-gt0 : goal.returns-then-row-gt0

@@ -1,6 +1,5 @@
 use native.Mathlib.Omega.{arith}
-use Prim.Native.Nat.{◌-◌}
-use Rattle.scan.proofs.Reaching.{Reaching, reach-none, reach-stop, reach-on, stop-second, stop-third, stop-fourth, reach-four}
+use Rattle.scan.proofs.Reaching.{reach-none, reach-stop, reach-on, stop-second, stop-third, stop-fourth, reach-four}
 use Rattle.scan.proofs.class_end.Goals as goal
 
 pub loop-i-init : goal.loop-i-init

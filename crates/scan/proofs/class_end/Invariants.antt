@@ -1,6 +1,5 @@
-use native.Mathlib.Omega.{arith}
 use Prim.Native.Nat.{◌-◌}
-use Rattle.scan.proofs.Reaching.{Reaching, reach-none, reach-stop, reach-on, stop-second, stop-third, stop-fourth, reach-four}
+use Rattle.scan.proofs.Reaching.{Reaching}
 use Rattle.scan.proofs.class_end.Given as goal
 
 abbrev pub invariant-loop-i : goal.invariant-loop-i

@@ -1,6 +1,5 @@
-use Prim.Native.Nat.{◌-◌}
 use native.Mathlib.Omega.{arith}
-use Rattle.scan.proofs.Reaching.{Reaching, reach-none, reach-more, reach-stop, reach-end}
+use Rattle.scan.proofs.Reaching.{reach-none, reach-more, reach-stop, reach-end}
 use Rattle.scan.proofs.class_rest.Goals as goal
 
 pub loop-i-init : goal.loop-i-init

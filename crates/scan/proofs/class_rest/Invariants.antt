@@ -1,6 +1,5 @@
 use Prim.Native.Nat.{◌-◌}
-use native.Mathlib.Omega.{arith}
-use Rattle.scan.proofs.Reaching.{Reaching, reach-none, reach-more, reach-stop, reach-end}
+use Rattle.scan.proofs.Reaching.{Reaching}
 use Rattle.scan.proofs.class_rest.Given as goal
 
 abbrev pub invariant-loop-i : goal.invariant-loop-i

@@ -1,6 +1,5 @@
-use Rattle.scan.proofs.Copies.{Copying, copy-none, copy-on, copy-end}
+use Rattle.scan.proofs.Copies.{copy-none, copy-on, copy-end}
 use native.Mathlib.Omega.{arith}
-use Prim.Native.Nat.{◌-◌}
 use Rattle.scan.proofs.copy.Goals as goal
 
 pub loop-k-init : goal.loop-k-init

@@ -1,5 +1,4 @@
-use Rattle.scan.proofs.Copies.{Copying, copy-none, copy-on, copy-end}
-use native.Mathlib.Omega.{arith}
+use Rattle.scan.proofs.Copies.{Copying}
 use Prim.Native.Nat.{◌-◌}
 use Rattle.scan.proofs.copy.Given as goal
 

@@ -1,7 +1,5 @@
-use Prim.Native.Nat.{◌-◌}
 use native.Mathlib.Omega.{arith}
-use lib.ListN.{length}
-use Rattle.scan.proofs.Skips.{Skipping, skip-none, skip-more, skip-low, skip-high, skip-end}
+use Rattle.scan.proofs.Skips.{skip-none, skip-more, skip-low, skip-high, skip-end}
 use Rattle.scan.proofs.skip_at.Goals as goal
 
 pub loop-i-init : goal.loop-i-init

@@ -1,7 +1,6 @@
 use Prim.Native.Nat.{◌-◌}
-use native.Mathlib.Omega.{arith}
 use lib.ListN.{length}
-use Rattle.scan.proofs.Skips.{Skipping, skip-none, skip-more, skip-low, skip-high, skip-end}
+use Rattle.scan.proofs.Skips.{Skipping}
 use Rattle.scan.proofs.skip_at.Given as goal
 
 abbrev pub invariant-loop-i : goal.invariant-loop-i

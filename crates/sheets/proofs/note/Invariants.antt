@@ -1,7 +1,6 @@
 use Prim.Native.Nat.{◌-◌}
 use lib.ListN.{length}
-use Rattle.sheets.proofs.Noting.{Noting, note-start, note-long, note-stack, note-more, note-whole, note-short, open-on, close-refused, close-leaving, close-on, plain-small, plain-less, plain-on, other-refused, unhinted-refused, hint-room, unfollowed-refused, hint-small, hint-less, hint-on}
-use native.Mathlib.Omega.{arith}
+use Rattle.sheets.proofs.Noting.{Noting}
 use Rattle.sheets.proofs.note.Given as goal
 
 abbrev pub invariant-loop-starts : goal.invariant-loop-starts

@@ -1,6 +1,5 @@
 use native.Mathlib.Omega.{arith}
-use Prim.Native.Nat.{◌-◌}
-use Rattle.spelling.proofs.Judging.{Printing, print-start, print-other, print-white, print-on, print-end}
+use Rattle.spelling.proofs.Judging.{print-start, print-other, print-white, print-on, print-end}
 use Rattle.spelling.proofs.printable.Goals as goal
 
 pub loop-i-init : goal.loop-i-init

@@ -1,6 +1,5 @@
-use native.Mathlib.Omega.{arith}
 use Prim.Native.Nat.{◌-◌}
-use Rattle.spelling.proofs.Judging.{Printing, print-start, print-other, print-white, print-on, print-end}
+use Rattle.spelling.proofs.Judging.{Printing}
 use Rattle.spelling.proofs.printable.Given as goal
 
 abbrev pub invariant-loop-i : goal.invariant-loop-i

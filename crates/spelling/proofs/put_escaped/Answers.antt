@@ -1,6 +1,5 @@
 use native.Mathlib.Omega.{arith}
-use Prim.Native.Nat.{◌-◌}
-use Rattle.spelling.proofs.Spellings.{Escapes, escape-start, escape-room, copy-source, copy-room, escape-on, escape_end, escape-long}
+use Rattle.spelling.proofs.Spellings.{escape-start, escape-room, copy-source, copy-room, escape-on, escape_end, escape-long}
 use Rattle.spelling.proofs.put_escaped.Goals as goal
 
 pub loop-i-init : goal.loop-i-init

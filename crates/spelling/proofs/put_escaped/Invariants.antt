@@ -1,6 +1,5 @@
-use native.Mathlib.Omega.{arith}
 use Prim.Native.Nat.{◌-◌}
-use Rattle.spelling.proofs.Spellings.{Escapes, escape-start, escape-room, copy-source, copy-room, escape-on, escape_end, escape-long}
+use Rattle.spelling.proofs.Spellings.{Escapes}
 use Rattle.spelling.proofs.put_escaped.Given as goal
 
 abbrev pub invariant-loop-i : goal.invariant-loop-i

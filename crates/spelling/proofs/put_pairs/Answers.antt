@@ -1,6 +1,5 @@
 use native.Mathlib.Omega.{arith}
-use Prim.Native.Nat.{◌-◌}
-use Rattle.spelling.proofs.Spellings.{Pairing, pair-start, pair-room, pair-on, pair_end, pair-long}
+use Rattle.spelling.proofs.Spellings.{pair-start, pair-room, pair-on, pair_end, pair-long}
 use Rattle.spelling.proofs.put_pairs.Goals as goal
 
 pub loop-i-init : goal.loop-i-init

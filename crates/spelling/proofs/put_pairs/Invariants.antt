@@ -1,6 +1,5 @@
-use native.Mathlib.Omega.{arith}
 use Prim.Native.Nat.{◌-◌}
-use Rattle.spelling.proofs.Spellings.{Pairing, pair-start, pair-room, pair-on, pair_end, pair-long}
+use Rattle.spelling.proofs.Spellings.{Pairing}
 use Rattle.spelling.proofs.put_pairs.Given as goal
 
 abbrev pub invariant-loop-i : goal.invariant-loop-i

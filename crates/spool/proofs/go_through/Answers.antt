@@ -1,6 +1,4 @@
-use Rattle.spool.proofs.Scans.{Scanning, scan-none, scan-zero, scan-less, scan-next, scan-damaged, scan-end}
-use lib.ListN.{length}
-use Prim.Native.Nat.{◌-◌}
+use Rattle.spool.proofs.Scans.{scan-none, scan-zero, scan-less, scan-next, scan-damaged, scan-end}
 use native.Mathlib.Omega.{arith}
 use Rattle.spool.proofs.go_through.Goals as goal
 

@@ -1,7 +1,6 @@
-use Rattle.spool.proofs.Scans.{Scanning, scan-none, scan-zero, scan-less, scan-next, scan-damaged, scan-end}
+use Rattle.spool.proofs.Scans.{Scanning}
 use lib.ListN.{length}
 use Prim.Native.Nat.{◌-◌}
-use native.Mathlib.Omega.{arith}
 use Rattle.spool.proofs.go_through.Given as goal
 
 abbrev pub invariant-loop-at : goal.invariant-loop-at

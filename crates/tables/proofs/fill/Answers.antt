@@ -1,5 +1,4 @@
-use Prim.Native.Nat.{◌-◌}
-use Rattle.tables.proofs.Filling.{Filling, fill_start, fill-readable, fill_on, fill-long, fill_end}
+use Rattle.tables.proofs.Filling.{fill_start, fill-readable, fill_on, fill-long, fill_end}
 use native.Mathlib.Omega.{arith}
 use Rattle.tables.proofs.fill.Goals as goal
 

@@ -1,6 +1,5 @@
 use Prim.Native.Nat.{◌-◌}
-use Rattle.tables.proofs.Filling.{Filling, fill_start, fill-readable, fill_on, fill-long, fill_end}
-use native.Mathlib.Omega.{arith}
+use Rattle.tables.proofs.Filling.{Filling}
 use Rattle.tables.proofs.fill.Given as goal
 
 abbrev pub invariant-loop-k : goal.invariant-loop-k

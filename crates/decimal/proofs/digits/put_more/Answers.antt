@@ -1,5 +1,5 @@
 use native.Mathlib.Omega.{arith}
-use Rattle.decimal.proofs.Writing.{More, some-width, more-first, more-inside, more-below, more-power, more-large, more-again, more-octet, more-digit, more-last}
+use Rattle.decimal.proofs.Writing.{some-width, more-first, more-inside, more-below, more-power, more-large, more-again, more-octet, more-digit, more-last}
 use Rattle.decimal.proofs.digits.put_more.Goals as goal
 
 pub overflow_sub-k : goal.overflow_sub-k

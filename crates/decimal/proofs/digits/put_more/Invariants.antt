@@ -1,5 +1,4 @@
-use native.Mathlib.Omega.{arith}
-use Rattle.decimal.proofs.Writing.{More, some-width, more-first, more-inside, more-below, more-power, more-large, more-again, more-octet, more-digit, more-last}
+use Rattle.decimal.proofs.Writing.{More}
 use Rattle.decimal.proofs.digits.put_more.Given as goal
 
 abbrev pub invariant-loop-k : goal.invariant-loop-k

@@ -1,7 +1,5 @@
 use native.Mathlib.Omega.{arith}
-use Prim.Native.Nat.{◌-◌}
-use lib.ListN.{length}
-use Rattle.lookup.proofs.SideBySide.{match-start, match-short, left-reads, right-reads, match-less, match-on, match-differs, match-end, Matching}
+use Rattle.lookup.proofs.SideBySide.{match-start, match-short, left-reads, right-reads, match-less, match-on, match-differs, match-end}
 use Rattle.lookup.proofs.Spans.{left-span, right-span, spans-less, spans_on, spans-differ}
 use Rattle.lookup.proofs.alike.alike.Goals as goal
 

@@ -1,7 +1,6 @@
 use native.Mathlib.Omega.{arith}
-use Prim.Native.Nat.{◌-◌}
 use Rattle.base.proofs.Lists.{front_length}
-use Rattle.lookup.proofs.Pacing.{Claiming, claims-none, claims-start, claims-record, claims-room, claims-less, claims-on, claims-long, claims-lost, claims-checkable, claims-end}
+use Rattle.lookup.proofs.Pacing.{claims-none, claims-start, claims-record, claims-room, claims-less, claims-on, claims-long, claims-lost, claims-checkable, claims-end}
 use Rattle.lookup.proofs.noted.own_notes.Goals as goal
 
 pub returns-then-bound-eq0 : goal.returns-then-bound-eq0

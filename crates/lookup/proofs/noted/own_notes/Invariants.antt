@@ -1,7 +1,5 @@
-use native.Mathlib.Omega.{arith}
 use Prim.Native.Nat.{◌-◌}
-use Rattle.base.proofs.Lists.{front_length}
-use Rattle.lookup.proofs.Pacing.{Claiming, claims-none, claims-start, claims-record, claims-room, claims-less, claims-on, claims-long, claims-lost, claims-checkable, claims-end}
+use Rattle.lookup.proofs.Pacing.{Claiming}
 use Rattle.lookup.proofs.noted.own_notes.Given as goal
 
 abbrev pub invariant-loop-k : goal.invariant-loop-k

@@ -1,6 +1,4 @@
 use native.Mathlib.Omega.{arith}
-use Prim.Native.Nat.{◌-◌, ◌≤◌}
-use Rattle.lookup.specs.Agreed.{Block}
 use Rattle.lookup.proofs.Agreeing.{block_none, block_on, block-end}
 use borrow.Author.Rules.{rules}
 use Rattle.lookup.proofs.parts.block_equal.Goals as goal

@@ -1,7 +1,5 @@
-use native.Mathlib.Omega.{arith}
 use Prim.Native.Nat.{◌-◌, ◌≤◌}
 use Rattle.lookup.specs.Agreed.{Block}
-use Rattle.lookup.proofs.Agreeing.{block_none, block_on, block-end}
 use Rattle.lookup.proofs.parts.block_equal.Given as goal
 
 abbrev pub invariant-loop-k : goal.invariant-loop-k

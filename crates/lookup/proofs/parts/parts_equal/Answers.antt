@@ -1,7 +1,4 @@
 use native.Mathlib.Omega.{arith}
-use Prim.Native.Nat.{◌-◌}
-use lib.ListN.{length}
-use Rattle.lookup.specs.Agreed.{Agree}
 use Rattle.lookup.proofs.Agreeing.{agree-longer, agree-start, block_same, block-differs}
 use Rattle.lookup.proofs.parts.parts_equal.Goals as goal
 

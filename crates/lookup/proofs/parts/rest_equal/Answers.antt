@@ -1,7 +1,4 @@
 use native.Mathlib.Omega.{arith}
-use Prim.Native.Nat.{◌-◌}
-use lib.ListN.{length}
-use Rattle.lookup.specs.Agreed.{Agree}
 use Rattle.lookup.proofs.Agreeing.{agree-in, agree_differ, agree_on, agree-end}
 use Rattle.lookup.proofs.parts.rest_equal.Goals as goal
 

@@ -1,8 +1,6 @@
-use native.Mathlib.Omega.{arith}
 use Prim.Native.Nat.{◌-◌}
 use lib.ListN.{length}
 use Rattle.lookup.specs.Agreed.{Agree}
-use Rattle.lookup.proofs.Agreeing.{agree-in, agree_differ, agree_on, agree-end}
 use Rattle.lookup.proofs.parts.rest_equal.Given as goal
 
 abbrev pub invariant-loop-i : goal.invariant-loop-i

@@ -1,4 +1,4 @@
-use Rattle.plan.proofs.Hopping.{Hopping, hop-start, hop-past, hop-inside, hop-on, hop-end}
+use Rattle.plan.proofs.Hopping.{hop-start, hop-past, hop-inside, hop-on, hop-end}
 use native.Mathlib.Omega.{arith}
 use Rattle.plan.proofs.spots.hop.Goals as goal
 

@@ -1,5 +1,4 @@
-use Rattle.plan.proofs.Hopping.{Hopping, hop-start, hop-past, hop-inside, hop-on, hop-end}
-use native.Mathlib.Omega.{arith}
+use Rattle.plan.proofs.Hopping.{Hopping}
 use Rattle.plan.proofs.spots.hop.Given as goal
 
 abbrev pub invariant-loop-left : goal.invariant-loop-left

@@ -1,6 +1,5 @@
 use native.Mathlib.Omega.{arith}
-use Rattle.plan.proofs.Levelling.{Levelling, level-held, level-aside, level-start, level-countable, level-end}
-use Prim.Native.Nat.{◌-◌}
+use Rattle.plan.proofs.Levelling.{level-held, level-aside, level-start, level-countable, level-end}
 use Rattle.plan.proofs.spots.level.Goals as goal
 use Rattle.plan.proofs.spots.level.Goals.{then-over, else-over}
 

@@ -1,6 +1,4 @@
-use mathlib.Core.Logic.{⊎_elim}
-use native.Mathlib.Omega.{arith}
-use Rattle.plan.proofs.Levelling.{Levelling, level-held, level-aside, level-start, level-countable, level-end}
+use Rattle.plan.proofs.Levelling.{Levelling}
 use Prim.Native.Nat.{◌-◌}
 use Rattle.plan.proofs.spots.level.Given as goal
 

@@ -1,4 +1,4 @@
-use Rattle.plan.proofs.Spotting.{entry-readable, slot_small, slot-string, slot-hoppable, slot-past, slot-shown, slot-recorded, slot_at}
+use Rattle.plan.proofs.Spotting.{entry-readable, slot-string, slot-hoppable, slot-past, slot-shown, slot-recorded, slot_at}
 use native.Mathlib.Omega.{arith}
 use Rattle.plan.proofs.spots.slot.Goals as goal
 

@@ -1,7 +1,5 @@
-use Prim.Native.Nat.{◌-◌}
-use lib.ListN.{length}
 use Rattle.sheets.proofs.Packing.{further}
-use Rattle.sheets.proofs.Beginnings.{Far, far-start, far-end, far-colon, far-low, far-high, far-on}
+use Rattle.sheets.proofs.Beginnings.{far-start, far-end, far-colon, far-low, far-high, far-on}
 use native.Mathlib.Omega.{arith}
 use Rattle.sheets.proofs.begins.digits_on.Goals as goal
 

@@ -1,8 +1,6 @@
 use Prim.Native.Nat.{◌-◌}
 use lib.ListN.{length}
-use Rattle.sheets.proofs.Packing.{further}
-use Rattle.sheets.proofs.Beginnings.{Far, far-start, far-end, far-colon, far-low, far-high, far-on}
-use native.Mathlib.Omega.{arith}
+use Rattle.sheets.proofs.Beginnings.{Far}
 use Rattle.sheets.proofs.begins.digits_on.Given as goal
 
 abbrev pub invariant-loop-i : goal.invariant-loop-i

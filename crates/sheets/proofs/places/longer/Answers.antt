@@ -1,7 +1,5 @@
 use Rattle.sheets.proofs.Packing.{further}
-use Prim.Native.Nat.{◌-◌}
-use lib.ListN.{length}
-use Rattle.sheets.proofs.Packing.{Digits, zero-none, first-huge, first-digit, digits-end, digits-colon, digits_low, digits-high, digits-huge, digits_more}
+use Rattle.sheets.proofs.Packing.{zero-none, first-huge, first-digit, digits-end, digits-colon, digits_low, digits-high, digits-huge, digits_more}
 use native.Mathlib.Omega.{arith}
 use Rattle.sheets.proofs.places.longer.Goals as goal
 

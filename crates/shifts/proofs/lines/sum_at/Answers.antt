@@ -1,6 +1,5 @@
-use Prim.Native.Nat.{◌-◌}
 use Rattle.shifts.proofs.Inside.{known-readable}
-use Rattle.shifts.proofs.Adding.{Adding, sum-string, stop-fits, start_fits, adding-starts, line-in, sum-bad, count_fits, quarters-fit, place-fits, adding-goes, adding-ends, adding-less}
+use Rattle.shifts.proofs.Adding.{sum-string, stop-fits, start_fits, adding-starts, line-in, sum-bad, count_fits, quarters-fit, place-fits, adding-goes, adding-ends, adding-less}
 use native.Mathlib.Omega.{arith}
 use Rattle.shifts.proofs.lines.sum_at.Goals as goal
 

@@ -1,7 +1,5 @@
 use Prim.Native.Nat.{◌-◌}
-use Rattle.shifts.proofs.Inside.{known-readable}
-use Rattle.shifts.proofs.Adding.{Adding, sum-string, stop-fits, start_fits, adding-starts, line-in, sum-bad, count_fits, quarters-fit, place-fits, adding-goes, adding-ends, adding-less}
-use native.Mathlib.Omega.{arith}
+use Rattle.shifts.proofs.Adding.{Adding}
 use Rattle.shifts.proofs.lines.sum_at.Given as goal
 
 abbrev pub invariant-loop-at : goal.invariant-loop-at

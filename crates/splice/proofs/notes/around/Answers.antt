@@ -1,5 +1,4 @@
-use Prim.Native.Nat.{◌-◌}
-use Rattle.splice.proofs.Moving.{Around, grow-start, grow-growing, grow-over, grow-aside, grow-long, grow-end}
+use Rattle.splice.proofs.Moving.{grow-start, grow-growing, grow-over, grow-aside, grow-long, grow-end}
 use native.Mathlib.Omega.{arith}
 use Rattle.splice.proofs.notes.around.Goals as goal
 

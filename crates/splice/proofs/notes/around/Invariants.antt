@@ -1,6 +1,5 @@
 use Prim.Native.Nat.{◌-◌}
-use Rattle.splice.proofs.Moving.{Around, grow-start, grow-growing, grow-over, grow-aside, grow-long, grow-end}
-use native.Mathlib.Omega.{arith}
+use Rattle.splice.proofs.Moving.{Around}
 use Rattle.splice.proofs.notes.around.Given as goal
 
 abbrev pub invariant-loop-j : goal.invariant-loop-j

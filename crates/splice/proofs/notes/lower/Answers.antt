@@ -1,5 +1,4 @@
-use Prim.Native.Nat.{◌-◌}
-use Rattle.splice.proofs.Moving.{Lowering, lower-start, lower-later, lower-on, lower_long, lower-end}
+use Rattle.splice.proofs.Moving.{lower-start, lower-later, lower-on, lower_long, lower-end}
 use native.Mathlib.Omega.{arith}
 use Rattle.splice.proofs.notes.lower.Goals as goal
 

@@ -1,6 +1,5 @@
 use Prim.Native.Nat.{◌-◌}
-use Rattle.splice.proofs.Moving.{Lowering, lower-start, lower-later, lower-on, lower_long, lower-end}
-use native.Mathlib.Omega.{arith}
+use Rattle.splice.proofs.Moving.{Lowering}
 use Rattle.splice.proofs.notes.lower.Given as goal
 
 abbrev pub invariant-loop-j : goal.invariant-loop-j

@@ -1,6 +1,4 @@
-use Prim.Native.Nat.{◌-◌}
-use lib.ListN.{length}
-use Rattle.splice.proofs.Moving.{Putting, put-start, put-owning, put_on, put-long, put-end}
+use Rattle.splice.proofs.Moving.{put-start, put-owning, put_on, put-long, put-end}
 use native.Mathlib.Omega.{arith}
 use Rattle.splice.proofs.notes.put.Goals as goal
 

@@ -1,7 +1,6 @@
 use Prim.Native.Nat.{◌-◌}
 use lib.ListN.{length}
-use Rattle.splice.proofs.Moving.{Putting, put-start, put-owning, put_on, put-long, put-end}
-use native.Mathlib.Omega.{arith}
+use Rattle.splice.proofs.Moving.{Putting}
 use Rattle.splice.proofs.notes.put.Given as goal
 
 abbrev pub invariant-loop-j : goal.invariant-loop-j

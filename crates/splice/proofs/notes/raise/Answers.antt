@@ -1,4 +1,4 @@
-use Rattle.splice.proofs.Moving.{Raising, raise-start, raise-later, raise-on, raise-long, raise-end}
+use Rattle.splice.proofs.Moving.{raise-start, raise-later, raise-on, raise-long, raise-end}
 use native.Mathlib.Omega.{arith}
 use Rattle.splice.proofs.notes.raise.Goals as goal
 

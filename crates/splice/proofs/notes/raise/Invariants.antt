@@ -1,5 +1,4 @@
-use Rattle.splice.proofs.Moving.{Raising, raise-start, raise-later, raise-on, raise-long, raise-end}
-use native.Mathlib.Omega.{arith}
+use Rattle.splice.proofs.Moving.{Raising}
 use Rattle.splice.proofs.notes.raise.Given as goal
 
 abbrev pub invariant-loop-j : goal.invariant-loop-j

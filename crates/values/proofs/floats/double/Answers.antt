@@ -1,6 +1,6 @@
-use lib.Ieee.{binary32, binary64}
-use Rattle.typed.proofs.Floating.{part_length, part-odd, part-made, no-nan-bits, four-fit}
-use Rattle.typed.specs.declared.Value.TheVariants.{Single, Double}
+use lib.Ieee.{binary64}
+use Rattle.typed.proofs.Floating.{part_length, part-odd, part-made, no-nan-bits}
+use Rattle.typed.specs.declared.Value.TheVariants.{Double}
 use Rattle.values.proofs.floats.double.Goals as goal
 
 pub returns-then-end-start-ne8 : goal.returns-then-end-start-ne8

@@ -1,6 +1,6 @@
-use lib.Ieee.{binary32, binary64}
+use lib.Ieee.{binary32}
 use Rattle.typed.proofs.Floating.{part_length, part-odd, part-made, no-nan-bits, four-fit}
-use Rattle.typed.specs.declared.Value.TheVariants.{Single, Double}
+use Rattle.typed.specs.declared.Value.TheVariants.{Single}
 use Rattle.values.proofs.floats.single.Goals as goal
 
 pub returns-then-end-start-ne4 : goal.returns-then-end-start-ne4

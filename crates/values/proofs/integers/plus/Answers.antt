@@ -1,4 +1,4 @@
-use Rattle.values.proofs.Signs.{to_z-half, less_one}
+use Rattle.values.proofs.Signs.{to_z-half}
 use Rattle.values.proofs.integers.plus.Goals as goal
 
 pub returns : goal.returns

@@ -1,5 +1,4 @@
-use native.Mathlib.Omega.{arith}
-use Rattle.values.proofs.Putting.{Widening, widening-starts, widening-fits, widening-goes, widening-ends}
+use Rattle.values.proofs.Putting.{widening-starts, widening-fits, widening-goes, widening-ends}
 use Rattle.values.proofs.integers.width.Goals as goal
 
 pub loop-rest-init : goal.loop-rest-init

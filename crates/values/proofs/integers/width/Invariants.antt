@@ -1,5 +1,4 @@
-use native.Mathlib.Omega.{arith}
-use Rattle.values.proofs.Putting.{Widening, widening-starts, widening-fits, widening-goes, widening-ends}
+use Rattle.values.proofs.Putting.{Widening}
 use Rattle.values.proofs.integers.width.Given as goal
 
 abbrev pub invariant-loop-rest : goal.invariant-loop-rest

@@ -1,6 +1,4 @@
-use Prim.Native.Nat.{◌-◌}
-use native.Mathlib.Omega.{arith}
-use Rattle.values.proofs.Numeral.{Reading, reading-starts, mul-fits, in_reach, add-fits, reading-goes, reading-ends}
+use Rattle.values.proofs.Numeral.{reading-starts, mul-fits, in_reach, add-fits, reading-goes, reading-ends}
 use Rattle.values.proofs.numerals.number.Goals as goal
 
 pub loop-i-init : goal.loop-i-init

@@ -1,6 +1,5 @@
 use Prim.Native.Nat.{◌-◌}
-use native.Mathlib.Omega.{arith}
-use Rattle.values.proofs.Numeral.{Reading, reading-starts, mul-fits, in_reach, add-fits, reading-goes, reading-ends}
+use Rattle.values.proofs.Numeral.{Reading}
 use Rattle.values.proofs.numerals.number.Given as goal
 
 abbrev pub invariant-loop-i : goal.invariant-loop-i

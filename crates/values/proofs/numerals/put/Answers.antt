@@ -1,5 +1,4 @@
-use native.Mathlib.Omega.{arith}
-use Rattle.values.proofs.Putting.{Putting, putting-starts, put-in, putting-goes, putting-ends}
+use Rattle.values.proofs.Putting.{putting-starts, put-in, putting-goes, putting-ends}
 use Rattle.values.proofs.numerals.put.Goals as goal
 
 pub loop-i-init : goal.loop-i-init

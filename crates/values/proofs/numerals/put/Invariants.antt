@@ -1,5 +1,4 @@
-use native.Mathlib.Omega.{arith}
-use Rattle.values.proofs.Putting.{Putting, putting-starts, put-in, putting-goes, putting-ends}
+use Rattle.values.proofs.Putting.{Putting}
 use Rattle.values.proofs.numerals.put.Given as goal
 
 abbrev pub invariant-loop-i : goal.invariant-loop-i

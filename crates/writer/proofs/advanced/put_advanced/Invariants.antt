@@ -1,7 +1,6 @@
-use native.Mathlib.Omega.{arith}
 use Prim.Native.Nat.{◌-◌}
 use lib.ListN.{length}
-use Rattle.writer.proofs.Writing.{Writing, write-start, string-order, string-within, string-room, string-less, string-written, open-room, open-written, close-room, close-written, no-data, both-strings, both-room, both-less, both-written, write-long, write-end}
+use Rattle.writer.proofs.Writing.{Writing}
 use Rattle.writer.proofs.advanced.put_advanced.Given as goal
 
 abbrev pub invariant-loop-at : goal.invariant-loop-at

@@ -1,7 +1,5 @@
 use native.Mathlib.Omega.{arith}
-use Rattle.writer.proofs.Groups.{letters-start, letters-room, letters-on, letters-left, letters-long, letters-end, Lettering}
-use Prim.Native.Nat.{◌-◌}
-use lib.ListN.{length}
+use Rattle.writer.proofs.Groups.{letters-start, letters-room, letters-on, letters-left, letters-long, letters-end}
 use Rattle.writer.proofs.basic.put_letters.Goals as goal
 
 pub loop-i-init : goal.loop-i-init

@@ -1,5 +1,4 @@
-use native.Mathlib.Omega.{arith}
-use Rattle.writer.proofs.Groups.{letters-start, letters-room, letters-on, letters-left, letters-long, letters-end, Lettering}
+use Rattle.writer.proofs.Groups.{Lettering}
 use Prim.Native.Nat.{◌-◌}
 use lib.ListN.{length}
 use Rattle.writer.proofs.basic.put_letters.Given as goal
