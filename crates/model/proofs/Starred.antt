@@ -68,7 +68,7 @@ cases =
     ∷ (outcome (reading 3 (124 ∷ 89 ∷ 87 ∷ 74 ∷ 106 ∷ 90 ∷ 65 ∷ 124 ∷ []) sheet table), outcome (accepted 6 1 (52 ∷ 58 ∷ 97 ∷ 98 ∷ 99 ∷ 100 ∷ []) (0 ∷ 0 ∷ 6 ∷ 1 ∷ 0 ∷ 0 ∷ 2 ∷ 6 ∷ 0 ∷ [])))
     -- 03:abc
     ∷ (outcome (reading 3 (48 ∷ 51 ∷ 58 ∷ 97 ∷ 98 ∷ 99 ∷ []) sheet table), outcome (unchanged 3 sheet table))
-    -- S 16.5: 3:abc_x, 03: and a text cut short; another form tells no place
+    -- S 16.5: 3:abcX, 03: and a text cut short; another form tells no place
     ∷ (outcome (reading 1 (51 ∷ 58 ∷ 97 ∷ 98 ∷ 99 ∷ 88 ∷ []) sheet table), outcome (unchanged_at 3 5 sheet table))
     ∷ (outcome (reading 1 (48 ∷ 51 ∷ 58 ∷ []) sheet table), outcome (unchanged_at 3 1 sheet table))
     ∷ (outcome (reading 2 (40 ∷ 51 ∷ 58 ∷ 97 ∷ 98 ∷ []) sheet table), outcome (unchanged_at 3 5 sheet table))
