@@ -6,9 +6,9 @@ use mathlib.Core.Bool.{false}
 use mathlib.Core.Option.{Option, some}
 use mathlib.Core.List.{List, [], ◌∷◌, ◌++◌}
 use lib.ListN.{length, length-append}
-use lib.Dec.{ltb, eqb}
+use lib.Dec.{eqb}
 use borrow.Author.Tests.{le-ltb, lt-ltb}
-use Rattle.base.specs.Choice.{either, is_none}
+use Rattle.base.specs.Choice.{is_none}
 use Rattle.base.proofs.Cases.{picked}
 use Rattle.model.specs.Answers.{verdict, no_form, the, room_checks, text_checks, filled, unchanged, reading_checks, reading, place_of, telling}
 use Rattle.model.specs.Decode.{decode}

@@ -11,7 +11,6 @@ use lib.Ieee.{Float}
 use borrow.Author.Tests.{eq-eqb, eqb-true}
 use Rattle.base.specs.Choice.{both, equal}
 use Rattle.base.proofs.Cases.{picked, pick-cases, true-both, both_true, none-some, some_same}
-use Rattle.model.specs.Edit.{one}
 use Rattle.model.specs.Table.{Row, rows, row_of}
 use Rattle.model.specs.Tree.{Tree, plain, hinted, list, Forest, nil, cons, canons, nodes, nodess}
 use Rattle.edits.proofs.Find.{nodes-pos}
@@ -26,7 +25,7 @@ use Rattle.demands.specs.Lines.{Three}
 use Rattle.demands.specs.Values.{f64, ValueOf, single, double, whole, other, bare}
 use Rattle.demands.proofs.Typed.{typed-hinted, hinted_as}
 use Rattle.demands.proofs.Valued.{value_by, double-made, value-says}
-use Rattle.demands.proofs.Standing.{Stands, past, inside, first-row, first-list, first_count, stands}
+use Rattle.demands.proofs.Standing.{Stands, past, inside, first-row, first-list, first_count}
 
 -- ---- amounts
 

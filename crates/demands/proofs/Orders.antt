@@ -19,7 +19,7 @@ use Rattle.model.specs.Node.{node_at, elements}
 use Rattle.model.specs.Tree.{Tree, list, Forest, canon, nodes, nodess}
 use Rattle.model.proofs.Judging.{judged-accepted}
 use Rattle.model.proofs.Unique.{canon-inj}
-use Rattle.lookup.proofs.Sheets.{Own, own_of}
+use Rattle.lookup.proofs.Sheets.{own_of}
 use Rattle.pairs.specs.Deeds.{Deed, to, with_in, away, makes, done, up_to}
 use Rattle.pairs.proofs.Apart.{done-nodes, either_order}
 use Rattle.pairs.proofs.Inserted.{inserted-either, inserted-before, inserted-after}

@@ -1,7 +1,7 @@
 -- S 7.3: the place that is told with refusal 3 is the largest p for which some canonical form begins with the first p octets, in form 1, and in
 -- form 2 unless the text begins with `{`; in all other cases it is 0.
 use Prim.Native.Nat.{ℕ}
-use mathlib.Core.Path.{◌≡◌, refl, sym, ap, ◌∙◌, subst}
+use mathlib.Core.Path.{◌≡◌, refl, sym, ◌∙◌, subst}
 use mathlib.Core.Bool.{true, false}
 use mathlib.Core.List.{List}
 use borrow.Author.Tests.{eq-eqb, ne_eqb}

@@ -1,18 +1,16 @@
 -- S 15.6, the parent of a new tree: of an element that was inserted it is the list asked for, and of a node that was replaced it stays.
-use Prim.Native.Nat.{ℕ, ◌+◌, ◌≤◌, ◌<◌}
+use Prim.Native.Nat.{ℕ, ◌<◌}
 use native.Mathlib.Omega.{arith}
-use mathlib.Core.Path.{◌≡◌, refl, sym, ap, ◌∙◌}
+use mathlib.Core.Path.{◌≡◌, refl, sym, ◌∙◌}
 use mathlib.Core.Bool.{true, false, true≢false}
 use mathlib.Core.List.{List}
 use lib.ListN.{get_or}
-use lib.Dec.{eqb}
 use borrow.Author.Tests.{le-ltb, eq-eqb, ne_eqb}
-use Rattle.base.specs.Choice.{both, either}
 use Rattle.base.proofs.Cases.{by_le, by-eq, picked, unpicked}
-use Rattle.model.specs.Answers.{Outcome, replacing}
+use Rattle.model.specs.Answers.{replacing}
 use Rattle.model.specs.Corrections.{inserting}
 use Rattle.model.specs.Edit.{insert}
-use Rattle.model.specs.Table.{row_of, parent_of}
+use Rattle.model.specs.Table.{parent_of}
 use Rattle.model.specs.Tree.{Tree, nodes}
 use Rattle.edits.specs.Node.{holds}
 use Rattle.lookup.proofs.Sheets.{Own, own_of}

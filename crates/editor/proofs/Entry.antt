@@ -19,7 +19,6 @@ use Rattle.plan.proofs.Removing.{removing-is}
 use Rattle.plan.specs.declared.Asked.{Asked}
 use Rattle.plan.specs.declared.Asked.TheVariants.{Replace, Insert, Remove}
 use Rattle.answers.specs.declared.Reading.{Reading}
-use Rattle.answers.specs.declared.Reading.TheVariants as reading
 use Rattle.editor.specs.Given.{GivesTree, GivesMeant, GivesText}
 use Rattle.editor.proofs.Placing.{gives-refused, gives_same}
 

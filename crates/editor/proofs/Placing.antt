@@ -9,11 +9,11 @@ use lib.ListN.{length, take, drop, replicate, length-take}
 use lib.Seq.{sets, length-sets}
 use Rattle.base.specs.Choice.{is_none}
 use Rattle.base.proofs.Cases.{differ, untrue, some_same}
-use Rattle.model.specs.Answers.{the, Outcome, unchanged_at, unchanged, place_of, telling, filled}
+use Rattle.model.specs.Answers.{Outcome, unchanged_at, unchanged, place_of, telling, filled}
 use Rattle.model.specs.Decode.{decode}
 use Rattle.model.specs.Edit.{one, replace, insert}
 use Rattle.model.specs.Limits.{no_refusal, max_canonical}
-use Rattle.model.specs.Tree.{Tree, list, nil, canon, canons, nodes, nodess, depth, depths}
+use Rattle.model.specs.Tree.{Tree, list, nil, canon, canons, nodess, depths}
 use Rattle.model.proofs.Laws.{canonical-unique, nodes-within-half}
 use Rattle.model.proofs.Judging.{judged-refused, verdict-here}
 use Rattle.model.proofs.Telling.{other_row, other-past, rooms-other, telling-judged}

@@ -1,11 +1,11 @@
 -- Each case of an answer of the spool, handed out as a number and values.
 use Prim.Native.Nat.{ℕ}
-use mathlib.Core.Path.{◌≡◌, refl, sym, ap, ap₂, ◌∙◌}
+use mathlib.Core.Path.{◌≡◌, sym, ap, ap₂, ◌∙◌}
 use mathlib.Core.Bool.{Bool, true, false}
 use mathlib.Core.List.{List, [], ◌∷◌}
 use lib.Dec.{eqb}
 use Rattle.model.specs.Answers.{part, octets_at}
-use Rattle.spools.specs.Adding.{Adding as State, Start, Step, Added as Whole, unadded_at, stepping, committing, adding}
+use Rattle.spools.specs.Adding.{Adding as State, Start, Added as Whole, unadded_at, stepping, committing, adding}
 use Rattle.spools.specs.Spool.{Opening as Shown, unopened_at, opening}
 use Rattle.spools.proofs.Numbered.{opening-numbered, opening-unplaced, adding-numbered, adding-unplaced}
 use Rattle.answers.specs.declared.Refusal.{Refusal}

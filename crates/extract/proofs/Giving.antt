@@ -12,7 +12,7 @@ use borrow.Author.Tests.{lt-ltb}
 use Rattle.base.specs.Choice.{is_none}
 use Rattle.base.proofs.Cases.{none-some, some_same}
 use Rattle.base.proofs.Stores.{sets-all}
-use Rattle.model.specs.Answers.{Outcome, verdict, judged, the, unchanged, fitting, sheet_tree, own_tree, reading}
+use Rattle.model.specs.Answers.{Outcome, verdict, judged, the, unchanged, sheet_tree, own_tree, reading}
 use Rattle.model.specs.Limits.{max_canonical, max_depth, most_nodes}
 use Rattle.model.specs.Table.{width, records}
 use Rattle.model.specs.Decode.{decode₁}

@@ -1,5 +1,5 @@
 -- The end in turn is the answer of reading the whole.
-use Prim.Native.Nat.{ℕ, ◌+◌, ◌≤◌, ◌<◌, min}
+use Prim.Native.Nat.{ℕ, ◌≤◌, ◌<◌, min}
 use native.Mathlib.Omega.{arith}
 use mathlib.Core.Path.{◌≡◌, refl, sym, ap, ◌∙◌, subst}
 use mathlib.Core.Bool.{true}
@@ -25,7 +25,6 @@ use Rattle.rooms.specs.Rooms.{room_verdict}
 use Rattle.reader.specs.Stored.{read_tree}
 use Rattle.rooms.proofs.Rooms.{roomy}
 use Rattle.reader.proofs.Judged.{tree-none, tree-refused, tree-accepted, settled-front}
-use Rattle.model.specs.Automaton as automaton
 use Rattle.model.specs.Automaton.{start, run, place}
 use Rattle.pieces.specs.Capped.{cap, capped, extent}
 use Rattle.pieces.specs.Tracks.{meant}

@@ -8,7 +8,7 @@ use borrow.Author.Tests.{lt-ltb, le-ltb}
 use lib.ListN.{length, take, drop, get_or, set, replicate, length-set, length-append, length-replicate}
 use lib.Seq.{sets, drop-drop, drop_at, take_all}
 use Rattle.base.proofs.Cases.{by_le, picked, unpicked}
-use Rattle.model.specs.Tree.{Tree, nodes}
+use Rattle.model.specs.Tree.{Tree}
 use Rattle.model.specs.Table.{Row, rows, parents, plain_row, flat, table_of}
 use Rattle.model.specs.Table as table
 use Rattle.model.specs.Answers.{Outcome, settled}

@@ -1,6 +1,5 @@
 use Rattle.editor.proofs.Placing.{change-none, change-placeable, change-noteable, change-placed}
 use native.Mathlib.Omega.{arith}
-use borrow.Author.Rules.{rules}
 use Rattle.editor.proofs.change_in.Goals as goal
 
 pub place-requires-clause-placeable : goal.place-requires-clause-placeable

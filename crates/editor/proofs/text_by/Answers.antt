@@ -1,7 +1,6 @@
 use Rattle.editor.proofs.Entry.{change-refused, change-taken}
 use Rattle.texts.proofs.Sizes.{formed, formed-long}
 use native.Mathlib.Omega.{arith}
-use borrow.Author.Rules.{rules}
 use Rattle.editor.proofs.text_by.Goals as goal
 
 pub returns-then-row-gt0 : goal.returns-then-row-gt0

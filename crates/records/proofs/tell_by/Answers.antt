@@ -1,5 +1,5 @@
 use native.Mathlib.Omega.{arith}
-use Rattle.records.proofs.Tabling.{telling-none, telling-inside, telling-tellable, telling-on, telling-end}
+use Rattle.records.proofs.Tabling.{telling-none, telling-on}
 use Rattle.records.proofs.tell_by.Goals as goal
 
 pub loop-i-init : goal.loop-i-init

@@ -1,5 +1,4 @@
 use Rattle.etglavino_c.proofs.ValueHanded.{put-accepted, put_refused}
-use native.Mathlib.Omega.{arith}
 use Rattle.etglavino_c.proofs.valuing.etg_put_value.Goals as goal
 
 pub returns-in-Accepted : goal.returns-in-Accepted

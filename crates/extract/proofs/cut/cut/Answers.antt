@@ -1,6 +1,5 @@
 use native.Mathlib.Omega.{arith}
-use Rattle.extract.proofs.Passing.{Passing, pass-none, pass-node, pass-readable, pass-few, pass_kept, pass-last, pass-end, pass-shown, hop-from, hop-source, hop-room, hop-fits, hop-less, pass-hidden}
-use Prim.Native.Nat.{◌-◌}
+use Rattle.extract.proofs.Passing.{pass-none, pass-node, pass-readable, pass-few, pass_kept, pass-last, pass-end, pass-shown, hop-from, hop-source, hop-room, hop-fits, hop-less, pass-hidden}
 use borrow.Author.Rules.{rules}
 use Rattle.extract.proofs.cut.cut.Goals as goal
 

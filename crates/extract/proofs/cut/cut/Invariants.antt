@@ -1,5 +1,4 @@
-use native.Mathlib.Omega.{arith}
-use Rattle.extract.proofs.Passing.{Passing, pass-none, pass-node, pass-readable, pass-few, pass_kept, pass-last, pass-end, pass-shown, hop-from, hop-source, hop-room, hop-fits, hop-less, pass-hidden}
+use Rattle.extract.proofs.Passing.{Passing}
 use Prim.Native.Nat.{◌-◌}
 use Rattle.extract.proofs.cut.cut.Given as goal
 

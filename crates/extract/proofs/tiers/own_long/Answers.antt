@@ -1,5 +1,4 @@
 use Rattle.reader.specs.Stored.{most}
-use native.Mathlib.Omega.{arith}
 use borrow.Author.Rules.{rules}
 use Rattle.extract.proofs.tiers.own_long.Goals as goal
 

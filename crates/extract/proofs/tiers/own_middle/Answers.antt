@@ -1,5 +1,4 @@
 use Rattle.reader.specs.Stored.{halved}
-use native.Mathlib.Omega.{arith}
 use borrow.Author.Rules.{rules}
 use Rattle.extract.proofs.tiers.own_middle.Goals as goal
 

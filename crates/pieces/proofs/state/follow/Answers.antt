@@ -1,6 +1,4 @@
-use Rattle.pieces.proofs.Following.{Follows, follows-start, follows_next, follows-end}
-use Prim.Native.Nat.{◌-◌}
-use lib.ListN.{length}
+use Rattle.pieces.proofs.Following.{follows-start, follows_next, follows-end}
 use native.Mathlib.Omega.{arith}
 use Rattle.pieces.proofs.state.follow.Goals as goal
 

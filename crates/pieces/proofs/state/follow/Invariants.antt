@@ -1,7 +1,6 @@
-use Rattle.pieces.proofs.Following.{Follows, follows-start, follows_next, follows-end}
+use Rattle.pieces.proofs.Following.{Follows}
 use Prim.Native.Nat.{◌-◌}
 use lib.ListN.{length}
-use native.Mathlib.Omega.{arith}
 use Rattle.pieces.proofs.state.follow.Given as goal
 
 abbrev pub invariant-loop-i : goal.invariant-loop-i
