@@ -1,4 +1,4 @@
-"""Writes the steps of a walk by hand (docs/PROOFS.md, "Walks by hand").
+"""Writes the steps of a walk by hand, as the older kit took them. No walk is left, and nothing uses it now.
 
 In a walk everything that is had stands in a list, and each step names what it
 takes by its place there; a place changes with every step. A `Walk` keeps the
