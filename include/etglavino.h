@@ -29,7 +29,7 @@
  * both ways and gives the same answers.
  *
  * Stack that a call takes at most, in octets (x86-64), besides what the C
- * library's memset and memcpy take:
+ * library's memset and memcpy take. Measured with the kit before rattle-kit-13f.
  *   etg_read                 120,296
  *   etg_read_records         134,728
  *   etg_write                 35,096
