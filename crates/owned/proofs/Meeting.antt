@@ -1,7 +1,7 @@
--- A list's note where the list begins; a string with a hint, and its note.
+-- A list's note where the list begins; a string of one digit, and one with a hint, and its note.
 use mir.Syntax.{w64}
 use mir.Val.{Fits}
-use Prim.Native.Nat.{ℕ, ◌+◌, ◌*◌, ◌-◌, ◌≤◌, ◌<◌}
+use Prim.Native.Nat.{ℕ, ◌+◌, ◌*◌, ◌-◌, ◌/◌, ◌≤◌, ◌<◌}
 use native.Mathlib.Omega.{arith}
 use mathlib.Core.Path.{◌≡◌, refl, sym, ap, ◌∙◌, subst}
 use mathlib.Core.Bool.{false}
@@ -10,7 +10,7 @@ use lib.ListN.{length, get_or, drop}
 use lib.Dec.{eqb, leb}
 use borrow.Author.Tests.{eq-eqb, ne_eqb, le-leb, lt-leb}
 use Rattle.base.specs.Choice.{both}
-use Rattle.base.proofs.Cases.{by_le, differ, picked, unpicked}
+use Rattle.base.proofs.Cases.{by-eq, by_le, differ, picked, unpicked}
 use Rattle.model.specs.Lexemes.{Lexeme, hinting, strict_lexeme}
 use Rattle.model.specs.Limits.{max_depth}
 use Rattle.model.specs.Strings.{got, refused}
@@ -19,10 +19,11 @@ use Rattle.model.proofs.ReadCases.{never}
 use Rattle.walk.specs.Events.{hint_row}
 use Rattle.canonical.specs.Lexed.{Hintedly, ItemAt}
 use Rattle.sheets.specs.Notes.{list_mark, note_of}
-use Rattle.sheets.specs.Places.{shift, start_of, end_of, StringAt, HintAfter}
+use Rattle.sheets.specs.Places.{shift, span_by, start_of, end_of, StringAt, HintAfter}
 use Rattle.sheets.proofs.Items.{hint-places, other_item, unhinted-item, hint-inside, unfollowed-item, hinted-item}
+use Rattle.sheets.proofs.Packing.{body-span, string-digit}
 use Rattle.tables.specs.Told.{start_part, end_part, third_part, parent_part}
-use Rattle.owned.specs.Going.{Closes, Meetable, Begins, Begun, Unread, Unmet, Hints}
+use Rattle.owned.specs.Going.{Closes, Meetable, Near, Begins, Begun, Unread, Unmet, Hints}
 
 -- ---- the innermost list ends
 
@@ -45,6 +46,24 @@ module _ (len at k n : ℕ) where
 
   pub ended_so : len ≤ at → eqb k n ≡ both (leb len at) (eqb k n)
   ended_so h = sym (picked _ _ (le-leb len at h))
+
+-- ---- a string of one digit
+
+module _ (src : List ℕ) (m at up : ℕ) where
+  pub near-off : Near src m at up false
+  near-off = record { on = λ e. differ e refl }
+
+  pub near-so : Meetable at up (length src) → start_part m ≡ at + 2 → end_part m ≤ length src → start_part m ≤ end_part m → end_part m - start_part m ≤ 9
+      → get_or src at 0 ≡ 48 + (end_part m - start_part m) → get_or src (at + 1) 0 ≡ 58 → Near src m at up (eqb (m / (shift * shift)) (up * shift))
+  near-so g s e b n d c =
+      by-eq (m / (shift * shift)) (up * shift)
+      (λ i. subst (Near src m at up) (sym (eq-eqb _ _ i)) (record { on = λ z. record { span = span_by (start_part m) (end_part m); reads = reads; some = omega arith; is = omega arith } }))
+      (λ i. subst (Near src m at up) (sym (ne_eqb _ _ i)) near-off)
+    where
+      reads : StringAt src at (span_by (start_part m) (end_part m))
+      reads =
+          string-digit src at (omega arith) (omega arith) (omega arith) c _
+          (body-span src (at + 1) (get_or src at 0 - 48) (record { inside = omega arith; short = omega (arith, g.short); is = c }) _ (omega arith) (omega arith))
 
 -- ---- a list begins
 

@@ -27,7 +27,7 @@ use Rattle.tables.specs.Told.{parent_part}
 use Rattle.tables.proofs.Telling.{plain-tells, hint-tells}
 use Rattle.owned.specs.Owned.{told, Checkable, Checked}
 use Rattle.owned.specs.Wanted.{Ends, Next}
-use Rattle.owned.specs.Going.{Going, Closable, Closes, Meetable, Begun, Unread, Unmet, Hinting, Hints}
+use Rattle.owned.specs.Going.{Going, Closable, Closes, Meetable, Nearly, Near, Begun, Unread, Unmet, Hinting, Hints}
 use Rattle.owned.proofs.Claiming.{note-is, record_is}
 use Rattle.owned.proofs.Going.{going_start, going-whole, going_more, going-fewer, going-short, refuse, wanted, ends-few}
 use Rattle.owned.proofs.Turning.{going-up, close-none, close-ready, close-some, close-off, close-on, node-off, node-on, open-off, open-on}
@@ -190,6 +190,18 @@ module _ (src notes : List ℕ) (n at up opened k : ℕ) (o : Owning src notes n
               (node-on src notes n at up opened k w q x y h (atom plainly.octets) (end_of s) places.2 plainly.reads (string_row at plainly.octets) after before
               f (record_is m (string_row at plainly.octets) up (plain-tells at plainly.octets (omega (arith, plainly.ends, places, w.given.short))) low (e ∙ sym row-note))))
               (omega (arith, ends_at, places)) (omega arith)
+
+      -- ---- one of a single digit
+
+      module _ (so : Bool) (c : Near src m at up so) (e : so ≡ true) where
+        nearly : Nearly src m at up
+        nearly = c.on e
+
+        pub near-less : length src - m % shift < length src - at
+        near-less = plain-less nearly.span nearly.reads nearly.some nearly.is
+
+        pub near_on : Standing src notes n (m % shift) up opened (k + 1)
+        near_on = plain-on nearly.span nearly.reads nearly.some nearly.is
 
       -- ---- a list begins
 

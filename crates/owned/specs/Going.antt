@@ -1,5 +1,5 @@
 -- Octets and claimed notes gone through side by side: where a loop over them stands, and what a turn of it does.
-use Rattle.std.specs.Prelude.{ℕ, ◌+◌, ◌-◌, ◌≤◌, ◌<◌, ◌≡◌, Bool, true, false, List, [], ◌∷◌, length, drop, get_or, eqb}
+use Rattle.std.specs.Prelude.{ℕ, ◌+◌, ◌*◌, ◌-◌, ◌≤◌, ◌<◌, ◌≡◌, Bool, true, false, List, [], ◌∷◌, length, drop, get_or, eqb}
 use Rattle.base.specs.Choice.{both}
 use Rattle.model.specs.Count.{shut_by}
 use Rattle.model.specs.Lexemes.{Lexeme, opening, closing, atom, hinting, strict_lexeme}
@@ -9,7 +9,7 @@ use Rattle.model.specs.Table.{list_row, recorded, body_end}
 use Rattle.model.specs.Tree.{Tree}
 use Rattle.walk.specs.Events.{hint_row, hint_end}
 use Rattle.sheets.specs.Notes.{list_mark, note_of}
-use Rattle.sheets.specs.Places.{StringAt}
+use Rattle.sheets.specs.Places.{shift, StringAt}
 use Rattle.tables.specs.Told.{start_part, end_part, third_part, parent_part}
 use Rattle.owned.specs.Owned.{told, Own, Checkable}
 use Rattle.owned.specs.Wanted.{over, Ends, Wants}
@@ -64,6 +64,17 @@ pub record Meetable (at up len : ℕ) : Type 0 where
   pub inside : at < len
   pub short : len ≤ max_canonical
   pub few : up ≤ most_nodes
+
+-- a string without a hint stands there, and this is its note
+pub record Nearly (src : List ℕ) (m at up : ℕ) : Type 0 where
+  pub span : ℕ
+  pub reads : StringAt src at span
+  pub some : 0 < span
+  pub is : m ≡ span + up * (shift * shift * shift)
+
+-- it is so where it is told; of other nodes nothing is said
+pub record Near (src : List ℕ) (m at up : ℕ) (so : Bool) : Type 0 where
+  pub on : so ≡ true → Nearly src m at up
 
 -- its note is that of a list, in the list around
 pub record Begins (m at up opened : ℕ) : Type 0 where

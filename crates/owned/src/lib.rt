@@ -7,15 +7,10 @@ ghost use Rattle.base.specs.Choice.{both};
 ghost use Rattle.model.specs.Limits.{max_source};
 ghost use Rattle.tables.specs.Told.{parent_part};
 ghost use Rattle.owned.specs.Owned.{Checkable, Checked};
-ghost use Rattle.owned.specs.Going.{Closable, Closes, Meetable, Begun, Unread, Hints};
+ghost use Rattle.owned.specs.Going.{Closable, Closes, Meetable, Near, Begun, Unread, Hints};
 
-use sheets::notes::LIST;
+use sheets::notes::{LIST, THIRD, TOP};
 use sheets::places::{SHIFT, after_hint, end_of, start_of, string_at};
-
-// What a note grows by where its third part, or the number of the list around it, grows by one.
-const THIRD: usize = SHIFT * SHIFT;
-
-const TOP: usize = SHIFT * SHIFT * SHIFT;
 
 // Whether the list `up`, the innermost that is open, ends at a place, before which `seen` nodes begin: by its note.
 fn closes(notes: &[usize], up: usize, at: usize, seen: usize) -> bool
@@ -54,6 +49,36 @@ fn begins(note: usize, at: usize, up: usize, opened: usize) -> bool
     note / SHIFT / SHIFT % SHIFT >= LIST
 }
 
+// Whether the string that the note claims stands at a place, in the list `up`, with fewer than ten octets and no hint. Where it does not,
+// nothing is said of what stands there.
+fn near(src: &[u8], note: usize, at: usize, up: usize) -> bool
+    requires { Meetable at up (length src.now) }
+    ensures { Near src.now note at up result }
+{
+    let start = note / SHIFT % SHIFT;
+    let end = note % SHIFT;
+    if start != at + 2 {
+        return false;
+    }
+    if end > src.len() {
+        return false;
+    }
+    if start > end {
+        return false;
+    }
+    let n = end - start;
+    if n > 9 {
+        return false;
+    }
+    if src[at] != b'0' + n as u8 {
+        return false;
+    }
+    if src[at + 1] != b':' {
+        return false;
+    }
+    note / THIRD == up * SHIFT
+}
+
 // Neither a parenthesis nor a string without a hint stands at a place: where the string with a hint ends that stands there with this note,
 // or 0.
 fn hints(src: &[u8], note: usize, at: usize, up: usize) -> usize
@@ -89,7 +114,8 @@ fn ended(len: usize, at: usize, seen: usize, nodes: usize) -> bool
 }
 
 // Whether the octets are a tree's canonical form, within the depth, and the first `nodes` notes tell its records. That a node was met is
-// told by the place, which the loop has at hand, and not by the count.
+// told by the place, which the loop has at hand, and not by the count. A string whose length has one digit, as most have, is looked for
+// first.
 pub fn own(src: &[u8], nodes: usize, notes: &[usize]) -> bool
     requires { Checkable src.now notes.now nodes }
     ensures { Checked src.now notes.now nodes result }
@@ -104,6 +130,14 @@ pub fn own(src: &[u8], nodes: usize, notes: &[usize]) -> bool
         }
         if at >= src.len() {
             return false;
+        }
+        if seen < nodes {
+            let note = notes[seen];
+            if near(src, note, at, up) {
+                seen += 1;
+                at = note % SHIFT;
+                continue;
+            }
         }
         let b = src[at];
         if b == b')' {

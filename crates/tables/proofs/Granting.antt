@@ -11,12 +11,13 @@ use Rattle.decimal.specs.Numbers.{Wide}
 use Rattle.model.specs.Limits.{max_source}
 use Rattle.model.specs.Table.{Row, plain_row, row_numbers, recorded}
 use Rattle.model.specs.Tree.{digits}
+use Rattle.model.proofs.Digits.{digits-small}
 use lib.ListN.{length, get_or}
 use Rattle.sheets.specs.Places.{shift, span_by}
 use Rattle.sheets.specs.Notes.{list_mark}
 use Rattle.tables.specs.Rows.{record_list, RowIs}
 use Rattle.tables.specs.Told.{plain_by, list_by, hinted_by, hint_end_by, TailNote, HintNote, HintedNote}
-use Rattle.tables.specs.Claimed.{Claim, Claimed}
+use Rattle.tables.specs.Claimed.{Claim, Claimed, Short}
 use Rattle.tables.specs.declared.rows.Row as coded
 use Rattle.tables.proofs.Claiming.{IsPlain, IsList, IsHint, plain_back, list_back, hint-back, some-kind, plain-found, list-found, hint-found, no-claim-zero}
 
@@ -74,6 +75,22 @@ module _ (row : coded.Row) (up : ℕ) where
 
     pub plain-deep : shift ≤ up → Claimed r 0
     plain-deep l = no_plain (λ g. omega (arith, g.low))
+
+    -- of fewer than ten octets
+    module _ (s : Short a b) where
+      one-digit : length (digits (b - a)) ≡ 1
+      one-digit = ap length (digits-small (b - a) s.digit)
+
+      pub short-elsewhere : (row.start + 2 ≡ a → ⊥) → Claimed r 0
+      short-elsewhere d = no_plain (λ g. d (omega (arith, one-digit, g.note.begins, ap (λ (l : List ℕ). get_or l 1 0) g.is)))
+
+      pub short-so : row.start + 2 ≡ a → row.end ≡ b → row.nodes ≡ 1 → row.hint_start ≡ 0 → row.hint_end ≡ 0 → up < shift
+          → (m : ℕ) → m ≡ span_by a b → Claimed r (m + up * (shift * shift * shift))
+      short-so p e c x y u m z =
+          let i : row.start ≡ a - length (digits (b - a)) - 1 = omega (arith, one-digit) in
+          one-claimed _
+          (plain-found r a b up _ (record { bodied = s.bodied; ends = s.ends; begins = omega (arith, one-digit) }) u (omega arith)
+          (λ t. k t ∷ i t ∷ e t ∷ c t ∷ x t ∷ y t ∷ a ∷ b ∷ up ∷ []))
 
     module _ (w : ℕ) (d : Wide (b - a) w) (made : coded.Row) (at : RowIs made (plain_row (a - (w + 1)) a b)) (q : Bool) (e : q ≡ equal r (record_list made up)) where
       is : RowIs made (plain_by a b)
@@ -163,3 +180,8 @@ module _ (row : coded.Row) (up : ℕ) where
             one-claimed _
             (hint-found r a b x up _ (record { tail = t; hint = rw (sym z) h }) u (omega arith)
             (alike _ made is q e f ∙ ap (λ (i : ℕ). recorded (hinted_by a b x i) up) z))
+
+-- the i-th number is not that of the string at its places
+pub plain_other : (i : ℕ) (row : coded.Row) (up : ℕ) → row.kind ≡ 0
+    → (get_or (record_list row up) i 0 ≡ get_or (recorded (plain_by row.data_start row.data_end) up) i 0 → ⊥) → Claimed (record_list row up) 0
+plain_other i row up k d = no_plain row up k (λ g. d (ap (λ (l : List ℕ). get_or l i 0) g.is))

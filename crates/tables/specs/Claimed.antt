@@ -1,6 +1,7 @@
 -- The note that a record claims, and what it takes to be one that a note tells.
-use Rattle.std.specs.Prelude.{ℕ, ◌+◌, ◌*◌, ◌<◌, ◌≡◌, List, get_or, eqb}
+use Rattle.std.specs.Prelude.{ℕ, ◌+◌, ◌*◌, ◌-◌, ◌≤◌, ◌<◌, ◌≡◌, List, get_or, eqb}
 use Rattle.base.specs.Choice.{pick}
+use Rattle.model.specs.Limits.{max_source}
 use Rattle.model.specs.Table.{recorded}
 use Rattle.sheets.specs.Notes.{list_mark, note_by}
 use Rattle.sheets.specs.Places.{shift, span_by}
@@ -24,3 +25,9 @@ pub record Claim (r : List ℕ) (m : ℕ) : Type 0 where
 pub record Claimed (r : List ℕ) (m : ℕ) : Type 0 where
   pub yes : (m ≡ 0 → ⊥) → Claim r m
   pub no : m ≡ 0 → (x : ℕ) → Claim r x → ⊥
+
+-- a string's octets, so few that their number has one digit
+pub record Short (a b : ℕ) : Type 0 where
+  pub bodied : a ≤ b
+  pub ends : b ≤ max_source
+  pub digit : b - a < 10

@@ -1,18 +1,43 @@
 // The note of a record, which it claims: whether octets bear it out is not asked here. 0 where no note tells such a record.
 ghost use Rattle.std.specs.Prelude.{◌≡◌, [], ◌∷◌};
 ghost use Rattle.tables.specs.Rows.{record_list};
-ghost use Rattle.tables.specs.Claimed.{Claimed};
+ghost use Rattle.tables.specs.Claimed.{Claimed, Short};
 
 use crate::rows::{Row, plain_row, same_row};
 use crate::told::{hint_end, hinted_by, list_by};
-use sheets::notes::LIST;
+use sheets::notes::{LIST, THIRD, TOP};
 use sheets::places::{SHIFT, pack};
 
-const THIRD: usize = SHIFT * SHIFT;
+// A string's of fewer than ten octets: one digit and a colon stand before them.
+fn short_claim(row: Row, up: u32) -> usize
+    requires kind_value { row.kind ≡ 0 }
+    requires short { Short row.data_start row.data_end }
+    ensures { Claimed (record_list row up) result }
+{
+    let start = row.data_start as usize;
+    let end = row.data_end as usize;
+    if row.start as usize + 2 != start {
+        return 0;
+    }
+    if row.end != row.data_end {
+        return 0;
+    }
+    if row.nodes != 1 {
+        return 0;
+    }
+    if row.hint_start != 0 {
+        return 0;
+    }
+    if row.hint_end != 0 {
+        return 0;
+    }
+    if up as usize >= SHIFT {
+        return 0;
+    }
+    pack(start, end) + up as usize * TOP
+}
 
-const TOP: usize = SHIFT * SHIFT * SHIFT;
-
-// A string's.
+// A string's. Most have a length of one digit, and are tested apart.
 pub fn plain_claim(row: Row, up: u32) -> usize
     requires { row.kind ≡ 0 }
     ensures { Claimed (record_list row up) result }
@@ -24,6 +49,9 @@ pub fn plain_claim(row: Row, up: u32) -> usize
     }
     if start > end {
         return 0;
+    }
+    if end - start < 10 {
+        return short_claim(row, up);
     }
     // Digits and a colon.
     let ahead = decimal::width(end - start) + 1;
