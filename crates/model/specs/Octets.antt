@@ -25,7 +25,7 @@ is_token_start b = either (is_alpha b) (is_simple_punc b)
 unfoldable pub is_token_octet : ℕ → Bool
 is_token_octet b = either (is_token_start b) (is_digit b)
 
--- printable = %x20-21 / %x23-5B / %x5_d-7_e; S 3.8: 32 to 126 but for the quotation mark and the backslash
+-- printable = %x20-21 / %x23-5B / %x5D-7E; S 3.8: 32 to 126 but for the quotation mark and the backslash
 unfoldable pub is_printable : ℕ → Bool
 is_printable b = either (among 32 33 b) (either (among 35 91 b) (among 93 126 b))
 
