@@ -204,16 +204,7 @@ pub telling-none : (notes : List ℕ) (r : Reading) (before : List Record) (n : 
 unfolding told_records
 telling-none notes r before n = record { few = omega arith; told = refl }
 
-module _ (notes : List ℕ) (r : Reading) (before : List Record) (old n i : ℕ) (now : List Record) (g : Telling notes r before n i now) (e : n ≡ touched r old) where
-  pub telling-inside : Tells notes r old (length before) → i < n → i < length now
-  telling-inside t h = omega (arith, t.lent, ap length g.told ∙ length-told notes (count_of r) i before)
-
-  pub telling-tellable : Tells notes r old (length before) → Tellable notes r i
-  telling-tellable t = record { read = λ h. t.read i h }
-
-  pub telling-on : i < n → (z : Record) → z ≡ told_at notes (count_of r) i → Telling notes r before n (i + 1) (set now i z)
-  unfolding told_records
-  telling-on h z k = record { few = omega arith; told = rw (g.told, k, one_more i) refl }
-
-  pub telling-end : n ≤ i → now ≡ told_records notes (count_of r) (touched r old) before
-  telling-end h = let z : i ≡ touched r old = omega (arith, g.few, e) in g.told ∙ ap (λ (k : ℕ). told_records notes (count_of r) k before) z
+pub telling-on : (notes : List ℕ) (r : Reading) (before : List Record) (n i : ℕ) (now : List Record) → Telling notes r before n i now → i < n → (z : Record) → z ≡ told_at notes (count_of r) i
+    → Telling notes r before n (i + 1) (set now i z)
+unfolding told_records
+telling-on notes r before n i now g h z k = record { few = omega arith; told = rw (g.told, k, one_more i) refl }

@@ -6,4 +6,4 @@ pub loop-i-init : goal.loop-i-init
 loop-i-init c = search (telling-none, arith)
 
 pub loop-i-preserved : goal.loop-i-preserved
-loop-i-preserved c = telling-on _ _ _ _ _ _ _ c.loop-i.invariant c.touched_by-n.ensures c.loop-i-test.true _ c.record_by-z.ensures
+loop-i-preserved c = telling-on _ _ _ _ _ _ c.loop-i.invariant c.loop-i-test.true _ c.record_by-z.ensures
