@@ -18,7 +18,8 @@ use Rattle.model.proofs.LexemeLoop.{lexemes-end}
 use Rattle.model.proofs.Strict.{octets_of_lexemes}
 use Rattle.model.specs.Count.{count, begin, shut_by, shut}
 use Rattle.walk.specs.Extent.{Measures}
-use Rattle.walk.specs.declared.Extent.TheVariants.{Whole, Refused}
+use Rattle.walk.proofs.Extents.{place-equal}
+use Rattle.walk.specs.Extent.{Whole, Refused}
 use Rattle.walk.proofs.Chained.{walking, walking-end, undecoded, decodes}
 use Rattle.scan.specs.Runs.{Skipped}
 use Rattle.blocks.specs.Fronts.{Front}
@@ -77,7 +78,7 @@ pub refusal : (β : Bool) (src out notes notes' : List ℕ) → walking (lexemes
 unfolding Measures decode₃
 refusal β src out notes notes' e =
     let z : decode₃ rules β src ≡ none = undecoded (lexemes rules β src) e in
-    record { measures = z; fails = λ p f. let y : 0 ≡ p = cc in sym y; octets = λ t x h. none-some (sym z ∙ x); kept = λ _ g. none-some (sym z ∙ g.is) }
+    record { measures = z; fails = λ p f. sym (place-equal f); octets = λ t x h. none-some (sym z ∙ x); kept = λ _ g. none-some (sym z ∙ g.is) }
 
 module _ (β : Bool) (src out₀ notes₀ out starts node_nos notes : List ℕ) (at len o d n : ℕ) (w : Converting β src out₀ notes₀ out starts node_nos notes at len o d n) where
   pub convert-inside : at ≤ length src

@@ -1,7 +1,7 @@
 -- What is read at a place of a source: nothing, or octets that stand as they are.
 use Prim.Native.Nat.{ℕ, suc, ◌+◌, ◌-◌, ◌≤◌, ◌<◌}
 use native.Mathlib.Omega.{arith}
-use mathlib.Core.Path.{◌≡◌, refl, sym, ap, ap₂, ◌∙◌, subst}
+use mathlib.Core.Path.{◌≡◌, refl, sym, ap, ap₂, ◌∙◌}
 use mathlib.Core.Bool.{true}
 use mathlib.Core.List.{List, [], ◌∷◌}
 use lib.ListN.{length, take, drop, get_or, length-drop, drop_of_length-le}
@@ -18,8 +18,7 @@ use Rattle.octets.specs.Classes.{Class}
 use Rattle.scan.specs.Runs.{Ran}
 use Rattle.scan.proofs.Places.{one-here}
 use Rattle.decimal.specs.Numbers.{Huge, Numbered}
-use Rattle.decimal.specs.declared.Number.{Number}
-use Rattle.decimal.specs.declared.Number.TheVariants.{NoNumber}
+use Rattle.std.specs.Prelude.{None}
 
 -- ---- between marks
 
@@ -46,9 +45,9 @@ after-huge n (b ∷ s) h =
     (λ t. picked _ _ t ∙ unpicked _ _ (lt-leb n (length s) (omega arith)))
     (λ t. unpicked _ _ t ∙ too_long n b s (omega arith))
 
-pub counted-huge : (src : List ℕ) (at : ℕ) (y : Read ℕ) (r : Number) → Numbered src y at r → r ≡ NoNumber → bind y (after_number rules) ≡ refused
+pub counted-huge : (src : List ℕ) (at : ℕ) (y : Read ℕ) → Numbered src y at None → bind y (after_number rules) ≡ refused
 unfolding Numbered bind
-counted-huge src at y r w e = let u : Huge src y = subst (Numbered src y at) e w in rw u.reads (after-huge u.value u.rest (omega (arith, u.large, u.short)))
+counted-huge src at y w = let u : Huge src y = w in rw u.reads (after-huge u.value u.rest (omega (arith, u.large, u.short)))
 
 module _ (src : List ℕ) (at n : ℕ) where
   pub after-end : length src ≤ at → after_number rules n (drop at src) ≡ refused

@@ -25,7 +25,7 @@ use Rattle.model.proofs.Nesting.{unnest}
 use Rattle.model.proofs.OutputSizes.{nodes-half, depth-within}
 use Rattle.model.proofs.Strict.{octets_of_lexemes}
 use Rattle.model.specs.Count.{count, shut_by, shut}
-use Rattle.walk.specs.declared.Extent.TheVariants.{Refused}
+use Rattle.walk.specs.Extent.{Refused}
 use Rattle.walk.proofs.Chained.{walking, walking-tree}
 use Rattle.scan.specs.Runs.{Skipped}
 use Rattle.scan.proofs.Places.{one-here}
@@ -33,8 +33,7 @@ use Rattle.blocks.specs.Fronts.{Front}
 use Rattle.blocks.proofs.Laws.{front-both}
 use Rattle.advanced.specs.Braced.{TreeAt, Holds}
 use Rattle.advanced.specs.declared.braces.Inside.{Inside}
-use Rattle.advanced.specs.declared.braces.Inside.TheVariants.{NoTree}
-use Rattle.advanced.specs.declared.braces.Inside.TheVariants as inside
+use Rattle.std.specs.Prelude.{Option as Optional, Some, None}
 use Rattle.sheets.proofs.Stacking.{stacked-on}
 use Rattle.advanced.specs.Converted.{Converts, Wrapped}
 use Rattle.advanced.proofs.Passed.{prefixed, octets-both, prefixed-tree, held_of}
@@ -52,41 +51,41 @@ module _ (β : Bool) (src out₀ notes₀ out starts node_nos notes : List ℕ) 
     here : skip (drop at src) ≡ 123 ∷ drop (i + 1) src
     here = p.reads ∙ one-here src i h ∙ ap (λ (b : ℕ). b ∷ drop (i + 1) src) (eqb-true _ _ pair.1)
 
-    module _ (out₁ : List ℕ) (v : Inside) (s : Holds src i r out out₁ v) where
-      not-held : v ≡ NoTree → braces rules (drop (i + 1) src) ≡ refused
+    module _ (out₁ : List ℕ) (v : Optional Inside) (s : Holds src i r out out₁ v) where
+      not-held : v ≡ None → braces rules (drop (i + 1) src) ≡ refused
       unfolding Holds
       not-held e = subst (Holds src i r out out₁) e s
 
-      pub held-refused : v ≡ NoTree → (b : List ℕ) → Converts β (decode₃ rules β src) b notes₀ notes (Refused 0)
+      pub held-refused : v ≡ None → (b : List ℕ) → Converts β (decode₃ rules β src) b notes₀ notes (Refused 0)
       unfolding chain
       held-refused e b =
           refusal β src b notes₀ notes (w.same ∙ ap (λ (v : Option (List Lexeme)). walking v (count o d n))
           (held_none rules-apart β pair.0 (drop at src) (drop (i + 1) src) here (not-held e)))
 
-      module _ (next k c m : ℕ) (e : v ≡ inside.Held next k c m) where
-        at-tree : TreeAt src i r out out₁ next k c m
+      module _ (inner : Inside) (e : v ≡ Some inner) where
+        at-tree : TreeAt src i r out out₁ inner.next inner.sizes.len inner.sizes.nodes inner.sizes.depth
         unfolding Holds
         at-tree = subst (Holds src i r out out₁) e s
 
-        small : (2 * c ≤ k) × (m ≤ c)
+        small : (2 * inner.sizes.nodes ≤ inner.sizes.len) × (inner.sizes.depth ≤ inner.sizes.nodes)
         small = (omega (arith, nodes-half at-tree.tree, at-tree.long, at-tree.counted), omega (arith, depth-within at-tree.tree, at-tree.counted, at-tree.deepest))
 
-        pub held-less : length src - next < length src - at
+        pub held-less : length src - inner.next < length src - at
         held-less = omega (arith, p.from, at-tree.few, at-tree.within)
 
-        pub held-deep : Fits w64 (o + m)
+        pub held-deep : Fits w64 (o + inner.sizes.depth)
         held-deep = omega (arith, w.few, w.lent.short, w.inside, at-tree.few, at-tree.within, p.from, small)
 
-        pub held-many : Fits w64 (n + c)
+        pub held-many : Fits w64 (n + inner.sizes.nodes)
         held-many = omega (arith, w.few, w.lent.short, w.inside, at-tree.few, at-tree.within, p.from, small)
 
-        pub held-long : Fits w64 (len + k)
+        pub held-long : Fits w64 (len + inner.sizes.len)
         held-long = omega (arith, w.few, w.lent.short, w.inside, at-tree.few, at-tree.within, p.from)
 
-        passes-tree : lexemes rules β (drop at src) ≡ unnesting at-tree.tree (lexemes rules β (drop next src))
-        passes-tree = held-lexemes rules-apart β pair.0 (drop at src) (drop (i + 1) src) (drop next src) at-tree.tree here (held_of at-tree.reads)
+        passes-tree : lexemes rules β (drop at src) ≡ unnesting at-tree.tree (lexemes rules β (drop inner.next src))
+        passes-tree = held-lexemes rules-apart β pair.0 (drop at src) (drop (i + 1) src) (drop inner.next src) at-tree.tree here (held_of at-tree.reads)
 
-        pub held_on : (d' : ℕ) → d' ≡ max d (o + m) → Converting β src out₀ notes₀ out₁ starts node_nos notes next (len + k) o d' (n + c)
+        pub held_on : (d' : ℕ) → d' ≡ max d (o + inner.sizes.depth) → Converting β src out₀ notes₀ out₁ starts node_nos notes inner.next (len + inner.sizes.len) o d' (n + inner.sizes.nodes)
         held_on d' g =
             let z : octets_of_lexemes (w.passed ++ unnest at-tree.tree []) ≡ octets_of_lexemes w.passed ++ canon at-tree.tree =
             octets-both w.passed (unnest at-tree.tree []) ∙ ap (λ (x : List ℕ). octets_of_lexemes w.passed ++ x) (unnest-canon at-tree.tree) in
@@ -97,16 +96,16 @@ module _ (β : Bool) (src out₀ notes₀ out starts node_nos notes : List ℕ) 
               few = (omega (arith, w.few, p.from, at-tree.few), omega (arith, w.few, p.from, at-tree.few, small, g), omega (arith, w.few, p.from, at-tree.few, small), omega (arith, w.few, p.from, at-tree.few));
               level = omega (arith, w.level, g);
               passed = w.passed ++ unnest at-tree.tree [];
-              all = w.all ∙ ap (prefixed w.passed) passes-tree ∙ prefixed-tree w.passed at-tree.tree (lexemes rules β (drop next src));
+              all = w.all ∙ ap (prefixed w.passed) passes-tree ∙ prefixed-tree w.passed at-tree.tree (lexemes rules β (drop inner.next src));
               same = w.same ∙ ap (λ (v : Option (List Lexeme)). walking v (count o d n)) passes-tree
-                  ∙ walking-tree at-tree.tree (lexemes rules β (drop next src)) (count o d n) not-shut w.level
-                  ∙ ap₂ (λ (x y : ℕ). walking (lexemes rules β (drop next src)) (count o x y)) (sym (g ∙ ap (λ (x : ℕ). max d (o + x)) at-tree.deepest)) (ap (λ (x : ℕ). n + x) (sym at-tree.counted));
+                  ∙ walking-tree at-tree.tree (lexemes rules β (drop inner.next src)) (count o d n) not-shut w.level
+                  ∙ ap₂ (λ (x y : ℕ). walking (lexemes rules β (drop inner.next src)) (count o x y)) (sym (g ∙ ap (λ (x : ℕ). max d (o + x)) at-tree.deepest)) (ap (λ (x : ℕ). n + x) (sym at-tree.counted));
               size = ap length z ∙ length-append (octets_of_lexemes w.passed) (canon at-tree.tree) ∙ omega (arith, w.size, at-tree.long);
               front = λ m.
                   let f : r ≡ len = goes.on (omega arith) in
-                  subst (λ (x : List ℕ). Front x 0 out₀ out₁ (len + k)) (sym z)
-                  (front-both (octets_of_lexemes w.passed) (canon at-tree.tree) 0 len (len + k) out₀ out out₁ (w.front (omega arith)) (subst (λ (x : ℕ). Front (canon at-tree.tree) x out out₁ (x + k)) f at-tree.front));
+                  subst (λ (x : List ℕ). Front x 0 out₀ out₁ (len + inner.sizes.len)) (sym z)
+                  (front-both (octets_of_lexemes w.passed) (canon at-tree.tree) 0 len (len + inner.sizes.len) out₀ out out₁ (w.front (omega arith)) (subst (λ (x : ℕ). Front (canon at-tree.tree) x out out₁ (x + inner.sizes.len)) f at-tree.front));
               notes_long = w.notes_long;
-              stacked = stacked-on starts node_nos (max_canonical + 1) o n w.stacked (max_canonical + 1) o (n + c) (omega arith) (omega arith) (omega arith);
+              stacked = stacked-on starts node_nos (max_canonical + 1) o n w.stacked (max_canonical + 1) o (n + inner.sizes.nodes) (omega arith) (omega arith) (omega arith);
               coming = λ b g. differ pair.0 b;
             }

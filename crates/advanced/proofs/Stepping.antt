@@ -24,7 +24,7 @@ use Rattle.model.proofs.Held.{lexeme-in-other}
 use Rattle.model.proofs.Lexemes.{before-cases}
 use Rattle.model.proofs.Strict.{octets_of_lexeme, octets_of_lexemes}
 use Rattle.model.specs.Count.{count, shut_by, shut, step}
-use Rattle.walk.specs.declared.Extent.TheVariants.{Refused}
+use Rattle.walk.specs.Extent.{Refused}
 use Rattle.walk.proofs.Fronts.{frames_of}
 use Rattle.walk.proofs.Chained.{walking, walking-step, walking-stop}
 use Rattle.scan.specs.Runs.{Skipped}

@@ -20,7 +20,7 @@ use Rattle.scan.specs.Writes.{Wrote}
 use Rattle.scan.proofs.Places.{one-here}
 use Rattle.decimal.specs.Numbers.{Valued, Numbered}
 use Rattle.decimal.specs.declared.Number.{Number}
-use Rattle.decimal.specs.declared.Number.TheVariants.{Value, NoNumber}
+use Rattle.std.specs.Prelude.{Option, Some, None}
 use Rattle.quoted.specs.Pieces.{Unescaped}
 use Rattle.advanced.proofs.Found as Found
 use Rattle.blocks.specs.Fronts.{Front}
@@ -147,26 +147,26 @@ module _ (src : List ℕ) (at n pos : ℕ) (out : List ℕ) where
     after-colon k b e f = standing src _ at pos out b n (at + 1) (at + 1 + n) e (Found.after-verbatim src at n h z k) (omega arith) (omega arith) f
 
 -- ---- a string that begins with a number
-module _ (src : List ℕ) (at : ℕ) (y : Read ℕ) (r : Number) (w : Numbered src y at r) (pos : ℕ) (out : List ℕ) where
-  pub number-room : (v next : ℕ) → r ≡ Value v next → Room src at pos (length out) → Room src next pos (length out)
+module _ (src : List ℕ) (at : ℕ) (y : Read ℕ) (r : Option Number) (w : Numbered src y at r) (pos : ℕ) (out : List ℕ) where
+  pub number-room : (d : Number) → r ≡ Some d → Room src at pos (length out) → Room src d.next pos (length out)
   unfolding Numbered
-  number-room v next e m =
-      let t : Valued src y at v next = subst (Numbered src y at) e w in
+  number-room d e m =
+      let t : Valued src y at d.value d.next = subst (Numbered src y at) e w in
       record { inside = t.within; short = m.short; space = omega (arith, t.from, m.space) }
 
-  pub number-on : (v next : ℕ) → r ≡ Value v next → (b : List ℕ) (e q : ℕ) → Spells src (after_number rules v (drop next src)) next pos out b e q → Spells src (bind y (after_number rules)) at pos out b e q
+  pub number-on : (d : Number) → r ≡ Some d → (b : List ℕ) (e q : ℕ) → Spells src (after_number rules d.value (drop d.next src)) d.next pos out b e q → Spells src (bind y (after_number rules)) at pos out b e q
   unfolding Numbered bind
-  number-on v next z b e q s =
-      let t : Valued src y at v next = subst (Numbered src y at) z w in
+  number-on d z b e q s =
+      let t : Valued src y at d.value d.next = subst (Numbered src y at) z w in
       record {
         none = λ k. rw t.reads (s.none k);
         some = λ k.
-            let p : Spelled src (after_number rules v (drop next src)) next pos out b e q = s.some k in
+            let p : Spelled src (after_number rules d.value (drop d.next src)) d.next pos out b e q = s.some k in
             record { octets = p.octets; reads = rw t.reads p.reads; on = omega (arith, p.on, t.from); within = p.within; front = p.front };
       }
 
-  pub number-huge : r ≡ NoNumber → (b : List ℕ) (e : ℕ) → Spells src (bind y (after_number rules)) at pos out b e 0
-  number-huge z b e = unread src _ at pos out b e (Found.counted-huge src at y r w z)
+  pub number-huge : r ≡ None → (b : List ℕ) (e : ℕ) → Spells src (bind y (after_number rules)) at pos out b e 0
+  number-huge z b e = unread src _ at pos out b e (Found.counted-huge src at y (subst (Numbered src y at) z w))
 
 -- ---- any
 same-spells : (src : List ℕ) (x y : Read (List ℕ)) (at pos : ℕ) (a b : List ℕ) (e next : ℕ) → y ≡ x → Spells src x at pos a b e next → Spells src y at pos a b e next

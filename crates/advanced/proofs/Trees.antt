@@ -25,15 +25,15 @@ use Rattle.model.proofs.Simples.{reading-cases}
 use Rattle.model.proofs.Sizes.{upto-size, base-size}
 use Rattle.model.proofs.Streams.{between}
 use Rattle.walk.specs.Extent.{Wholly, Measures}
+use Rattle.walk.specs.Extent.{Measured}
 use Rattle.walk.specs.declared.Extent.{Extent}
-use Rattle.walk.specs.declared.Extent.TheVariants.{Whole, Refused}
+use Rattle.walk.specs.declared.Broken.{Broken}
+use Rattle.std.specs.Prelude.{Ok, Err, Some, None}
 use Rattle.blocks.specs.Fronts.{Front}
 use Rattle.marks.specs.Decoded.{Spacious, Decoded, Decodes}
 use Rattle.sheets.specs.Notes.{Noted}
 use Rattle.advanced.specs.Nodes.{Spare}
 use Rattle.advanced.specs.Braced.{Holds}
-use Rattle.advanced.specs.declared.braces.Inside.TheVariants.{NoTree}
-use Rattle.advanced.specs.declared.braces.Inside.TheVariants as inside
 
 -- what the letters give is no longer than they are
 letters-short : (s : List ℕ) {d k : List ℕ} → between 125 (unbase rules) [] s ≡ got d k → length d + 1 + length k ≤ length s
@@ -66,7 +66,7 @@ module _ (src out : List ℕ) (at pos : ℕ) (g : (at < length src) × Spare src
   tree-space = record { inside = omega (arith, g.0); space = omega (arith, g.0, g.1.space) }
 
   module _ (out' : List ℕ) (n next : ℕ) (w : Decodes src (between 125 (unbase rules) [] (drop (at + 1) src)) (at + 1) pos out out' n next) where
-    pub tree-none : next ≡ 0 → Holds src at pos out out' NoTree
+    pub tree-none : next ≡ 0 → Holds src at pos out out' None
     unfolding Holds braces bind
     tree-none z = ap (λ (x : Read (List ℕ)). bind x canonical_of) (w.none z)
 
@@ -107,20 +107,20 @@ module _ (src out : List ℕ) (at pos : ℕ) (g : (at < length src) × Spare src
       pub tree-short : length part ≤ max_source
       tree-short = omega (arith, fits, tree-part, told.within, g.1.short)
 
-      module _ (before after : List ℕ) (r : Extent) (v : Noted part before after r) where
-        pub tree-refused : (q : ℕ) → r ≡ Refused q → Holds src at pos out out' NoTree
+      module _ (before after : List ℕ) (r : Measured) (v : Noted part before after r) where
+        pub tree-refused : (q : Broken) → r ≡ Err q → Holds src at pos out out' None
         unfolding Holds braces bind Measures
         tree-refused q e =
             let d : decode₁ part ≡ none = subst (Measures (decode₁ part)) e v.measures in
             ap (λ (x : Read (List ℕ)). bind x canonical_of) told.reads ∙ canonical-none told.octets (drop next src) (ap decode₁ (sym part-is) ∙ d)
 
-        pub tree-held : (k c m : ℕ) → r ≡ Whole k c m → Holds src at pos out out' (inside.Held next k c m)
+        pub tree-held : (s : Extent) → r ≡ Ok s → Holds src at pos out out' (Some (record { next = next; sizes = s }))
         unfolding Holds braces bind Measures
-        tree-held k c m e =
-            let y : Wholly (decode₁ part) k c m = subst (Measures (decode₁ part)) e v.measures in
+        tree-held s e =
+            let y : Wholly (decode₁ part) s.len s.nodes s.depth = subst (Measures (decode₁ part)) e v.measures in
             let d : decode₁ told.octets ≡ some y.tree = ap decode₁ (sym part-is) ∙ y.is in
             let o : told.octets ≡ canon y.tree = canon-sound told.octets y.tree d in
-            let q : k ≡ n = omega (arith, y.long, ap length o, many) in
+            let q : s.len ≡ n = omega (arith, y.long, ap length o, many) in
             record {
               tree = y.tree;
               reads = ap (λ (x : Read (List ℕ)). bind x canonical_of) told.reads ∙ canonical-some told.octets (drop next src) y.tree d ∙ ap (λ (x : List ℕ). got x (drop next src)) o;
@@ -129,5 +129,5 @@ module _ (src out : List ℕ) (at pos : ℕ) (g : (at < length src) × Spare src
               long = y.long;
               counted = y.counted;
               deepest = y.deepest;
-              front = subst (λ (x : List ℕ). Front x pos out out' (pos + k)) o (subst (λ (x : ℕ). Front told.octets pos out out' (pos + x)) (sym q) told.front);
+              front = subst (λ (x : List ℕ). Front x pos out out' (pos + s.len)) o (subst (λ (x : ℕ). Front told.octets pos out out' (pos + x)) (sym q) told.front);
             }

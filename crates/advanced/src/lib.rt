@@ -9,66 +9,45 @@ ghost use Rattle.model.specs.Decode.{decode₃};
 ghost use Rattle.model.specs.Limits.{max_source};
 ghost use Rattle.model.specs.Octets.{is_digit};
 ghost use Rattle.model.specs.Strings.{bind, decimal, marked, after_number, simple};
-ghost use Rattle.octets.specs.Classes.{Classed, Lettered};
 ghost use Rattle.marks.specs.Decoded.{Spacious, Decodes};
 ghost use Rattle.advanced.specs.Spelled.{Room, Spells};
 ghost use Rattle.advanced.specs.Nodes.{Spare, HintCloses, HintSpells, Nodes};
 ghost use Rattle.advanced.specs.Converted.{Converts, Wrapped, Lent};
 
 use blocks::{frame, put_string};
-use braces::{Inside, opens, tree_at};
-use decimal::{Number, decimal_at};
+use braces::{opens, tree_at};
+use decimal::decimal_at;
 use octets::class_of;
 use sheets::notes::{enter, keep_string, leave, up_of};
-use walk::Extent;
+use walk::{Broken, Extent, Measured};
 
 // A string between marks, decoded; the place after it, or 0.
-fn decode(
-    classes: &[u8; 256],
-    letters: &[u8; 256],
-    src: &[u8],
-    at: usize,
-    out: &mut [u8],
-    pos: usize,
-    count: &mut usize,
-) -> usize
-    requires classed { Classed classes.now }
-    requires lettered { Lettered letters.now }
-    requires at_in_bounds { (at < length src.now) × Spacious src.now (at + 1) pos (length out.old) }
+fn decode(src: &[u8], at: usize, out: &mut [u8], pos: usize, count: &mut usize) -> usize
+    requires { (at < length src.now) × Spacious src.now (at + 1) pos (length out.old) }
     ensures { Decodes src.now (marked rules (get_or src.now at 0) (drop (at + 1) src.now)) at pos out.old out.new count.new result }
 {
     // Lent again, a slice goes on in registers.
     let src = &*src;
     let b = src[at];
     if b == b'"' {
-        return marks::quotes(classes, src, at + 1, out, pos, count);
+        return marks::quotes(src, at + 1, out, pos, count);
     }
     if b == b'#' {
-        return marks::hex(classes, src, at + 1, out, pos, count);
+        return marks::hex(src, at + 1, out, pos, count);
     }
     if b == b'|' {
-        return marks::base(classes, letters, src, at + 1, b'|', out, pos, count);
+        return marks::base(src, at + 1, b'|', out, pos, count);
     }
     0
 }
 
 // A string between marks, decoded behind room for two digits and a colon, and framed; the place after it, or 0.
-fn framed(
-    classes: &[u8; 256],
-    letters: &[u8; 256],
-    src: &[u8],
-    at: usize,
-    out: &mut [u8],
-    pos: usize,
-    end: &mut usize,
-) -> usize
-    requires classed { Classed classes.now }
-    requires lettered { Lettered letters.now }
-    requires at_in_bounds { (at < length src.now) × Room src.now at pos (length out.old) }
+fn framed(src: &[u8], at: usize, out: &mut [u8], pos: usize, end: &mut usize) -> usize
+    requires { (at < length src.now) × Room src.now at pos (length out.old) }
     ensures { Spells src.now (marked rules (get_or src.now at 0) (drop (at + 1) src.now)) at pos out.old out.new end.new result }
 {
     let mut n: usize = 0;
-    let next = decode(classes, letters, src, at, out, pos + 3, &mut n);
+    let next = decode(src, at, out, pos + 3, &mut n);
     if next == 0 {
         return 0;
     }
@@ -77,26 +56,16 @@ fn framed(
 }
 
 // The same; a quoted string in which nothing is escaped, the commonest by far, is copied to its place at once.
-fn between(
-    classes: &[u8; 256],
-    letters: &[u8; 256],
-    src: &[u8],
-    at: usize,
-    out: &mut [u8],
-    pos: usize,
-    end: &mut usize,
-) -> usize
-    requires classed { Classed classes.now }
-    requires lettered { Lettered letters.now }
-    requires at_in_bounds { (at < length src.now) × Room src.now at pos (length out.old) }
+fn between(src: &[u8], at: usize, out: &mut [u8], pos: usize, end: &mut usize) -> usize
+    requires { (at < length src.now) × Room src.now at pos (length out.old) }
     ensures { Spells src.now (marked rules (get_or src.now at 0) (drop (at + 1) src.now)) at pos out.old out.new end.new result }
 {
     if src[at] != b'"' {
-        return framed(classes, letters, src, at, out, pos, end);
+        return framed(src, at, out, pos, end);
     }
-    let stop = quoted::unescaped_end(classes, src, at + 1);
+    let stop = quoted::unescaped_end(src, at + 1);
     if stop < at + 2 {
-        return framed(classes, letters, src, at, out, pos, end);
+        return framed(src, at, out, pos, end);
     }
     *end = put_string(src, at + 1, stop - at - 2, out, pos);
     stop
@@ -104,8 +73,6 @@ fn between(
 
 // What follows a length: a colon and as many octets, or a string between marks that has as many.
 fn after_number(
-    classes: &[u8; 256],
-    letters: &[u8; 256],
     src: &[u8],
     at: usize,
     n: usize,
@@ -113,9 +80,7 @@ fn after_number(
     pos: usize,
     end: &mut usize,
 ) -> usize
-    requires classed { Classed classes.now }
-    requires lettered { Lettered letters.now }
-    requires room { Room src.now at pos (length out.old) }
+    requires { Room src.now at pos (length out.old) }
     ensures { Spells src.now (after_number rules n (drop at src.now)) at pos out.old out.new end.new result }
 {
     if at >= src.len() {
@@ -130,7 +95,7 @@ fn after_number(
         return body + n;
     }
     let mut m: usize = 0;
-    let next = decode(classes, letters, src, at, out, pos + 3, &mut m);
+    let next = decode(src, at, out, pos + 3, &mut m);
     if next == 0 {
         return 0;
     }
@@ -142,73 +107,43 @@ fn after_number(
 }
 
 // A string that begins with its length.
-fn counted(
-    classes: &[u8; 256],
-    letters: &[u8; 256],
-    src: &[u8],
-    at: usize,
-    out: &mut [u8],
-    pos: usize,
-    end: &mut usize,
-) -> usize
-    requires classed { Classed classes.now }
-    requires lettered { Lettered letters.now }
-    requires at_in_bounds { (at < length src.now) × Room src.now at pos (length out.old) × (is_digit (get_or src.now at 0) ≡ true) }
+fn counted(src: &[u8], at: usize, out: &mut [u8], pos: usize, end: &mut usize) -> usize
+    requires { (at < length src.now) × Room src.now at pos (length out.old) × (is_digit (get_or src.now at 0) ≡ true) }
     ensures { Spells src.now (bind (decimal (get_or src.now at 0) (drop (at + 1) src.now)) (after_number rules)) at pos out.old out.new end.new result }
 {
     match decimal_at(src, at) {
-        Number::Value { value, next } => {
-            after_number(classes, letters, src, next, value, out, pos, end)
-        }
-        Number::NoNumber => 0,
+        Some(number) => after_number(src, number.next, number.value, out, pos, end),
+        None => 0,
     }
 }
 
 // Any simple string, written as a verbatim string; the place after it, or 0. Where it ends in `out` goes to `end`.
-pub fn simple(
-    classes: &[u8; 256],
-    letters: &[u8; 256],
-    src: &[u8],
-    at: usize,
-    out: &mut [u8],
-    pos: usize,
-    end: &mut usize,
-) -> usize
-    requires classed { Classed classes.now }
-    requires lettered { Lettered letters.now }
-    requires room { Room src.now at pos (length out.old) }
+pub fn simple(src: &[u8], at: usize, out: &mut [u8], pos: usize, end: &mut usize) -> usize
+    requires { Room src.now at pos (length out.old) }
     ensures { Spells src.now (simple rules (drop at src.now)) at pos out.old out.new end.new result }
 {
     let src = &*src;
     if at >= src.len() {
         return 0;
     }
-    let c = class_of(classes, src[at]);
+    let c = class_of(src[at]);
     if c < octets::TOKEN {
-        return between(classes, letters, src, at, out, pos, end);
+        return between(src, at, out, pos, end);
     }
     if c > octets::HEX {
-        return counted(classes, letters, src, at, out, pos, end);
+        return counted(src, at, out, pos, end);
     }
-    let stop = scan::run_end(classes, src, at + 1);
+    let stop = scan::run_end(src, at + 1);
     *end = put_string(src, at, stop - at, out, pos);
     stop
 }
 
 // The closing bracket of a hint, with whitespace on both sides; the place after them, or 0.
-fn close_hint(
-    classes: &[u8; 256],
-    src: &[u8],
-    at: usize,
-    out: &mut [u8],
-    pos: usize,
-    end: &mut usize,
-) -> usize
-    requires classed { Classed classes.now }
-    requires at_in_bounds { (at ≤ length src.now) × (pos < length out.old) }
+fn close_hint(src: &[u8], at: usize, out: &mut [u8], pos: usize, end: &mut usize) -> usize
+    requires { (at ≤ length src.now) × (pos < length out.old) }
     ensures { HintCloses src.now at pos out.old out.new end.new result }
 {
-    let j = scan::skip_at(classes, src, at);
+    let j = scan::skip_at(src, at);
     if j >= src.len() {
         return 0;
     }
@@ -217,39 +152,27 @@ fn close_hint(
     }
     out[pos] = b']';
     *end = pos + 1;
-    scan::skip_at(classes, src, j + 1)
+    scan::skip_at(src, j + 1)
 }
 
 // A hint, from its bracket on, with its brackets; the place where its string begins, or 0.
-fn hint(
-    classes: &[u8; 256],
-    letters: &[u8; 256],
-    src: &[u8],
-    at: usize,
-    out: &mut [u8],
-    pos: usize,
-    end: &mut usize,
-) -> usize
-    requires classed { Classed classes.now }
-    requires lettered { Lettered letters.now }
-    requires at_in_bounds { (at < length src.now) × Spare src.now at pos (length out.old) }
+fn hint(src: &[u8], at: usize, out: &mut [u8], pos: usize, end: &mut usize) -> usize
+    requires { (at < length src.now) × Spare src.now at pos (length out.old) }
     ensures { HintSpells src.now at pos out.old out.new end.new result }
 {
     out[pos] = b'[';
-    let i = scan::skip_at(classes, src, at + 1);
+    let i = scan::skip_at(src, at + 1);
     let mut e: usize = 0;
-    let next = simple(classes, letters, src, i, out, pos + 1, &mut e);
+    let next = simple(src, i, out, pos + 1, &mut e);
     if next == 0 {
         return 0;
     }
-    close_hint(classes, src, next, out, e, end)
+    close_hint(src, next, out, e, end)
 }
 
 // A string with its hint, from the hint's bracket on; the place after it, or 0. Where its hint ends in `out`, brackets and all, goes to
 // `mid`.
 fn hinted(
-    classes: &[u8; 256],
-    letters: &[u8; 256],
     src: &[u8],
     at: usize,
     out: &mut [u8],
@@ -257,17 +180,15 @@ fn hinted(
     mid: &mut usize,
     end: &mut usize,
 ) -> usize
-    requires classed { Classed classes.now }
-    requires lettered { Lettered letters.now }
-    requires at_in_bounds { (at < length src.now) × Spare src.now at pos (length out.old) × (get_or src.now at 0 ≡ 91) }
+    requires { (at < length src.now) × Spare src.now at pos (length out.old) × (get_or src.now at 0 ≡ 91) }
     ensures { Nodes src.now at pos out.old out.new mid.new end.new result }
 {
-    let from = hint(classes, letters, src, at, out, pos, mid);
+    let from = hint(src, at, out, pos, mid);
     if from == 0 {
         return 0;
     }
     let behind = *mid;
-    simple(classes, letters, src, from, out, behind, end)
+    simple(src, from, out, behind, end)
 }
 
 // Where writing goes on: at the front again once more octets are written than a sheet may have.
@@ -280,17 +201,8 @@ fn wrap(end: usize) -> usize
 // The canonical octets of a text at the front of `out`, the sizes of the tree that it means, and its notes. No limit decides whether it
 // means one. Once more octets are written than a sheet has, octets and notes no longer matter. With braces, which form 4 has, nothing
 // is said of the notes.
-pub fn convert(
-    classes: &[u8; 256],
-    letters: &[u8; 256],
-    braces: bool,
-    src: &[u8],
-    out: &mut [u8],
-    notes: &mut [usize],
-) -> Extent
-    requires classed { Classed classes.now }
-    requires lettered { Lettered letters.now }
-    requires lent { Lent (length src.now) (length out.old) }
+pub fn convert(braces: bool, src: &[u8], out: &mut [u8], notes: &mut [usize]) -> Measured
+    requires { Lent (length src.now) (length out.old) }
     ensures { Converts braces (decode₃ rules braces src.now) out.new notes.old notes.new result }
 {
     let mut starts: [usize; limits::DEPTH] = [0; limits::DEPTH];
@@ -301,19 +213,19 @@ pub fn convert(
     let mut seen: usize = 0;
     let mut size: usize = 0;
     loop {
-        let i = scan::skip_at(classes, src, at);
+        let i = scan::skip_at(src, at);
         if walk::closed(opened, seen) {
             if i < src.len() {
-                return Extent::Refused { place: 0 };
+                return Err(Broken { place: 0 });
             }
-            return Extent::Whole {
+            return Ok(Extent {
                 len: size,
                 nodes: seen,
                 depth: deepest,
-            };
+            });
         }
         if i >= src.len() {
-            return Extent::Refused { place: 0 };
+            return Err(Broken { place: 0 });
         }
         let b = src[i];
         let o = wrap(size);
@@ -329,7 +241,7 @@ pub fn convert(
         }
         if b == b')' {
             if opened == 0 {
-                return Extent::Refused { place: 0 };
+                return Err(Broken { place: 0 });
             }
             opened -= 1;
             leave(notes, &starts, &numbers, opened, seen, o);
@@ -339,34 +251,25 @@ pub fn convert(
             continue;
         }
         if opens(braces, b) {
-            match tree_at(classes, letters, src, i, out, o) {
-                Inside::Held {
-                    next,
-                    len,
-                    nodes,
-                    depth,
-                } => {
-                    deepest = walk::larger(deepest, opened + depth);
-                    seen += nodes;
-                    size += len;
-                    at = next;
-                    continue;
-                }
-                Inside::NoTree => {
-                    return Extent::Refused { place: 0 };
-                }
-            }
+            let Some(inside) = tree_at(src, i, out, o) else {
+                return Err(Broken { place: 0 });
+            };
+            deepest = walk::larger(deepest, opened + inside.sizes.depth);
+            seen += inside.sizes.nodes;
+            size += inside.sizes.len;
+            at = inside.next;
+            continue;
         }
         let mut mid: usize = 0;
         let mut end: usize = 0;
         // A call through another function would store the text's place and length again for each string.
         let next = if b == b'[' {
-            hinted(classes, letters, src, i, out, o, &mut mid, &mut end)
+            hinted(src, i, out, o, &mut mid, &mut end)
         } else {
-            simple(classes, letters, src, i, out, o, &mut end)
+            simple(src, i, out, o, &mut end)
         };
         if next == 0 {
-            return Extent::Refused { place: 0 };
+            return Err(Broken { place: 0 });
         }
         let up = up_of(&numbers, opened);
         keep_string(notes, seen, o, mid, end, up);

@@ -15,11 +15,11 @@ pub fn split(run: &[u8]) -> usize
     let mut opened: usize = 0;
     while at < run.len() {
         match canonical::lexeme_at(run, at) {
-            Item::Open => {
+            Some(Item::Open) => {
                 opened += 1;
                 at += 1;
             }
-            Item::Close => {
+            Some(Item::Close) => {
                 if opened == 0 {
                     return 0;
                 }
@@ -29,24 +29,26 @@ pub fn split(run: &[u8]) -> usize
                 opened -= 1;
                 at += 1;
             }
-            Item::Plain { start: _, end } => {
+            Some(Item::Plain { start: _, end }) => {
                 if opened == 0 {
                     return end;
                 }
                 at = end;
             }
-            Item::Hinted {
-                hint_start: _,
-                hint_end: _,
-                start: _,
-                end,
-            } => {
+            Some(
+                Item::Hinted {
+                    hint_start: _,
+                    hint_end: _,
+                    start: _,
+                    end,
+                },
+            ) => {
                 if opened == 0 {
                     return end;
                 }
                 at = end;
             }
-            Item::Other => return 0,
+            None => return 0,
         }
     }
     0

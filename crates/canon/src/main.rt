@@ -4,7 +4,6 @@
 
 mod input;
 
-use answers::Reading;
 use std::io;
 
 // One octet more than a source may have, so that a longer one is refused.
@@ -28,21 +27,16 @@ fn answer<P: Print>(rt: &P, source: &[u8]) -> io::Result<()> {
     let mut canonical: [u8; limits::CANONICAL] = [0; limits::CANONICAL];
     let mut table: [u32; NUMBERS] = [0; NUMBERS];
     match reader::read(3, source, &mut canonical, &mut table) {
-        Reading::Accepted { length, nodes: _ } => show(rt, &canonical, length),
-        Reading::Refused { refusal } => {
-            let number = refusal.number;
-            refuse(rt, number)
-        }
+        Ok(sizes) => show(rt, &canonical, sizes.length),
+        Err(refusal) => refuse(rt, refusal.number()),
     }
 }
 
 fn main(rt: HostRuntime) -> io::Result<()> {
     let mut source: [u8; MOST] = [0; MOST];
-    let input = input::read(&mut rt.stdin(), &mut source);
-    if input.failed {
+    match input::read(&mut rt.stdin(), &mut source) {
+        Ok(octets) => answer(&rt, &source[..octets]),
         // A text that was cut off may itself be a whole one, so nothing is shown of it.
-        return println!(rt; "read failed");
+        Err(_) => println!(rt; "read failed"),
     }
-    let n = input.octets;
-    answer(&rt, &source[..n])
 }

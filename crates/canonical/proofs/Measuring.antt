@@ -20,9 +20,11 @@ use Rattle.model.specs.Count.{count, begin, shut_by, step}
 use Rattle.walk.specs.Extent.{Measures}
 use Rattle.walk.proofs.Chained.{walking, walking-shut, walking-step, walking-stop, walking-end, undecoded, decodes}
 use Rattle.canonical.specs.Lexed.{Plainly, Hintedly, ItemAt}
+use Rattle.std.specs.Prelude.{Some, None}
+use Rattle.std.specs.Prelude as prelude
 use Rattle.canonical.specs.declared.Item.{Item}
-use Rattle.canonical.specs.declared.Item.TheVariants.{Open, Close, Plain, Hinted, Other}
-use Rattle.walk.specs.declared.Extent.TheVariants.{Whole}
+use Rattle.canonical.specs.declared.Item.TheVariants.{Open, Close, Plain, Hinted}
+use Rattle.walk.specs.Extent.{Whole}
 
 -- walking on from here gives what walking from the start gives
 pub record Walking (src : List ℕ) (at o d n : ℕ) : Type 0 where
@@ -79,21 +81,21 @@ module _ (src : List ℕ) (at o d n : ℕ) (w : Walking src at o d n) (q : Bool)
                 ∙ walking-step l (strict_lexemes (drop next src)) (count o d n) (count o' d' n') (sym x ∙ f) s;
           }
 
-      module _ (r : Item) (v : ItemAt src at r) where
-        pub walk-other : r ≡ Other → decode₁ src ≡ none
+      module _ (r : prelude.Option Item) (v : ItemAt src at r) where
+        pub walk-other : r ≡ None → decode₁ src ≡ none
         unfolding ItemAt Measures decode₁ chain
         walk-other z =
             let g : strict_lexeme (drop at src) ≡ refused = subst (ItemAt src at) z v in
             undecoded (strict_lexemes src) (w.same ∙ ap (λ (y : Option (List Lexeme)). walking y (count o d n))
             (ap strict_lexemes (one-here src at h) ∙ strict_none (get_or src at 0) (drop (at + 1) src) (ap strict_lexeme (sym (one-here src at h)) ∙ g)))
 
-        pub open-on : r ≡ Open → (m : ℕ) → m ≡ max d (o + 1) → Walking src (at + 1) (o + 1) m (n + 1)
+        pub open-on : r ≡ Some Open → (m : ℕ) → m ≡ max d (o + 1) → Walking src (at + 1) (o + 1) m (n + 1)
         unfolding ItemAt step
         open-on z m g =
             let y : strict_lexeme (drop at src) ≡ got opening (drop (at + 1) src) = subst (ItemAt src at) z v in
             stepped opening (at + 1) (o + 1) m (n + 1) y (rw g) (omega arith) (omega (arith, w.few), omega (arith, w.few), omega (arith, w.few))
 
-        module _ (z : r ≡ Close) where
+        module _ (z : r ≡ Some Close) where
           closes : strict_lexeme (drop at src) ≡ got closing (drop (at + 1) src)
           unfolding ItemAt
           closes = subst (ItemAt src at) z v
@@ -108,7 +110,7 @@ module _ (src : List ℕ) (at o d n : ℕ) (w : Walking src at o d n) (q : Bool)
           unfolding step
           close-on g = stepped closing (at + 1) (o - 1) d n closes (unpicked _ _ (ne_eqb _ _ g)) (omega arith) (omega (arith, w.few), omega (arith, w.few), omega (arith, w.few))
 
-        module _ (s e : ℕ) (z : r ≡ Plain s e) where
+        module _ (s e : ℕ) (z : r ≡ Some (Plain s e)) where
           plainly : Plainly src at s e
           unfolding ItemAt
           plainly = subst (ItemAt src at) z v
@@ -123,7 +125,7 @@ module _ (src : List ℕ) (at o d n : ℕ) (w : Walking src at o d n) (q : Bool)
               let l : at < e = omega (arith, p.ends, verbatim-length p.octets) in
               stepped (atom p.octets) e o d (n + 1) p.reads refl p.within (omega (arith, w.few), omega (arith, w.few), omega (arith, w.few))
 
-        module _ (hs he s e : ℕ) (z : r ≡ Hinted hs he s e) where
+        module _ (hs he s e : ℕ) (z : r ≡ Some (Hinted hs he s e)) where
           hintedly : Hintedly src at hs he s e
           unfolding ItemAt
           hintedly = subst (ItemAt src at) z v

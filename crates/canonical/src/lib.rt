@@ -4,17 +4,17 @@
 ghost use Rattle.std.specs.Prelude.{◌≤◌, ◌<◌, length};
 ghost use Rattle.canonical.specs.Lexed.{Follows, Spans, Closes, ItemAt};
 
-use decimal::Number;
+use decimal::decimal_at;
 
 // Where the octets of a verbatim string stand.
-#[derive(Clone, Copy)]
-pub enum Span {
-    Is { start: usize, end: usize },
-    Not,
+#[derive(Clone, Copy, Debug, PartialEq, Eq)]
+pub struct Span {
+    pub start: usize,
+    pub end: usize,
 }
 
 // A lexeme; a string's octets, and its hint's, stand from start to end.
-#[derive(Clone, Copy)]
+#[derive(Clone, Copy, Debug, PartialEq, Eq)]
 pub enum Item {
     Open,
     Close,
@@ -28,94 +28,78 @@ pub enum Item {
         start: usize,
         end: usize,
     },
-    Other,
 }
 
 // What follows a length n.
-fn after_length(src: &[u8], at: usize, n: usize) -> Span
+fn after_length(src: &[u8], at: usize, n: usize) -> Option<Span>
     requires { at ≤ length src.now }
     ensures { Follows src.now at n result }
 {
-    if at >= src.len() {
-        return Span::Not;
-    }
-    if src[at] != b':' {
-        return Span::Not;
+    if *src.get(at)? != b':' {
+        return None;
     }
     let start = at + 1;
     if n > src.len() - start {
-        return Span::Not;
+        return None;
     }
-    Span::Is {
+    Some(Span {
         start,
         end: start + n,
-    }
+    })
 }
 
 // The verbatim string at a place.
-fn verbatim_at(src: &[u8], at: usize) -> Span
+fn verbatim_at(src: &[u8], at: usize) -> Option<Span>
     requires { at ≤ length src.now }
     ensures { Spans src.now at result }
 {
-    if at >= src.len() {
-        return Span::Not;
-    }
-    let b = src[at];
+    let b = *src.get(at)?;
     if b < b'0' {
-        return Span::Not;
+        return None;
     }
     if b > b'9' {
-        return Span::Not;
+        return None;
     }
-    match decimal::decimal_at(src, at) {
-        Number::Value { value, next } => after_length(src, next, value),
-        Number::NoNumber => Span::Not,
-    }
+    let number = decimal_at(src, at)?;
+    after_length(src, number.next, number.value)
 }
 
 // What follows a hint that stands from `from` to `to`.
-fn after_hint(src: &[u8], from: usize, to: usize) -> Item
+fn after_hint(src: &[u8], from: usize, to: usize) -> Option<Item>
     requires { to ≤ length src.now }
     ensures { Closes src.now from to result }
 {
-    if to >= src.len() {
-        return Item::Other;
+    if *src.get(to)? != b']' {
+        return None;
     }
-    if src[to] != b']' {
-        return Item::Other;
-    }
-    match verbatim_at(src, to + 1) {
-        Span::Is { start, end } => Item::Hinted {
-            hint_start: from,
-            hint_end: to,
-            start,
-            end,
-        },
-        Span::Not => Item::Other,
-    }
+    let data = verbatim_at(src, to + 1)?;
+    Some(Item::Hinted {
+        hint_start: from,
+        hint_end: to,
+        start: data.start,
+        end: data.end,
+    })
 }
 
 // The lexeme at a place.
-pub fn lexeme_at(src: &[u8], at: usize) -> Item
+pub fn lexeme_at(src: &[u8], at: usize) -> Option<Item>
     requires { at < length src.now }
     ensures { ItemAt src.now at result }
 {
     let b = src[at];
     if b == b'(' {
-        return Item::Open;
+        return Some(Item::Open);
     }
     if b == b')' {
-        return Item::Close;
+        return Some(Item::Close);
     }
     if b == b'[' {
-        match verbatim_at(src, at + 1) {
-            Span::Is { start, end } => after_hint(src, start, end),
-            Span::Not => Item::Other,
-        }
-    } else {
-        match verbatim_at(src, at) {
-            Span::Is { start, end } => Item::Plain { start, end },
-            Span::Not => Item::Other,
-        }
+        let hint = verbatim_at(src, at + 1)?;
+        return after_hint(src, hint.start, hint.end);
     }
+    let data = verbatim_at(src, at)?;
+    Some(Item::Plain {
+        start: data.start,
+        end: data.end,
+    })
 }

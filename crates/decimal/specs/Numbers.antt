@@ -1,9 +1,8 @@
 -- A number at a place of a source, and how many digits a number has.
-use Rattle.std.specs.Prelude.{ℕ, ◌≤◌, ◌<◌, ◌≡◌, List, length, drop}
+use Rattle.std.specs.Prelude.{ℕ, ◌≤◌, ◌<◌, ◌≡◌, List, length, drop, Option, Some, None}
 use Rattle.model.specs.Strings.{Read, got}
 use Rattle.model.specs.Tree.{digits}
 use Rattle.decimal.specs.declared.Number.{Number}
-use Rattle.decimal.specs.declared.Number.TheVariants.{Value, NoNumber}
 
 -- ten times this is past the length of any slice, which is below 2 ^ 63, and a digit more still fits in 64 bits
 abbrev pub large : ℕ
@@ -24,9 +23,9 @@ pub record Huge (src : List ℕ) (y : Read ℕ) : Type 0 where
   pub reads : y ≡ got value rest
   pub short : length rest ≤ length src
 
-unfoldable pub Numbered : List ℕ → Read ℕ → ℕ → Number → Type 0
-Numbered src y at (Value v n) = Valued src y at v n
-Numbered src y at NoNumber = Huge src y
+unfoldable pub Numbered : List ℕ → Read ℕ → ℕ → Option Number → Type 0
+Numbered src y at (Some n) = Valued src y at n.value n.next
+Numbered src y at None = Huge src y
 
 -- n has r digits, at most 5
 pub record Wide (n r : ℕ) : Type 0 where

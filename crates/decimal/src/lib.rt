@@ -15,10 +15,10 @@ pub use digits::put_decimal;
 const LARGE: usize = 1_000_000_000_000_000_000;
 
 // A number and the place after it. A number beyond the source's length is none: nothing in the source is as long.
-#[derive(Clone, Copy)]
-pub enum Number {
-    Value { value: usize, next: usize },
-    NoNumber,
+#[derive(Clone, Copy, Debug, PartialEq, Eq)]
+pub struct Number {
+    pub value: usize,
+    pub next: usize,
 }
 
 // A value, or LARGE where it is larger: ten times that is past any source's length.
@@ -30,7 +30,7 @@ fn capped(value: usize) -> usize
 
 // Digits. The value is capped before each and tested after it, so that it never wraps, however many digits there are and however
 // long the source is.
-pub fn number_at(src: &[u8], at: usize) -> Number
+pub fn number_at(src: &[u8], at: usize) -> Option<Number>
     requires { at ≤ length src.now }
     ensures { Numbered src.now (number 0 (drop at src.now)) at result }
 {
@@ -39,30 +39,30 @@ pub fn number_at(src: &[u8], at: usize) -> Number
     while i < src.len() {
         let b = src[i];
         if b < b'0' {
-            return Number::Value { value, next: i };
+            return Some(Number { value, next: i });
         }
         if b > b'9' {
-            return Number::Value { value, next: i };
+            return Some(Number { value, next: i });
         }
         value = capped(value) * 10 + (b - b'0') as usize;
         if value > src.len() {
-            return Number::NoNumber;
+            return None;
         }
         i += 1;
     }
-    Number::Value { value, next: i }
+    Some(Number { value, next: i })
 }
 
 // A decimal, whose first digit is at `at`: 0 stands alone.
-pub fn decimal_at(src: &[u8], at: usize) -> Number
+pub fn decimal_at(src: &[u8], at: usize) -> Option<Number>
     requires { (at < length src.now) × (is_digit (get_or src.now at 0) ≡ true) }
     ensures { Numbered src.now (decimal (get_or src.now at 0) (drop (at + 1) src.now)) at result }
 {
     if src[at] == b'0' {
-        return Number::Value {
+        return Some(Number {
             value: 0,
             next: at + 1,
-        };
+        });
     }
     number_at(src, at)
 }

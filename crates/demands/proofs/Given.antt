@@ -5,6 +5,7 @@ use mathlib.Core.Path.{◌≡◌, refl, sym, ap, ◌∙◌, subst}
 use mathlib.Core.Bool.{true}
 use mathlib.Core.Option.{Option, none, some}
 use mathlib.Core.List.{List}
+use Rattle.std.specs.Prelude.{Some, None}
 use Rattle.base.proofs.Cases.{none-some, some_same}
 use Rattle.model.specs.Answers.{the, own_tree}
 use Rattle.model.specs.Edit.{one}
@@ -16,13 +17,10 @@ use Rattle.shifts.proofs.Answered.{not_own, no_node, a-node, value-some, value_n
 use Rattle.typed.specs.Asked.{value_in, node_value, valuing, node_line, lining}
 use Rattle.typed.specs.Cases.{Valued, unvalued, valued, Lined, unlined, lined}
 use Rattle.typed.specs.Lines.{typed_row, hours_at, quarters_in, kept_if, line_at, line_count}
-use Rattle.typed.specs.Quarters.{total_by, total_for}
-use Rattle.typed.specs.declared.Count.{Count}
-use Rattle.typed.specs.declared.Count.TheVariants.{Quarters, NoCount}
+use Rattle.typed.specs.Quarters.{total_by, total_for, Count}
+use Rattle.typed.specs.Typed.{Typing}
 use Rattle.typed.specs.declared.Line.{Line}
 use Rattle.typed.specs.declared.Total.{Total}
-use Rattle.typed.specs.declared.Typing.{Typing}
-use Rattle.typed.specs.declared.Typing.TheVariants.{Is, Untyped}
 use Rattle.typed.specs.declared.Value.{Value}
 use Rattle.demands.specs.Lines.{ShiftLine, QuarterOf}
 use Rattle.demands.specs.Values.{ValueOf}
@@ -39,33 +37,33 @@ pub data LineOrNot (x : Tree) : Type 0 where
 -- ---- the line of a tree that stands in a sheet
 
 module _ (canonical : List ℕ) (len : ℕ) (t : Tree) (x : Tree) (f : Forest) (k : ℕ) (s : Stands canonical len t (cons x f) k) where
-  pub count-of-line : (l : Line) (n : ℕ) → ShiftLine x l n → (hours_at canonical t k ≡ some l) × (line_count canonical t k ≡ Quarters n)
+  pub count-of-line : (l : Line) (n : ℕ) → ShiftLine x l n → (hours_at canonical t k ≡ some l) × (line_count canonical t k ≡ Some n)
   unfolding line_count
   count-of-line l n w =
       let h : hours_at canonical t k ≡ some l = from-three canonical len t l x f k w.three s in
       (h, ap quarters_in h ∙ quarters-is l n w.quartered)
 
-  counted-by : (o : Option Line) → hours_at canonical t k ≡ o → (n : ℕ) → quarters_in o ≡ Quarters n → (l : Line) × ShiftLine x l n
+  counted-by : (o : Option Line) → hours_at canonical t k ≡ o → (n : ℕ) → quarters_in o ≡ Some n → (l : Line) × ShiftLine x l n
   counted-by none e n q = let z : ◌≡◌ {A = ℕ} 0 1 = cc in absurd (omega arith)
   counted-by (some l) e n q = (l, record { three = to-three canonical len t l x f k s e; quartered = quarters-says l n q })
 
-  pub line-of-count : (n : ℕ) → line_count canonical t k ≡ Quarters n → (l : Line) × ShiftLine x l n
+  pub line-of-count : (n : ℕ) → line_count canonical t k ≡ Some n → (l : Line) × ShiftLine x l n
   unfolding line_count
   line-of-count n e = counted-by (hours_at canonical t k) refl n e
 
-  pub uncounted : ((l : Line) (n : ℕ) → ShiftLine x l n → ⊥) → line_count canonical t k ≡ NoCount
+  pub uncounted : ((l : Line) (n : ℕ) → ShiftLine x l n → ⊥) → line_count canonical t k ≡ None
   uncounted g = by (line_count canonical t k) refl
     where
-      by : (c : Count) → line_count canonical t k ≡ c → line_count canonical t k ≡ NoCount
-      by (Quarters n) e = let w = line-of-count n e in absurd (g w.0 n w.1)
-      by NoCount e = e
+      by : (c : Count) → line_count canonical t k ≡ c → line_count canonical t k ≡ None
+      by (Some n) e = let w = line-of-count n e in absurd (g w.0 n w.1)
+      by None e = e
 
   pub line-or-not : LineOrNot x
   line-or-not = by (line_count canonical t k) refl
     where
       by : (c : Count) → line_count canonical t k ≡ c → LineOrNot x
-      by (Quarters n) e = let w = line-of-count n e in is-line w.0 n w.1
-      by NoCount e = is_none (λ l n w. let p = count-of-line l n w in let z : ◌≡◌ {A = ℕ} 0 1 = cc p.1 in omega arith)
+      by (Some n) e = let w = line-of-count n e in is-line w.0 n w.1
+      by None e = is_none (λ l n w. let p = count-of-line l n w in let z : ◌≡◌ {A = ℕ} 0 1 = cc p.1 in omega arith)
 
 module _ (canonical : List ℕ) (len : ℕ) (table : List ℕ) (count node : ℕ) where
   -- S 10.2: rows 7 and 8 come first
@@ -118,18 +116,18 @@ module _ (canonical : List ℕ) (len : ℕ) (table : List ℕ) (count node : ℕ
           ∙ value_none (node_value canonical len table count node) (value-by ∙ none_of _ refl)
         where
           none_of : (r : Typing) → value_by (row_of t node).data_start (row_of t node).data_end (node_at t node) ≡ r → value_in r ≡ none
-          none_of (Is v) e = absurd (f v (value-says _ _ (node_at t node) v e))
-          none_of Untyped e = refl
+          none_of (Some v) e = absurd (f v (value-says _ _ (node_at t node) v e))
+          none_of None e = refl
 
       -- a value that is answered is the node's
       pub value-only : (v : Value) → (valuing canonical len table count node).value ≡ some v → Has v
       value-only v e = by (value_by (row_of t node).data_start (row_of t node).data_end (node_at t node)) refl
         where
           by : (r : Typing) → value_by (row_of t node).data_start (row_of t node).data_end (node_at t node) ≡ r → Has v
-          by (Is u) q =
+          by (Some u) q =
               let w : Has u = value-says _ _ (node_at t node) u q in
               some_same Has (sym (ap (λ (r : Valued). r.value) (value-given u w)) ∙ e) w
-          by Untyped q =
+          by None q =
               none-some (sym (ap (λ (r : Valued). r.value) (value-refused (λ u w.
               let z : ◌≡◌ {A = ℕ} 0 1 = cc (value-is _ _ (node_at t node) u w) in omega arith))) ∙ e)
 

@@ -6,14 +6,13 @@ use mathlib.Core.Bool.{true}
 use mathlib.Core.Option.{some}
 use lib.Ieee.{Float, binary64, to_bits}
 use lib.Ieee.Bits.{of_bits-fits}
+use Rattle.std.specs.Prelude.{Some, None}
 use Rattle.base.proofs.Cases.{none-some, some_same}
 use Rattle.base.specs.Choice.{is_none}
 use Rattle.model.specs.Answers.{verdict, judged}
-use Rattle.typed.specs.Quarters.{counted, plus, quarters_of, quarter_bits, hours_of, total_by, total_of}
+use Rattle.typed.specs.Quarters.{counted, plus, quarters_of, quarter_bits, hours_of, total_by, total_of, Count}
 use Rattle.typed.specs.Cases.{Totalled, untotalled}
 use Rattle.typed.specs.Asked.{totalling}
-use Rattle.typed.specs.declared.Count.{Count}
-use Rattle.typed.specs.declared.Count.TheVariants.{Quarters, NoCount}
 use Rattle.typed.specs.declared.Line.{Line}
 use Rattle.typed.specs.declared.Total.{Total}
 use Rattle.typed.proofs.Exact.{Exactly, quarter-exact}
@@ -23,29 +22,29 @@ use Rattle.demands.specs.Lines.{Hours, Quartered, QuarterOf}
 
 -- ---- the count of a line, told both ways
 
-hours-count : (x : Float) (n : ℕ) → Hours x n → counted x ≡ Quarters n
+hours-count : (x : Float) (n : ℕ) → Hours x n → counted x ≡ Some n
 hours-count x n h = count-is (to_bits binary64 x) n h.quarters.plain h.day h.quarters.exact
 
-count-hours : (x : Float) (n : ℕ) → counted x ≡ Quarters n → Hours x n
+count-hours : (x : Float) (n : ℕ) → counted x ≡ Some n → Hours x n
 count-hours x n e =
     let w : Counted (to_bits binary64 x) n = count-says (to_bits binary64 x) n e in
     record { quarters = record { plain = w.plain; exact = w.exact }; day = w.few }
 
-no-count : {G : Type 0} {n : ℕ} → NoCount ≡ Quarters n → G
+no-count : {G : Type 0} {n : ℕ} → None ≡ Some n → G
 no-count e = let z : ◌≡◌ {A = ℕ} 0 1 = cc in absurd (omega arith)
 
-plus-cases : {G : Type 0} (a b c : Count) (n : ℕ) → plus a b c ≡ Quarters n
-    → ((i j k : ℕ) → a ≡ Quarters i → b ≡ Quarters j → c ≡ Quarters k → n ≡ i + j + k → G) → G
-plus-cases (Quarters i) (Quarters j) (Quarters k) n e g = g i j k refl refl refl (let z : n ≡ i + j + k = cc in z)
-plus-cases (Quarters i) (Quarters j) NoCount n e g = no-count e
-plus-cases (Quarters i) NoCount c n e g = no-count e
-plus-cases NoCount b c n e g = no-count e
+plus-cases : {G : Type 0} (a b c : Count) (n : ℕ) → plus a b c ≡ Some n
+    → ((i j k : ℕ) → a ≡ Some i → b ≡ Some j → c ≡ Some k → n ≡ i + j + k → G) → G
+plus-cases (Some i) (Some j) (Some k) n e g = g i j k refl refl refl (let z : n ≡ i + j + k = cc in z)
+plus-cases (Some i) (Some j) None n e g = no-count e
+plus-cases (Some i) None c n e g = no-count e
+plus-cases None b c n e g = no-count e
 
-pub quarters-is : (h : Line) (n : ℕ) → Quartered h n → quarters_of h ≡ Quarters n
+pub quarters-is : (h : Line) (n : ℕ) → Quartered h n → quarters_of h ≡ Some n
 unfolding quarters_of
-quarters-is h n w = rw (hours-count _ _ w.ordinary, hours-count _ _ w.night, hours-count _ _ w.holiday) (ap Quarters (sym w.sum))
+quarters-is h n w = rw (hours-count _ _ w.ordinary, hours-count _ _ w.night, hours-count _ _ w.holiday) (ap (λ (x : ℕ). Some x) (sym w.sum))
 
-pub quarters-says : (h : Line) (n : ℕ) → quarters_of h ≡ Quarters n → Quartered h n
+pub quarters-says : (h : Line) (n : ℕ) → quarters_of h ≡ Some n → Quartered h n
 unfolding quarters_of
 quarters-says h n e =
     plus-cases (counted h.ordinary) (counted h.night) (counted h.holiday) n e
@@ -70,17 +69,17 @@ pub total-refused : (l : Line) → ((n : ℕ) → Quartered l n → ⊥) → tot
 unfolding totalling total_of judged verdict is_none
 total-refused l f = rw (uncounted (quarters_of l) refl)
   where
-    uncounted : (c : Count) → quarters_of l ≡ c → quarters_of l ≡ NoCount
-    uncounted (Quarters n) e = absurd (f n (quarters-says l n e))
-    uncounted NoCount e = e
+    uncounted : (c : Count) → quarters_of l ≡ c → quarters_of l ≡ None
+    uncounted (Some n) e = absurd (f n (quarters-says l n e))
+    uncounted None e = e
 
 -- a line made up by the caller: its total, where there is one
 pub total-exact : (l : Line) (s : Total) → (totalling l).total ≡ some s → QuarterOf s
 total-exact l s e = by (quarters_of l) refl
   where
     by : (c : Count) → quarters_of l ≡ c → QuarterOf s
-    by (Quarters n) q =
+    by (Some n) q =
         let w : Quartered l n = quarters-says l n q in
         some_same QuarterOf (sym (ap (λ (r : Totalled). r.total) (total-given l n w)) ∙ e) (quarter-of n (omega (arith, quarters-few l n w)))
-    by NoCount q =
+    by None q =
         none-some (sym (ap (λ (r : Totalled). r.total) (total-refused l (λ n w. let z : ◌≡◌ {A = ℕ} 0 1 = cc (quarters-is l n w) in omega arith))) ∙ e)

@@ -9,16 +9,15 @@ use mathlib.Core.List.{List, ◌++◌, append_assoc}
 use lib.Dec.{eqb}
 use lib.Ieee.{Float}
 use borrow.Author.Tests.{eq-eqb, eqb-true}
+use Rattle.std.specs.Prelude.{Some, None}
 use Rattle.base.specs.Choice.{both, equal}
 use Rattle.base.proofs.Cases.{picked, pick-cases, true-both, both_true, none-some, some_same}
 use Rattle.model.specs.Table.{Row, rows, row_of}
 use Rattle.model.specs.Tree.{Tree, plain, hinted, list, Forest, nil, cons, canons, nodes, nodess}
 use Rattle.edits.proofs.Find.{nodes-pos}
-use Rattle.typed.specs.Typed.{kind_of, value_at, double_of}
+use Rattle.typed.specs.Typed.{kind_of, value_at, double_of, Typing}
 use Rattle.typed.specs.Lines.{row_kind, typed_row, amount_in, three, row_amount, hours_at}
 use Rattle.typed.specs.declared.Line.{Line}
-use Rattle.typed.specs.declared.Typing.{Typing}
-use Rattle.typed.specs.declared.Typing.TheVariants.{Is, Untyped}
 use Rattle.typed.specs.declared.Value.{Value}
 use Rattle.typed.specs.declared.Value.TheVariants.{Single, Double, Whole, Raw}
 use Rattle.demands.specs.Lines.{Three}
@@ -30,22 +29,22 @@ use Rattle.demands.proofs.Standing.{Stands, past, inside, first-row, first-list,
 -- ---- amounts
 
 -- an amount is a double's
-amount-double : (r : Typing) (x : Float) → amount_in r ≡ some x → r ≡ Is (Double x)
-amount-double (Is (Single y)) x e = none-some e
-amount-double (Is (Double y)) x e = some_same (λ (z : Float). Is (Double y) ≡ Is (Double z)) e refl
-amount-double (Is (Whole y)) x e = none-some e
-amount-double (Is (Raw s t)) x e = none-some e
-amount-double Untyped x e = none-some e
+amount-double : (r : Typing) (x : Float) → amount_in r ≡ some x → r ≡ Some (Double x)
+amount-double (Some (Single y)) x e = none-some e
+amount-double (Some (Double y)) x e = some_same (λ (z : Float). Some (Double y) ≡ Some (Double z)) e refl
+amount-double (Some (Whole y)) x e = none-some e
+amount-double (Some (Raw s t)) x e = none-some e
+amount-double None x e = none-some e
 
 -- the tree is an `f64` string with the double x
 pub record Amount (y : Tree) (x : Float) : Type 0 where
   pub octets : List ℕ
   pub is : y ≡ hinted f64 octets
-  pub double : double_of octets ≡ Is (Double x)
+  pub double : double_of octets ≡ Some (Double x)
 
 double-string : {s e : ℕ} {y : Tree} {v : Value} (x : Float) → ValueOf s e y v → v ≡ Double x → Amount y x
 double-string x (single l f) e = let z : ◌≡◌ {A = ℕ} 0 1 = cc in absurd (omega arith)
-double-string x (double {d} l f) e = record { octets = d; is = refl; double = double-made d l f ∙ ap Is e }
+double-string x (double {d} l f) e = record { octets = d; is = refl; double = double-made d l f ∙ ap (λ (x : Value). Some x) e }
 double-string x (whole l f) e = let z : ◌≡◌ {A = ℕ} 0 1 = cc in absurd (omega arith)
 double-string x (other a b c) e = let z : ◌≡◌ {A = ℕ} 0 1 = cc in absurd (omega arith)
 double-string x bare e = let z : ◌≡◌ {A = ℕ} 0 1 = cc in absurd (omega arith)
@@ -60,12 +59,12 @@ module _ (canonical : List ℕ) (len : ℕ) (t : Tree) where
   unfolding rows canons typed_row row_kind value_at
   typed_at (plain d) f k s =
       let r = first-row canonical len t (plain d) f k s in
-      ap (typed_row canonical) r ∙ ap (λ (z : Row). Is (Raw z.data_start z.data_end)) (sym r)
+      ap (typed_row canonical) r ∙ ap (λ (z : Row). Some (Raw z.data_start z.data_end)) (sym r)
   typed_at (hinted g d) f k s =
       let r = first-row canonical len t (hinted g d) f k s in
       ap (typed_row canonical) r
       ∙ typed-hinted canonical len s.pre (canons f ++ s.post) g d (s.octets ∙ simp append_assoc) _ refl
-      ∙ ap (λ (z : Row). hinted_as g d (Is (Raw z.data_start z.data_end))) (sym r)
+      ∙ ap (λ (z : Row). hinted_as g d (Some (Raw z.data_start z.data_end))) (sym r)
   typed_at (list g) f k s = ap (typed_row canonical) (first-row canonical len t (list g) f k s)
 
   amount-is : (x : Tree) (f : Forest) (k : ℕ) → Here (cons x f) k → (a : Float) → row_amount canonical t k ≡ some a → Amount x a
@@ -104,7 +103,7 @@ record Next (canonical : List ℕ) (len : ℕ) (t : Tree) (g : Forest) (k : ℕ)
   pub octets : List ℕ
   pub rest : Forest
   pub is : g ≡ cons (hinted f64 octets) rest
-  pub double : double_of octets ≡ Is (Double a)
+  pub double : double_of octets ≡ Some (Double a)
   pub stands : Stands canonical len t rest (k + 1)
   pub left : nodess rest ≡ m
 

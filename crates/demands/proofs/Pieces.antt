@@ -8,6 +8,7 @@ use mathlib.Core.List.{List, [], append-nil}
 use lib.ListN.{length, take, drop}
 use lib.Seq.{take_at, drop_at}
 use borrow.Author.Tests.{eq-eqb}
+use Rattle.std.specs.Prelude.{Ok, Err}
 use Rattle.base.proofs.Cases.{true-both, differ}
 use Rattle.model.specs.Answers.{Outcome, the, unchanged, telling, filled, reading_checks, reading}
 use Rattle.model.specs.Begins.{Largest}
@@ -15,10 +16,9 @@ use Rattle.model.specs.Decode.{decode}
 use Rattle.model.specs.Limits.{refusal_source_size, refusal_syntax, refusal_not_own}
 use Rattle.model.proofs.Judging.{judged-holds}
 use Rattle.model.proofs.Numbered.{reading-numbered}
-use Rattle.answers.specs.Cases.{outcome}
-use Rattle.answers.specs.declared.Refusal.{Refusal}
-use Rattle.answers.specs.declared.Reading.{Reading}
-use Rattle.answers.specs.declared.Reading.TheVariants as answer
+use Rattle.answers.specs.Cases.{outcome, Reading}
+use Rattle.answers.specs.Refusals.{number_of}
+use Rattle.answers.specs.declared.refusal.Refusal.{Refusal}
 use Rattle.pieces.specs.Feeding.{kept, sheet_after, state_after, same_sizes, Piece}
 use Rattle.pieces.specs.Ending.{in_sheet, End}
 use Rattle.pieces.specs.Handed.{Handed}
@@ -73,8 +73,8 @@ module _ {first : List ℕ} {lent : ℕ} {s : List ℕ} {x : State} {sheet : Lis
 
 left-table : (r : Reading) (canonical table : List ℕ) → (outcome r canonical table).table ≡ table
 unfolding outcome
-left-table (answer.Accepted len count) canonical table = refl
-left-table (answer.Refused f) canonical table = refl
+left-table (Ok sizes) canonical table = refl
+left-table (Err f) canonical table = refl
 
 refused-table : (first s table : List ℕ) → (reading 1 s first table).accepted ≡ false → (reading 1 s first table).table ≡ table
 unfolding reading telling filled
@@ -118,6 +118,6 @@ pub any-two-cuttings : {first : List ℕ} {lent : ℕ} {s : List ℕ} {x y : Sta
 any-two-cuttings h k e f = let c = never-by-the-cutting h k in (c.0, c.1, whatever-the-cutting h e ∙ sym (whatever-the-cutting k f))
 
 -- no end of a state in turn is refused with number 0
-pub end-over : (f : Refusal) {first : List ℕ} {lent : ℕ} {s : List ℕ} {x : State} {sheet table table' : List ℕ} → Handed first lent s x sheet → End x sheet lent table table' (answer.Refused f) → 0 < f.number
+pub end-over : (f : Refusal) {first : List ℕ} {lent : ℕ} {s : List ℕ} {x : State} {sheet table table' : List ℕ} → Handed first lent s x sheet → End x sheet lent table table' (Err f) → 0 < number_of f
 end-over f {first} {s = s} {sheet = sheet} {table} {table'} h e =
     refusing f sheet table' (in_sheet (sheet_after first s) (reading 1 s first table)) (reading-numbered 1 s first table) (whatever-the-cutting h e)

@@ -7,6 +7,7 @@ use mathlib.Core.List.{List, [], ◌∷◌, ◌++◌, append_assoc}
 use lib.Dec.{T, eqb}
 use lib.ListN.{length, take, length-append}
 use lib.Seq.{slice}
+use Rattle.std.specs.Prelude.{Some, None}
 use Rattle.base.specs.Choice.{pick}
 use Rattle.base.proofs.Cases.{pick-cases, some_same, none-some}
 use Rattle.model.specs.Answers.{the, own_tree, octets_at}
@@ -15,21 +16,19 @@ use Rattle.model.specs.Tree.{Tree, hinted, digits, verbatim, canon}
 use Rattle.lookup.proofs.Sheets.{Own, own_of}
 use Rattle.lookup.proofs.Shown.{Inside, rows_inside}
 use Rattle.typed.specs.Octets.{octets}
-use Rattle.typed.specs.Typed.{kind_of, single_of, double_of, whole_of, value_at}
+use Rattle.typed.specs.Typed.{kind_of, single_of, double_of, whole_of, value_at, Typing}
 use Rattle.typed.specs.Coding.{coding}
 use Rattle.typed.specs.Lines.{row_kind, typed_row}
 use Rattle.typed.specs.Asked.{value_in, node_value}
 use Rattle.typed.specs.declared.Value.{Value}
 use Rattle.typed.specs.declared.Value.TheVariants.{Raw}
-use Rattle.typed.specs.declared.Typing.{Typing}
-use Rattle.typed.specs.declared.Typing.TheVariants.{Is, Untyped}
 use Rattle.typed.proofs.Roundtrip.{written_back}
 use Rattle.values.proofs.Laying.{part_slice}
 use Rattle.demands.proofs.Shown.{between}
 
-is-value : (r : Typing) (v : Value) → value_in r ≡ some v → r ≡ Is v
-is-value (Is u) v e = some_same (λ (x : Value). Is u ≡ Is x) e refl
-is-value Untyped v e = none-some e
+is-value : (r : Typing) (v : Value) → value_in r ≡ some v → r ≡ Some v
+is-value (Some u) v e = some_same (λ (x : Value). Some u ≡ Some x) e refl
+is-value None v e = none-some e
 
 -- the value of the octets d with the hint g: of its type, or raw where the hint tells none
 abbrev pub hinted_as : List ℕ → List ℕ → Typing → Typing
@@ -58,11 +57,11 @@ module _ (canonical : List ℕ) (len : ℕ) (pre post g d : List ℕ) (e : take 
       (simp length-append (omega arith))
       (simp length-append (omega arith))
 
-  by_kind : value_at (kind_of g) canonical hint_row.data_start hint_row.data_end ≡ hinted_as g d (Is (Raw hint_row.data_start hint_row.data_end))
+  by_kind : value_at (kind_of g) canonical hint_row.data_start hint_row.data_end ≡ hinted_as g d (Some (Raw hint_row.data_start hint_row.data_end))
   unfolding value_at
-  by_kind = ap (λ (x : List ℕ). hinted_as g x (Is (Raw hint_row.data_start hint_row.data_end))) data_is
+  by_kind = ap (λ (x : List ℕ). hinted_as g x (Some (Raw hint_row.data_start hint_row.data_end))) data_is
 
-  pub typed-hinted : typed_row canonical hint_row ≡ hinted_as g d (Is (Raw hint_row.data_start hint_row.data_end))
+  pub typed-hinted : typed_row canonical hint_row ≡ hinted_as g d (Some (Raw hint_row.data_start hint_row.data_end))
   unfolding typed_row row_kind
   typed-hinted = ap (λ (x : List ℕ). value_at (kind_of x) canonical hint_row.data_start hint_row.data_end) hint-is ∙ by_kind
 
@@ -78,7 +77,7 @@ module _ (canonical : List ℕ) (len : ℕ) (table : List ℕ) (count node : ℕ
   value-back all v e =
       let w : Own canonical len table count t = own_of canonical len table count t o in
       let i : Inside (row_of t node) (0 + length (canon t)) = rows_inside t 0 node in
-      let is : typed_row canonical (row_of t node) ≡ Is v = is-value _ v (sym value-by ∙ e) in
-      pick-cases (eqb (row_of t node).kind 2) Untyped (value_at (row_kind canonical (row_of t node)) canonical (row_of t node).data_start (row_of t node).data_end) is
+      let is : typed_row canonical (row_of t node) ≡ Some v = is-value _ v (sym value-by ∙ e) in
+      pick-cases (eqb (row_of t node).kind 2) None (value_at (row_kind canonical (row_of t node)) canonical (row_of t node).data_start (row_of t node).data_end) is
       (λ p q. none-some (ap value_in q))
       (λ p q. written_back (row_kind canonical (row_of t node)) canonical (row_of t node).data_start (row_of t node).data_end v all i.octets (omega (arith, i.ended, w.sheet.size, w.sheet.lent)) q)

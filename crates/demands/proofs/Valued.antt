@@ -8,14 +8,13 @@ use lib.Dec.{leb, eqb}
 use lib.ListN.{length}
 use lib.Ieee.{binary32, binary64, of_bits}
 use borrow.Author.Tests.{eq-eqb, eqb-true, le-leb, leb-true}
+use Rattle.std.specs.Prelude.{Some, None}
 use Rattle.base.specs.Choice.{pick, equal}
 use Rattle.base.proofs.Cases.{by_bool, picked, unpicked, untrue, differ}
 use Rattle.base.proofs.Lists.{equal-true, equal-same}
 use Rattle.model.specs.Tree.{Tree, plain, hinted, list}
 use Rattle.typed.specs.Octets.{be, signed, shortest}
-use Rattle.typed.specs.Typed.{finite, kind_of, float_of, single_of, double_of, whole_of}
-use Rattle.typed.specs.declared.Typing.{Typing}
-use Rattle.typed.specs.declared.Typing.TheVariants.{Is, Untyped}
+use Rattle.typed.specs.Typed.{finite, kind_of, float_of, single_of, double_of, whole_of, Typing}
 use Rattle.typed.specs.declared.Value.{Value}
 use Rattle.typed.specs.declared.Value.TheVariants.{Single, Double, Whole, Raw}
 use Rattle.demands.specs.Values.{f32, f64, int, ValueOf, single, double, whole, other, bare}
@@ -43,7 +42,7 @@ kind-cases g one two three else =
 
 module _ (d : List ℕ) (s e : ℕ) where
   abbrev raw : Typing
-  raw = Is (Raw s e)
+  raw = Some (Raw s e)
 
   pub as-single : (g : List ℕ) → kind_of g ≡ 1 → hinted_as g d raw ≡ single_of d
   as-single g k = rw (k, eqb)
@@ -58,34 +57,34 @@ module _ (d : List ℕ) (s e : ℕ) where
   as-raw g k = rw (k, eqb)
 
 -- what is made where a test holds
-made : {G : Type 0} (t : Bool) (u v : Value) → pick t (Is u) Untyped ≡ Is v → (t ≡ true → u ≡ v → G) → G
+made : {G : Type 0} (t : Bool) (u v : Value) → pick t (Some u) None ≡ Some v → (t ≡ true → u ≡ v → G) → G
 made true u v e f = f refl (let w : u ≡ v = cc in w)
 made false u v e f = let z : ◌≡◌ {A = ℕ} 0 1 = cc in absurd (omega arith)
 
 module _ (s e : ℕ) (d : List ℕ) (v : Value) where
-  same-value : {u : Value} → Is u ≡ Is v → u ≡ v
+  same-value : {u : Value} → Some u ≡ Some v → u ≡ v
   same-value {u} w = cc
 
-  singles : single_of d ≡ Is v → ValueOf s e (hinted f32 d) v
+  singles : single_of d ≡ Some v → ValueOf s e (hinted f32 d) v
   unfolding float_of
   singles w = made (eqb (length d) 4 && finite binary32 (be 0 d)) (Single (of_bits binary32 (be 0 d))) v w (λ t u.
       let b : (eqb (length d) 4 ≡ true) × (finite binary32 (be 0 d) ≡ true) = both-are _ _ t in
       subst (ValueOf s e (hinted f32 d)) u (single (eqb-true _ _ b.0) b.1))
 
-  doubles : double_of d ≡ Is v → ValueOf s e (hinted f64 d) v
+  doubles : double_of d ≡ Some v → ValueOf s e (hinted f64 d) v
   unfolding float_of
   doubles w = made (eqb (length d) 8 && finite binary64 (be 0 d)) (Double (of_bits binary64 (be 0 d))) v w (λ t u.
       let b : (eqb (length d) 8 ≡ true) × (finite binary64 (be 0 d) ≡ true) = both-are _ _ t in
       subst (ValueOf s e (hinted f64 d)) u (double (eqb-true _ _ b.0) b.1))
 
-  wholes : whole_of d ≡ Is v → ValueOf s e (hinted int d) v
+  wholes : whole_of d ≡ Some v → ValueOf s e (hinted int d) v
   unfolding whole_of
   wholes w = made (leb (length d) 8 && shortest d) (Whole (signed d)) v w (λ t u.
       let b : (leb (length d) 8 ≡ true) × (shortest d ≡ true) = both-are _ _ t in
       subst (ValueOf s e (hinted int d)) u (whole (leb-true _ _ b.0) b.1))
 
   -- S 10.1: a string with a value is as its hint tells
-  pub hint-says : (g : List ℕ) → hinted_as g d (Is (Raw s e)) ≡ Is v → ValueOf s e (hinted g d) v
+  pub hint-says : (g : List ℕ) → hinted_as g d (Some (Raw s e)) ≡ Some v → ValueOf s e (hinted g d) v
   hint-says g w =
       kind-cases g
       (λ h k. subst (λ (x : List ℕ). ValueOf s e (hinted x d) v) (sym h) (singles (sym (as-single d s e g k) ∙ w)))
@@ -96,32 +95,32 @@ module _ (s e : ℕ) (d : List ℕ) (v : Value) where
 two-true : {t u : Bool} → t ≡ true → u ≡ true → (t && u) ≡ true
 two-true a b = rw (a, b)
 
-single-made : (d : List ℕ) → length d ≡ 4 → finite binary32 (be 0 d) ≡ true → single_of d ≡ Is (Single (of_bits binary32 (be 0 d)))
+single-made : (d : List ℕ) → length d ≡ 4 → finite binary32 (be 0 d) ≡ true → single_of d ≡ Some (Single (of_bits binary32 (be 0 d)))
 unfolding float_of
 single-made d l f = picked _ _ (two-true (eq-eqb _ _ l) f)
 
-pub double-made : (d : List ℕ) → length d ≡ 8 → finite binary64 (be 0 d) ≡ true → double_of d ≡ Is (Double (of_bits binary64 (be 0 d)))
+pub double-made : (d : List ℕ) → length d ≡ 8 → finite binary64 (be 0 d) ≡ true → double_of d ≡ Some (Double (of_bits binary64 (be 0 d)))
 unfolding float_of
 double-made d l f = picked _ _ (two-true (eq-eqb _ _ l) f)
 
-whole-made : (d : List ℕ) → length d ≤ 8 → shortest d ≡ true → whole_of d ≡ Is (Whole (signed d))
+whole-made : (d : List ℕ) → length d ≤ 8 → shortest d ≡ true → whole_of d ≡ Some (Whole (signed d))
 unfolding whole_of
 whole-made d l f = picked _ _ (two-true (le-leb _ _ l) f)
 
 -- what a tree's value is, by its string
 abbrev pub value_by : ℕ → ℕ → Tree → Typing
-value_by s e (plain d) = Is (Raw s e)
-value_by s e (hinted g d) = hinted_as g d (Is (Raw s e))
-value_by s e (list f) = Untyped
+value_by s e (plain d) = Some (Raw s e)
+value_by s e (hinted g d) = hinted_as g d (Some (Raw s e))
+value_by s e (list f) = None
 
 module _ (s e : ℕ) where
-  pub value-says : (x : Tree) (v : Value) → value_by s e x ≡ Is v → ValueOf s e x v
+  pub value-says : (x : Tree) (v : Value) → value_by s e x ≡ Some v → ValueOf s e x v
   value-says (plain d) v w = subst (ValueOf s e (plain d)) (same-value s e d v w) bare
   value-says (hinted g d) v w = hint-says s e d v g w
   value-says (list f) v w = let z : ◌≡◌ {A = ℕ} 0 1 = cc in absurd (omega arith)
 
   -- and a string as its hint tells has the value
-  pub value-is : (x : Tree) (v : Value) → ValueOf s e x v → value_by s e x ≡ Is v
+  pub value-is : (x : Tree) (v : Value) → ValueOf s e x v → value_by s e x ≡ Some v
   unfolding kind_of equal
   value-is x v (single {d} l f) = as-single d s e f32 refl ∙ single-made d l f
   value-is x v (double {d} l f) = as-double d s e f64 refl ∙ double-made d l f

@@ -13,7 +13,7 @@ use Rattle.edits.proofs.Join.{nodess-join}
 use Rattle.edits.proofs.Whole.{nodess-one, nodes-at, locate}
 use Rattle.shifts.proofs.Adding.{no_more, one_more}
 use Rattle.typed.specs.Lines.{line_count, elements_up_to, Sum, lines, bad, added, added_by, sum_of}
-use Rattle.typed.specs.declared.Count.{Count}
+use Rattle.typed.specs.Quarters.{Count}
 use Rattle.typed.specs.declared.Line.{Line}
 use Rattle.demands.specs.Lines.{ShiftLine, AllLines, no_line, a-line, FirstBad}
 use Rattle.demands.proofs.Given.{count-of-line, uncounted, LineOrNot, is-line, is_none, line-or-not}

@@ -1,12 +1,11 @@
 -- Lines and lists of them, as trees (S 10.3, 10.4).
-use Rattle.std.specs.Prelude.{ℕ, suc, ◌+◌, ◌≤◌, ◌≡◌, false, List, Float}
+use Rattle.std.specs.Prelude.{ℕ, suc, ◌+◌, ◌≤◌, ◌≡◌, false, List, Float, Some}
 use Rattle.std.specs.Float.Ieee.Exact.{HasValue}
 use Rattle.model.specs.Edit.{join}
 use Rattle.model.specs.Tree.{Tree, hinted, list, Forest, nil, cons, nodess}
 use Rattle.typed.specs.Typed.{double_of}
 use Rattle.typed.specs.declared.Line.{Line}
 use Rattle.typed.specs.declared.Total.{Total}
-use Rattle.typed.specs.declared.Typing.TheVariants.{Is}
 use Rattle.typed.specs.declared.Value.TheVariants.{Double}
 use Rattle.typed.proofs.Exact.{Exactly}
 use Rattle.demands.specs.Values.{f64}
@@ -17,9 +16,9 @@ pub record Three (x : Tree) (h : Line) : Type 0 where
   pub second : List ℕ
   pub third : List ℕ
   pub is : x ≡ list (cons (hinted f64 first) (cons (hinted f64 second) (cons (hinted f64 third) nil)))
-  pub ordinary : double_of first ≡ Is (Double h.ordinary)
-  pub night : double_of second ≡ Is (Double h.night)
-  pub holiday : double_of third ≡ Is (Double h.holiday)
+  pub ordinary : double_of first ≡ Some (Double h.ordinary)
+  pub night : double_of second ≡ Some (Double h.night)
+  pub holiday : double_of third ≡ Some (Double h.holiday)
 
 -- S 10.3, 0 to 24 in whole quarters with the sign clear: the double is exactly n quarters
 pub record Hours (x : Float) (n : ℕ) : Type 0 where

@@ -1,6 +1,6 @@
 -- The entries: rows 1 and 2, and then what the text's tree gives; or, where nothing comes, what a removal gives.
 use Prim.Native.Nat.{ℕ, ◌≤◌, ◌<◌}
-use mathlib.Core.Path.{◌≡◌, sym, ap, ◌∙◌}
+use mathlib.Core.Path.{◌≡◌, refl, sym, ap, ◌∙◌}
 use mathlib.Core.Bool.{Bool, true, false}
 use mathlib.Core.Option.{some}
 use mathlib.Core.List.{List}
@@ -13,12 +13,16 @@ use Rattle.model.specs.Tree.{list, nil}
 use Rattle.texts.specs.Texts.{text_verdict}
 use Rattle.model.proofs.Telling.{telling-same}
 use Rattle.texts.proofs.Rows.{row_other, text-refused, text-taken}
-use Rattle.answers.specs.Cases.{Refuses}
+use Rattle.answers.specs.Cases.{Judging, Judges}
+use Rattle.answers.specs.declared.refusal.Refusal.{Refusal}
+use Rattle.answers.proofs.Judged.{judged-refuses, judged-row}
+use Rattle.std.specs.Prelude.{Ok, Err, ⊤}
+use native.Mathlib.Omega.{arith}
 use Rattle.plan.specs.Asked.{changed, node_of, placeless, texted, change_checks, change_tree, changing}
 use Rattle.plan.proofs.Removing.{removing-is}
 use Rattle.plan.specs.declared.Asked.{Asked}
 use Rattle.plan.specs.declared.Asked.TheVariants.{Replace, Insert, Remove}
-use Rattle.answers.specs.declared.Reading.{Reading}
+use Rattle.answers.specs.Cases.{Reading}
 use Rattle.editor.specs.Given.{GivesTree, GivesMeant, GivesText}
 use Rattle.editor.proofs.Placing.{gives-refused, gives_same}
 
@@ -40,14 +44,16 @@ module _ (form : ℕ) (text canonical : List ℕ) (len count : ℕ) (n : ℕ) (v
   taken (Insert node k) f h = sym (ap (telling (place_of form text)) (text-taken form text _ _ (λ (k : ℕ). unchanged k canonical table) n v h))
   taken (Remove node) f h = untrue f
 
-module _ (form : ℕ) (text canonical : List ℕ) (len count room : ℕ) (own : Bool) (a : Asked) (f : texted a ≡ true) (n : ℕ) (v : n ≡ text_verdict form (length text)) where
-  pub change-refused : 0 < n → (notes : List ℕ) (r : Reading) → Refuses n r → GivesText a form text canonical len count room own canonical notes r
-  change-refused h notes r w =
-      gives-refused _ _ canonical room notes count n 0 r w (λ table l. w.is canonical table ∙ sym (refused form text canonical len count n v table a f h))
+module _ (form : ℕ) (text canonical : List ℕ) (len count room : ℕ) (own : Bool) (a : Asked) (f : texted a ≡ true) (r : Judging) (j : Judges (text_verdict form (length text)) r) where
+  pub change-refused : (x : Refusal) → r ≡ Err x → (notes : List ℕ) → GivesText a form text canonical len count room own canonical notes (Err x)
+  change-refused x e notes =
+      gives-refused _ _ canonical room notes count _ 0 (Err x) (judged-refuses _ r j x e)
+      (λ table l. (judged-refuses _ r j x e).is canonical table ∙ sym (refused form text canonical len count _ refl table a f (judged-row _ r j x e)))
 
-  pub change-taken : n ≤ 0 → (canonical' notes' : List ℕ) (r : Reading) → GivesMeant a form text canonical len count room own canonical' notes' r
+  pub change-taken : (u : ⊤) → r ≡ Ok u → (canonical' notes' : List ℕ) (r : Reading) → GivesMeant a form text canonical len count room own canonical' notes' r
       → GivesText a form text canonical len count room own canonical' notes' r
-  change-taken h canonical' notes' r p = gives_same _ _ _ canonical' room notes' count r (λ table. taken form text canonical len count n v table a f h) p
+  change-taken u e canonical' notes' r p =
+      gives_same _ _ _ canonical' room notes' count r (λ table. taken form text canonical len count (text_verdict form (length text)) refl table a f (omega (arith, j.passes u e))) p
 
 -- ---- with none
 strikes : (a : Asked) → texted a ≡ false → (form : ℕ) (text canonical table : List ℕ) (len count : ℕ) → change_tree a (some (list nil)) canonical len table count ≡ changing a form text canonical table len count

@@ -38,15 +38,19 @@ use Rattle.plan.proofs.Resizing.{depth-few, moves, ordered}
 use Rattle.splice.specs.Rewritten.{Movable, Ending, Ended}
 use Rattle.splice.specs.Renoted.{Renotable, Renoted}
 use Rattle.splice.proofs.Spliced.{spliced, zeroed}
-use Rattle.answers.specs.declared.Reading.{Reading}
-use Rattle.answers.specs.declared.Reading.TheVariants as reading
+use Rattle.answers.specs.Cases.{Reading, accepted}
+use Rattle.answers.specs.declared.refusal.Refusal.{Refusal}
+use Rattle.answers.specs.declared.refusal.Refusal.TheVariants.{Syntax}
+use Rattle.answers.specs.declared.Sizes.{Sizes}
+use Rattle.answers.specs.Refusals.{number_of, place_in}
+use Rattle.answers.proofs.Judged.{refuses}
+use Rattle.std.specs.Prelude.{Result, Ok, Err}
+use Rattle.walk.specs.Extent.{Measured}
 use Rattle.walk.specs.declared.Extent.{Extent}
-use Rattle.walk.specs.declared.Extent.TheVariants as extent
+use Rattle.walk.specs.declared.Broken.{Broken}
 use Rattle.plan.specs.declared.Asked.{Asked}
 use Rattle.plan.specs.declared.Asked.TheVariants.{Replace, Insert, Remove}
-use Rattle.plan.specs.declared.Sizes.{Sizes}
 use Rattle.plan.specs.declared.Plan.{Plan}
-use Rattle.plan.specs.declared.Plan.TheVariants.{Fits, Misfit}
 
 same_outcome : {a a' b b' : ℕ} {c c' d d' : List ℕ} → a ≡ a' → b ≡ b' → c ≡ c' → d ≡ d'
     → ◌≡◌ {A = Outcome} (record { accepted = true; number = no_refusal; place = 0; octets = a; count = b; canonical = c; table = d }) (record { accepted = true; number = no_refusal; place = 0; octets = a'; count = b'; canonical = c'; table = d' })
@@ -68,16 +72,16 @@ tree-none a o canonical len table count e = judged-refused _ _ _ 3 (verdict-here
 pub gives-refused : (Lent : List ℕ → Type 0) (answer : List ℕ → Outcome) (c : List ℕ) (n : ℕ) (notes : List ℕ) (old k p : ℕ) (r : Reading) → RefusesAt k p r
     → ((table : List ℕ) → Lent table → outcome r c table ≡ answer table) → Gives Lent answer c n notes old r
 unfolding Gives outcome
-gives-refused Lent answer c n notes old k p (reading.Accepted len count) f g = differ refl (ap (λ (x : Outcome). x.accepted) (f.is [] []))
-gives-refused Lent answer c n notes old k p (reading.Refused x) f g = g
+gives-refused Lent answer c n notes old k p (Ok s) f g = differ refl (ap (λ (x : Outcome). x.accepted) (f.is [] []))
+gives-refused Lent answer c n notes old k p (Err x) f g = g
 
 -- another answer that is the same for every table
 pub gives_same : (Lent : List ℕ → Type 0) (answer answer' : List ℕ → Outcome) (c : List ℕ) (n : ℕ) (notes : List ℕ) (old : ℕ) (r : Reading)
     → ((table : List ℕ) → answer table ≡ answer' table) → Gives Lent answer c n notes old r → Gives Lent answer' c n notes old r
 unfolding Gives
-gives_same Lent answer answer' c n notes old (reading.Accepted l k) e p =
+gives_same Lent answer answer' c n notes old (Ok s) e p =
     record { tree = p.tree; held = p.held; recorded = p.recorded; few = p.few; is = λ table z. p.is table z ∙ e table }
-gives_same Lent answer answer' c n notes old (reading.Refused f) e p = λ table z. p table z ∙ e table
+gives_same Lent answer answer' c n notes old (Err f) e p = λ table z. p table z ∙ e table
 
 -- no place is told of a tree
 told-some : (p : ℕ) (a : Asked) (canonical : List ℕ) (len : ℕ) (table : List ℕ) (count : ℕ) (t : Tree)
@@ -94,21 +98,25 @@ given-some (Insert node k) u h = refl
 given-some (Remove node) u h = absurd (omega arith)
 
 -- ---- what a change puts in, known by its sizes, of which the canonical form stands at the front of scratch
-module _ (canonical : List ℕ) (len count room : ℕ) (own : Bool) (a : Asked) (notes : List ℕ) (scratch : List ℕ) (sizes : Sizes) (g : Placeable a scratch sizes) (p : Plan) (w : Plans canonical len count room own a sizes p) where
+module _ (canonical : List ℕ) (len count room : ℕ) (own : Bool) (a : Asked) (notes : List ℕ) (scratch : List ℕ) (sizes : Extent) (g : Placeable a scratch sizes) (p : Result Plan Refusal) (w : Plans canonical len count room own a sizes p) where
   abbrev n : ℕ
   n = sizes.len
 
   abbrev u : Tree
   u = g.tree
 
-  pub place-misfit : (number : ℕ) → p ≡ Misfit number → (r : Reading) → Refuses number r → Placed a scratch sizes canonical canonical len count room own notes r
+  pub place-misfit : (f : Refusal) → p ≡ Err f → Placed a scratch sizes canonical canonical len count room own notes (Err f)
   unfolding Plans
-  place-misfit number z r f =
-      let m : Misfitting canonical len count room own a sizes number = subst (Plans canonical len count room own a sizes) z w in
-      record { is = λ v s. gives-refused _ _ canonical room notes count number 0 r f (λ table l. f.is canonical table ∙ sym (m.answer table l v s.sized)) }
+  place-misfit f z =
+      let m : Misfitting canonical len count room own a sizes f = subst (Plans canonical len count room own a sizes) z w in
+      record {
+        is = λ v s.
+            gives-refused _ _ canonical room notes count (number_of f) (place_in f) (Err f) (refuses f)
+            (λ table l. (refuses f).is canonical table ∙ sym (m.answer table l v s.sized));
+      }
 
-  module _ (first start end len' count' : ℕ) (z : p ≡ Fits first start end len' count') where
-    fitting : Fitting canonical len count room own a sizes first start end len' count'
+  module _ (to : Plan) (z : p ≡ Ok to) where
+    fitting : Fitting canonical len count room own a sizes to.first to.start to.end to.length to.nodes
     unfolding Plans
     fitting = subst (Plans canonical len count room own a sizes) z w
 
@@ -121,28 +129,28 @@ module _ (canonical : List ℕ) (len count room : ℕ) (own : Bool) (a : Asked) 
     sheet : good.Sheet canonical len t
     sheet = sheet-of canonical len t fitting.is
 
-    at-spot : AtSpot len count first fitting.number start end fitting.level a t
+    at-spot : AtSpot len count to.first fitting.number to.start to.end fitting.level a t
     at-spot = fitting.at
 
-    takes : Taking new canonical room len' count'
+    takes : Taking new canonical room to.length to.nodes
     takes = fitting.takes u g.is.sized
 
-    in_order : (start ≤ end) × (end ≤ len) × (fitting.number ≤ count)
-    in_order = ordered len count first fitting.number start end fitting.level a t at-spot
+    in_order : (to.start ≤ to.end) × (to.end ≤ len) × (fitting.number ≤ count)
+    in_order = ordered len count to.first fitting.number to.start to.end fitting.level a t at-spot
 
-    moved : Moves t new first fitting.number start (end - start) (given a u)
-    moved = moves len count first fitting.number start end fitting.level a t at-spot u
+    moved : Moves t new to.first fitting.number to.start (to.end - to.start) (given a u)
+    moved = moves len count to.first fitting.number to.start to.end fitting.level a t at-spot u
 
     -- the octets before the spot, what comes, and the octets after it
-    new-octets : take start (take len canonical) ++ (canons (given a u) ++ drop end (take len canonical)) ≡ canon new
+    new-octets : take to.start (take len canonical) ++ (canons (given a u) ++ drop to.end (take len canonical)) ≡ canon new
     new-octets =
-        let x : start + (end - start) ≡ end = omega (arith, in_order.0) in
+        let x : to.start + (to.end - to.start) ≡ to.end = omega (arith, in_order.0) in
         rw sheet.is (rw x at (sym moved.octets))
 
-    new-long : length (canon new) ≡ start + n + (len - end)
+    new-long : length (canon new) ≡ to.start + n + (len - to.end)
     new-long = omega (arith, new-length moved, sheet.size, g.is.sized.long, in_order.0, in_order.1)
 
-    pub place-gap : Movable (length canonical) start end len n
+    pub place-gap : Movable (length canonical) to.start to.end len n
     place-gap =
         record { ordered = in_order.0; ended = in_order.1; lent = sheet.lent; fits = omega (arith, new-long, takes.long, takes.lent) }
 
@@ -160,7 +168,7 @@ module _ (canonical : List ℕ) (len count room : ℕ) (own : Bool) (a : Asked) 
 
     -- the notes are the old tree's, and are to be the new one's
     pub place-renotable : Known canonical len count room notes own → Noteable count sizes.nodes (length notes)
-        → Renotable (take n scratch) notes first start end sizes.nodes (record { old = len; len = len'; held = count; count = count' })
+        → Renotable (take n scratch) notes to.first to.start to.end sizes.nodes (record { old = len; len = to.length; held = count; count = to.nodes })
     place-renotable known e =
         let s : Sheet canonical len count room notes = known.sheet fitting.good in
         let q : s.tree ≡ t = some_same (λ (v : Tree). s.tree ≡ v) (sym s.is ∙ fitting.is) refl in
@@ -185,19 +193,19 @@ module _ (canonical : List ℕ) (len count room : ℕ) (own : Bool) (a : Asked) 
           room = omega (arith, e.enough, fitting.grows, takes.few);
         }
 
-    module _ (canonical₁ : List ℕ) (g₁ : canonical₁ ≡ sets canonical (start + n) (take (len - end) (drop end canonical))) where
-      pub place-room : start + n ≤ length canonical₁
-      place-room = omega (arith, ap length g₁, length-sets canonical (start + n) (take (len - end) (drop end canonical)), place-gap.fits)
+    module _ (canonical₁ : List ℕ) (g₁ : canonical₁ ≡ sets canonical (to.start + n) (take (len - to.end) (drop to.end canonical))) where
+      pub place-room : to.start + n ≤ length canonical₁
+      place-room = omega (arith, ap length g₁, length-sets canonical (to.start + n) (take (len - to.end) (drop to.end canonical)), place-gap.fits)
 
-      module _ (canonical₂ : List ℕ) (q : ℕ) (f₂ : Wrote (take n (drop 0 scratch)) start canonical₁ canonical₂ q) where
-        g₂ : Wrote (canons (given a u)) start canonical₁ canonical₂ q
-        g₂ = subst (λ (y : List ℕ). Wrote y start canonical₁ canonical₂ q) stands f₂
+      module _ (canonical₂ : List ℕ) (q : ℕ) (f₂ : Wrote (take n (drop 0 scratch)) to.start canonical₁ canonical₂ q) where
+        g₂ : Wrote (canons (given a u)) to.start canonical₁ canonical₂ q
+        g₂ = subst (λ (y : List ℕ). Wrote y to.start canonical₁ canonical₂ q) stands f₂
 
         written : canonical₂ ≡ sets canonical 0 (canon new)
         written =
-            let y : start + n ≡ start + length (canons (given a u)) = omega (arith, g.is.sized.long) in
-            g₂.same ∙ ap (λ (c : List ℕ). sets c start (canons (given a u))) (g₁ ∙ ap (λ (i : ℕ). sets canonical i (take (len - end) (drop end canonical))) y)
-            ∙ spliced canonical (canons (given a u)) start end len in_order.0 in_order.1 sheet.lent (omega (arith, g.is.sized.long, place-gap.fits))
+            let y : to.start + n ≡ to.start + length (canons (given a u)) = omega (arith, g.is.sized.long) in
+            g₂.same ∙ ap (λ (c : List ℕ). sets c to.start (canons (given a u))) (g₁ ∙ ap (λ (i : ℕ). sets canonical i (take (len - to.end) (drop to.end canonical))) y)
+            ∙ spliced canonical (canons (given a u)) to.start to.end len in_order.0 in_order.1 sheet.lent (omega (arith, g.is.sized.long, place-gap.fits))
             ∙ ap (sets canonical 0) new-octets
 
         kept-long : length canonical₂ ≡ length canonical
@@ -206,20 +214,20 @@ module _ (canonical : List ℕ) (len count room : ℕ) (own : Bool) (a : Asked) 
         new-fits : length (canon new) ≤ length canonical
         new-fits = omega (arith, takes.long, takes.lent)
 
-        pub place_end : Ending (length canonical₂) len len'
+        pub place_end : Ending (length canonical₂) len to.length
         place_end = record { lent = omega (arith, kept-long, takes.lent); old_lent = omega (arith, kept-long, sheet.lent) }
 
         pub place-accepted : Known canonical len count room notes own → Noteable count sizes.nodes (length notes) → (notes' : List ℕ)
-            → Renoted (take n scratch) notes first start end sizes.nodes (record { old = len; len = len'; held = count; count = count' }) notes'
-            → (canonical₃ : List ℕ) (r : Reading) → Ended canonical₂ len len' count' canonical₃ r
-            → Placed a scratch sizes canonical canonical₃ len count room own notes' r
+            → Renoted (take n scratch) notes to.first to.start to.end sizes.nodes (record { old = len; len = to.length; held = count; count = to.nodes }) notes'
+            → (canonical₃ : List ℕ) (r : Sizes) → Ended canonical₂ len to.length to.nodes canonical₃ r
+            → Placed a scratch sizes canonical canonical₃ len count room own notes' (Ok r)
         unfolding Gives outcome filled place-renotable
         place-accepted known e notes' h canonical₃ r f =
             record {
-              is = λ v s. subst (GivesTree a (some v) canonical len count room own canonical₃ notes') (sym f.tells) (giving v s);
+              is = λ v s. subst (λ (x : Sizes). GivesTree a (some v) canonical len count room own canonical₃ notes' (Ok x)) (sym f.tells) (giving v s);
             }
           where
-            giving : (v : Tree) → Standing scratch sizes (given a v) → GivesTree a (some v) canonical len count room own canonical₃ notes' (reading.Accepted len' count')
+            giving : (v : Tree) → Standing scratch sizes (given a v) → GivesTree a (some v) canonical len count room own canonical₃ notes' (accepted to.length to.nodes)
             giving v s =
                 let same : new ≡ changed a t v = changed-by a t u v (sym stands ∙ s.octets short) in
                 record {
@@ -259,7 +267,7 @@ module _ (a : Asked) (b : Bool) (e : b ≡ texted a) where
 
 -- ---- nothing comes
 module _ (a : Asked) (f : texted a ≡ false) (scratch : List ℕ) where
-  abbrev nothing : Sizes
+  abbrev nothing : Extent
   nothing = record { len = 0; nodes = 0; depth = 0 }
 
   leaves : Standing scratch nothing (given a (list nil))
@@ -278,22 +286,19 @@ module _ (a : Asked) (f : texted a ≡ false) (scratch : List ℕ) where
 
 -- ---- a text taken, which means a tree or none
 module _ (form : ℕ) (text : List ℕ) (space : ℕ) (k : Takeable form (length text) space) (canonical : List ℕ) (len count room : ℕ) (own : Bool) (a : Asked)
-    (scratch first first' : List ℕ) (x : Extent) (m : Taken (decode form text) (place_of form text) scratch first first' x) where
-  pub change-none : (q : ℕ) → x ≡ extent.Refused q → (notes : List ℕ) (r : Reading) → RefusesAt 3 q r → GivesMeant a form text canonical len count room own canonical notes r
+    (scratch first first' : List ℕ) (x : Measured) (m : Taken (decode form text) (place_of form text) scratch first first' x) where
+  pub change-none : (q : Broken) → x ≡ Err q → (notes : List ℕ) → GivesMeant a form text canonical len count room own canonical notes (Err (Syntax q.place))
   unfolding Measures telling
-  change-none q e notes r f =
-      gives-refused _ _ canonical room notes count 3 q r f
+  change-none q e notes =
+      gives-refused _ _ canonical room notes count 3 q.place (Err (Syntax q.place)) (refuses (Syntax q.place))
       (λ table l.
-      f.is canonical table ∙ ap (λ (p : ℕ). unchanged_at 3 p canonical table) (m.fails q e)
+      (refuses (Syntax q.place)).is canonical table ∙ ap (λ (p : ℕ). unchanged_at 3 p canonical table) (m.fails q.place e)
       ∙ sym (ap (telling (place_of form text)) (tree-none a (decode form text) canonical len table count (subst (Measures (decode form text)) e m.measures))))
 
-  module _ (n c d : ℕ) (e : x ≡ extent.Whole n c d) (f : texted a ≡ true) where
-    whole : Wholly (decode form text) n c d
+  module _ (told : Extent) (e : x ≡ Ok told) (f : texted a ≡ true) where
+    whole : Wholly (decode form text) told.len told.nodes told.depth
     unfolding Measures
     whole = subst (Measures (decode form text)) e m.measures
-
-    abbrev told : Sizes
-    told = record { len = n; nodes = c; depth = d }
 
     few : length (canon whole.tree) ≤ 98304
     few = omega (arith, tripled form text whole.tree whole.is, k.lent.short)
@@ -324,7 +329,7 @@ module _ (form : ℕ) (text : List ℕ) (space : ℕ) (k : Takeable form (length
           };
         }
 
-    pub change-noteable : (space : ℕ) → Noteable count (2 * length text) space → Noteable count c space
+    pub change-noteable : (space : ℕ) → Noteable count (2 * length text) space → Noteable count told.nodes space
     change-noteable space h =
         record { enough = omega (arith, h.enough, whole.counted, nodes-within-half whole.tree, tripled form text whole.tree whole.is) }
 

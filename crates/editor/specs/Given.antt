@@ -7,8 +7,8 @@ use Rattle.model.specs.Tree.{Tree}
 use Rattle.model.specs.Answers.{Outcome, settled, place_of, telling}
 use Rattle.model.specs.Decode.{decode}
 use Rattle.answers.specs.Cases.{outcome}
-use Rattle.answers.specs.declared.Reading.{Reading}
-use Rattle.answers.specs.declared.Reading.TheVariants as reading
+use Rattle.answers.specs.Cases.{Reading, accepted}
+use Rattle.std.specs.Prelude.{Ok, Err}
 use Rattle.tables.specs.Told.{Holds}
 use Rattle.plan.specs.Planned.{Lends}
 use Rattle.plan.specs.Asked.{change_tree, changing}
@@ -25,12 +25,12 @@ pub record Giving (Lent : List ℕ → Type 0) (answer : List ℕ → Outcome) (
   pub held : Holds notes count tree
   pub recorded : (count ≤ n) × (old ≤ n)
   pub few : (count ≤ most_nodes) × (old ≤ most_nodes)
-  pub is : (table : List ℕ) → Lent table → outcome (reading.Accepted len count) c (settled table (width * old) (table_of tree)) ≡ answer table
+  pub is : (table : List ℕ) → Lent table → outcome (accepted len count) c (settled table (width * old) (table_of tree)) ≡ answer table
 
 -- the answer for every table that is spoken of
 unfoldable pub Gives : (List ℕ → Type 0) → (List ℕ → Outcome) → List ℕ → ℕ → List ℕ → ℕ → Reading → Type 0
-Gives Lent answer c n notes old (reading.Accepted len count) = Giving Lent answer c n notes old len count
-Gives Lent answer c n notes old (reading.Refused f) = (table : List ℕ) → Lent table → outcome (reading.Refused f) c table ≡ answer table
+Gives Lent answer c n notes old (Ok s) = Giving Lent answer c n notes old s.length s.nodes
+Gives Lent answer c n notes old (Err f) = (table : List ℕ) → Lent table → outcome (Err f) c table ≡ answer table
 
 -- that of a change, of the tree that a text means
 abbrev pub GivesTree : Asked → Option Tree → List ℕ → ℕ → ℕ → ℕ → Bool → List ℕ → List ℕ → Reading → Type 0

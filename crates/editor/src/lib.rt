@@ -4,7 +4,6 @@
 #![tactic(auto)]
 
 mod numbers; // numbers.rt: the table as numbers
-mod tiers; // tiers.rt: local space for a text
 
 ghost use Rattle.std.specs.Prelude.{◌≡◌, true, false, ◌*◌, ◌≤◌, length};
 ghost use Rattle.std.proofs.Math.Option.{some};
@@ -15,9 +14,9 @@ ghost use Rattle.plan.specs.Planned.{Known};
 ghost use Rattle.editor.specs.Given.{Noteable, GivesTree, GivesMeant, GivesText};
 ghost use Rattle.editor.specs.Placed.{Placeable, Placed};
 
-use answers::{Reading, refused, refused_at};
+use answers::Reading;
 pub use numbers::{insert, remove, replace};
-use plan::{Asked, Plan, Sizes};
+use plan::Asked;
 use splice::Growth;
 use walk::Extent;
 
@@ -31,7 +30,7 @@ fn place(
     held: usize,
     asked: Asked,
     scratch: &[u8],
-    text: Sizes,
+    text: Extent,
 ) -> Reading
     requires placeable { Placeable asked scratch.now text }
     requires known { Known canonical.old old held records notes.old own }
@@ -39,28 +38,20 @@ fn place(
     ensures { Placed asked scratch.now text canonical.old canonical.new old held records own notes.new result }
 {
     let len = text.len;
-    match plan::judge(canonical, old, notes, own, records, held, asked, text) {
-        Plan::Fits {
-            first,
-            start,
-            end,
-            length,
-            nodes,
-        } => {
-            splice::gap(canonical, start, end, old, len);
-            scan::copy(scratch, 0, len, canonical, start);
-            let by = Growth {
-                old,
-                len: length,
-                held,
-                count: nodes,
-            };
-            let octets = &scratch[..len];
-            splice::renote(octets, notes, first, start, end, text.nodes, by);
-            splice::end(canonical, old, length, nodes)
-        }
-        Plan::Misfit { number } => refused(number),
-    }
+    let plan = plan::judge(canonical, old, notes, own, records, held, asked, text)?;
+    splice::gap(canonical, plan.start, plan.end, old, len);
+    scan::copy(scratch, 0, len, canonical, plan.start);
+    let by = Growth {
+        old,
+        len: plan.length,
+        held,
+        count: plan.nodes,
+    };
+    let octets = &scratch[..len];
+    splice::renote(
+        octets, notes, plan.first, plan.start, plan.end, text.nodes, by,
+    );
+    Ok(splice::end(canonical, old, plan.length, plan.nodes))
 }
 
 // By a text that rows 1 and 2 don't apply to, in the local space lent. Its notes are made where they belong, once it has its place.
@@ -83,18 +74,47 @@ fn change_in(
     ensures { GivesMeant asked form text.now canonical.old old held records own canonical.new notes.new result }
 {
     let mut none: [usize; 1] = [0; 1];
-    match texts::take(form, text, scratch, &mut none) {
-        Extent::Whole { len, nodes, depth } => {
-            let sizes = Sizes { len, nodes, depth };
-            place(
-                canonical, notes, own, records, old, held, asked, scratch, sizes,
-            )
-        }
-        Extent::Refused { place } => refused_at(3, place),
-    }
+    let sizes = texts::take(form, text, scratch, &mut none)?;
+    place(
+        canonical, notes, own, records, old, held, asked, scratch, sizes,
+    )
 }
 
-// By a text of the form named.
+// The same, by scratch in a frame of its own.
+#[inline(never)]
+fn change_sized<const SCRATCH: usize>(
+    form: u32,
+    text: &[u8],
+    canonical: &mut [u8],
+    notes: &mut [usize],
+    own: bool,
+    records: usize,
+    old: usize,
+    held: usize,
+    asked: Asked,
+) -> Reading
+    requires takeable { Takeable form (length text.now) SCRATCH }
+    requires known { Known canonical.old old held records notes.old own }
+    requires noteable { Noteable held (2 * length text.now) (length notes.old) }
+    requires asked_value { texted asked ≡ true }
+    ensures { GivesMeant asked form text.now canonical.old old held records own canonical.new notes.new result }
+{
+    let mut scratch: [u8; SCRATCH] = [0; SCRATCH];
+    change_in(
+        form,
+        text,
+        canonical,
+        notes,
+        own,
+        records,
+        old,
+        held,
+        asked,
+        &mut scratch,
+    )
+}
+
+// By a text of the form named. A short text does not pay for the scratch of the largest.
 fn text_by(
     form: u32,
     text: &[u8],
@@ -111,17 +131,30 @@ fn text_by(
     requires asked_value { texted asked ≡ true }
     ensures { GivesText asked form text.now canonical.old old held records own canonical.new notes.new result }
 {
-    let row = texts::row(form, text.len());
-    if row > 0 {
-        return refused(row);
-    }
+    texts::row(form, text.len())?;
     if text.len() <= limits::SHORT {
-        return tiers::change_short(form, text, canonical, notes, own, records, old, held, asked);
+        let mut scratch: [u8; limits::SHORT_SCRATCH] = [0; limits::SHORT_SCRATCH];
+        return change_in(
+            form,
+            text,
+            canonical,
+            notes,
+            own,
+            records,
+            old,
+            held,
+            asked,
+            &mut scratch,
+        );
     }
     if text.len() <= limits::MIDDLE {
-        return tiers::change_middle(form, text, canonical, notes, own, records, old, held, asked);
+        return change_sized::<{ limits::MIDDLE_SCRATCH }>(
+            form, text, canonical, notes, own, records, old, held, asked,
+        );
     }
-    tiers::change_long(form, text, canonical, notes, own, records, old, held, asked)
+    change_sized::<{ limits::LONG_SCRATCH }>(
+        form, text, canonical, notes, own, records, old, held, asked,
+    )
 }
 
 // By nothing: what stood there goes.
@@ -140,7 +173,7 @@ fn strike(
     ensures { GivesTree asked (some (list nil)) canonical.old old held records own canonical.new notes.new result }
 {
     let none: [u8; 1] = [0; 1];
-    let sizes = Sizes {
+    let sizes = Extent {
         len: 0,
         nodes: 0,
         depth: 0,

@@ -1,7 +1,9 @@
-// A sheet changed where the table is lent as numbers. Notes stand in local space, in three sizes.
-ghost use Rattle.std.specs.Prelude.{◌≡◌, ◌*◌, ◌≤◌, length as size};
+// A sheet changed where the table is lent as numbers. Notes stand in local space, sized by both lengths: short ones do not pay
+// for clearing the largest.
+ghost use Rattle.std.specs.Prelude.{◌≡◌, ◌*◌, ◌≤◌, length};
 ghost use Rattle.model.specs.Answers.{replacing};
 ghost use Rattle.model.specs.Corrections.{inserting, removing};
+ghost use Rattle.model.specs.Limits.{most_nodes};
 ghost use Rattle.answers.specs.Cases.{outcome};
 ghost use Rattle.plan.specs.Asked.{changing};
 ghost use Rattle.editor.specs.Given.{Noteable};
@@ -10,8 +12,9 @@ use crate::change_by;
 use answers::Reading;
 use plan::Asked;
 
-// In the local space lent: the sheet judged with its table and noted, the octets changed, and the table told by the new notes.
-fn change_in(
+// The sheet judged with its table and noted, the octets changed, and the table told by the new notes.
+#[inline(never)]
+fn change_sized<const NOTES: usize>(
     form: u32,
     text: &[u8],
     canonical: &mut [u8],
@@ -19,72 +22,19 @@ fn change_in(
     old: usize,
     held: usize,
     asked: Asked,
-    notes: &mut [usize],
 ) -> Reading
-    requires { Noteable held (2 * size text.now) (size notes.old) }
+    requires noteable { Noteable held (2 * length text.now) NOTES }
+    requires bounded { NOTES ≤ most_nodes }
     ensures { outcome result canonical.new table.new ≡ changing asked form text.now canonical.old table.old old held }
 {
-    let own = lookup::own_notes(canonical, old, table, held, notes);
+    let mut notes: [usize; NOTES] = [0; NOTES];
+    let own = lookup::own_notes(canonical, old, table, held, &mut notes);
     let records = table.len() / limits::WIDTH;
-    match change_by(form, text, canonical, notes, own, records, old, held, asked) {
-        Reading::Accepted { length, nodes } => {
-            splice::retell(notes, table, held, nodes);
-            Reading::Accepted { length, nodes }
-        }
-        Reading::Refused { refusal } => Reading::Refused { refusal },
-    }
-}
-
-// A short sheet and text.
-fn change_short(
-    form: u32,
-    text: &[u8],
-    canonical: &mut [u8],
-    table: &mut [u32],
-    old: usize,
-    held: usize,
-    asked: Asked,
-) -> Reading
-    requires held_bound { held ≤ 64 }
-    requires text_bound { size text.now ≤ 64 }
-    ensures { outcome result canonical.new table.new ≡ changing asked form text.now canonical.old table.old old held }
-{
-    let mut notes: [usize; limits::SHORT_NOTES] = [0; limits::SHORT_NOTES];
-    change_in(form, text, canonical, table, old, held, asked, &mut notes)
-}
-
-// Of middle length.
-fn change_middle(
-    form: u32,
-    text: &[u8],
-    canonical: &mut [u8],
-    table: &mut [u32],
-    old: usize,
-    held: usize,
-    asked: Asked,
-) -> Reading
-    requires held_bound { held ≤ 512 }
-    requires text_bound { size text.now ≤ 512 }
-    ensures { outcome result canonical.new table.new ≡ changing asked form text.now canonical.old table.old old held }
-{
-    let mut notes: [usize; limits::MIDDLE_NOTES] = [0; limits::MIDDLE_NOTES];
-    change_in(form, text, canonical, table, old, held, asked, &mut notes)
-}
-
-// Of any length.
-fn change_long(
-    form: u32,
-    text: &[u8],
-    canonical: &mut [u8],
-    table: &mut [u32],
-    old: usize,
-    held: usize,
-    asked: Asked,
-) -> Reading
-    ensures { outcome result canonical.new table.new ≡ changing asked form text.now canonical.old table.old old held }
-{
-    let mut notes: [usize; limits::NODES] = [0; limits::NODES];
-    change_in(form, text, canonical, table, old, held, asked, &mut notes)
+    let sizes = change_by(
+        form, text, canonical, &mut notes, own, records, old, held, asked,
+    )?;
+    splice::retell(&notes, table, held, sizes.nodes);
+    Ok(sizes)
 }
 
 // By both lengths.
@@ -101,15 +51,19 @@ fn change(
 {
     if held <= limits::SHORT_NOTES / 3 {
         if text.len() <= limits::SHORT_NOTES / 3 {
-            return change_short(form, text, canonical, table, old, held, asked);
+            return change_sized::<{ limits::SHORT_NOTES }>(
+                form, text, canonical, table, old, held, asked,
+            );
         }
     }
     if held <= limits::MIDDLE_NOTES / 3 {
         if text.len() <= limits::MIDDLE_NOTES / 3 {
-            return change_middle(form, text, canonical, table, old, held, asked);
+            return change_sized::<{ limits::MIDDLE_NOTES }>(
+                form, text, canonical, table, old, held, asked,
+            );
         }
     }
-    change_long(form, text, canonical, table, old, held, asked)
+    change_sized::<{ limits::NODES }>(form, text, canonical, table, old, held, asked)
 }
 
 // A node of the sheet with this length, node count and table gives way to the tree of a text of the form named (see `reader::read`).

@@ -10,7 +10,7 @@ ghost use Rattle.model.specs.Answers.{reading, replacing, writing, comparing, hi
 ghost use Rattle.answers.specs.Cases.{outcome, output, told, placed};
 ghost use Rattle.answers.specs.Shown.{Shows, shown_at};
 
-use answers::{Comparing, Place, Reading, Writing};
+use answers::{Comparing, Part, Reading, Writing};
 pub use batch::split;
 pub use editor::{insert, remove};
 pub use extract::{extract, extract_own};
@@ -97,7 +97,7 @@ pub fn hint_place(
     table: &[u32],
     nodes: usize,
     node: usize,
-) -> Place
+) -> Option<Part>
     ensures { placed result ≡ hint_part canonical.now length table.now nodes node }
 {
     lookup::hint_place(canonical, length, table, nodes, node)
@@ -110,7 +110,7 @@ pub fn data_place(
     table: &[u32],
     nodes: usize,
     node: usize,
-) -> Place
+) -> Option<Part>
     ensures { placed result ≡ data_part canonical.now length table.now nodes node }
 {
     lookup::data_place(canonical, length, table, nodes, node)

@@ -4,7 +4,7 @@ use mathlib.Core.Path.{◌≡◌}
 use mathlib.Core.List.{List}
 use Rattle.model.specs.Answers.{sheet_tree, own_tree}
 use Rattle.answers.specs.Cases.{outcome}
-use Rattle.answers.specs.declared.Reading.{Reading}
+use Rattle.answers.specs.Cases.{Reading}
 use Rattle.extracts.specs.Extracting.{extracting, extracting_own}
 use Rattle.extracts.proofs.Answered.{extract-numbered, extract-unplaced}
 use Rattle.etglavino_c.specs.Pointers.{outcome_of, HandsReading}

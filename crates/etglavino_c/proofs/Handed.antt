@@ -10,30 +10,27 @@ use Rattle.model.specs.Answers as model
 use Rattle.model.specs.Corrections.{inserting, removing}
 use Rattle.model.proofs.Numbered.{reading-numbered, replacing-numbered, inserting-numbered, removing-numbered, removing-unplaced, writing-numbered, writing-unplaced}
 use Rattle.answers.specs.Cases.{outcome, output, told, placed}
-use Rattle.answers.specs.declared.Refusal.{Refusal}
-use Rattle.answers.specs.declared.Reading.{Reading}
-use Rattle.answers.specs.declared.Reading.TheVariants as reading
-use Rattle.answers.specs.declared.Writing.{Writing}
-use Rattle.answers.specs.declared.Writing.TheVariants as writing
-use Rattle.answers.specs.declared.Comparing.{Comparing}
-use Rattle.answers.specs.declared.Comparing.TheVariants as comparing
-use Rattle.answers.specs.declared.Place.{Place}
-use Rattle.answers.specs.declared.Place.TheVariants as place
+use Rattle.answers.specs.Cases.{Reading, Writing, Comparing, Place}
+use Rattle.answers.specs.Refusals.{number_of, place_in}
+use Rattle.answers.specs.declared.refusal.Refusal.{Refusal}
+use Rattle.answers.specs.declared.Sizes.{Sizes}
+use Rattle.answers.specs.declared.Part as declared
+use Rattle.std.specs.Prelude.{Ok, Err, Some, None}
 use Rattle.etglavino_c.specs.Pointers.{outcome_at, outcome_of, HandsReading, HandsPlaced, output_of, flag, compared, compared_of, shown, shown_of, HandsPlace}
 
 module _ (r : Reading) where
-  pub placed-accepted : (len count : ℕ) → r ≡ reading.Accepted len count → HandsPlaced r 0 len count 0
+  pub placed-accepted : (s : Sizes) → r ≡ Ok s → HandsPlaced r 0 s.length s.nodes 0
   unfolding outcome
-  placed-accepted len count q = record { is = λ canonical table o e _. sym (ap (λ (r : Reading). outcome r canonical table) q) ∙ e }
+  placed-accepted s q = record { is = λ canonical table o e _. sym (ap (λ (r : Reading). outcome r canonical table) q) ∙ e }
 
-  pub placed-refused : (f : Refusal) → r ≡ reading.Refused f → HandsPlaced r f.number 0 0 f.place
+  pub placed-refused : (f : Refusal) → r ≡ Err f → HandsPlaced r (number_of f) 0 0 (place_in f)
   unfolding outcome
   placed-refused f q =
       record {
         is = λ canonical table o e n.
-            let w : unchanged_at f.number f.place canonical table ≡ o = sym (ap (λ (r : Reading). outcome r canonical table) q) ∙ e in
-            let z : eqb f.number 0 ≡ false = ap (λ (o : Outcome). eqb o.number 0) w ∙ sym n ∙ sym (ap (λ (o : Outcome). o.accepted) w) in
-            (λ i. record { accepted = z i; number = f.number; place = f.place; octets = 0; count = 0; canonical = canonical; table = table }) ∙ w;
+            let w : unchanged_at (number_of f) (place_in f) canonical table ≡ o = sym (ap (λ (r : Reading). outcome r canonical table) q) ∙ e in
+            let z : eqb (number_of f) 0 ≡ false = ap (λ (o : Outcome). eqb o.number 0) w ∙ sym n ∙ sym (ap (λ (o : Outcome). o.accepted) w) in
+            (λ i. record { accepted = z i; number = (number_of f); place = (place_in f); octets = 0; count = 0; canonical = canonical; table = table }) ∙ w;
       }
 
   -- where none is told, it is 0
@@ -61,37 +58,37 @@ module _ (r : Reading) where
     remove-handed c t l m node e = h.is canonical table (removing c t l m node) e (removing-numbered c t l m node) (removing-unplaced c t l m node)
 
 module _ (r : Writing) (out : List ℕ) (form : ℕ) (c : List ℕ) (n : ℕ) (x : List ℕ) (e : output r out ≡ model.writing form c n x) where
-  pub write-accepted : (len : ℕ) → r ≡ writing.Accepted len → output_of 0 len out ≡ model.writing form c n x
+  pub write-accepted : (len : ℕ) → r ≡ Ok len → output_of 0 len out ≡ model.writing form c n x
   unfolding output
   write-accepted len q = sym (ap (λ (r : Writing). output r out) q) ∙ e
 
-  pub write-refused : (f : Refusal) → r ≡ writing.Refused f → output_of f.number 0 out ≡ model.writing form c n x
+  pub write-refused : (f : Refusal) → r ≡ Err f → output_of (number_of f) 0 out ≡ model.writing form c n x
   unfolding output
   write-refused f q =
-      let w : unwritten_at f.number f.place out ≡ model.writing form c n x = sym (ap (λ (r : Writing). output r out) q) ∙ e in
-      let z : eqb f.number 0 ≡ false = ap (λ (o : Output). eqb o.number 0) w ∙ sym (writing-numbered form c n x) ∙ sym (ap (λ (o : Output). o.accepted) w) in
-      let y : 0 ≡ f.place = sym (ap (λ (o : Output). o.place) w ∙ writing-unplaced form c n x) in
-      (λ i. record { accepted = z i; number = f.number; place = y i; octets = 0; out = out }) ∙ w
+      let w : unwritten_at (number_of f) (place_in f) out ≡ model.writing form c n x = sym (ap (λ (r : Writing). output r out) q) ∙ e in
+      let z : eqb (number_of f) 0 ≡ false = ap (λ (o : Output). eqb o.number 0) w ∙ sym (writing-numbered form c n x) ∙ sym (ap (λ (o : Output). o.accepted) w) in
+      let y : 0 ≡ (place_in f) = sym (ap (λ (o : Output). o.place) w ∙ writing-unplaced form c n x) in
+      (λ i. record { accepted = z i; number = (number_of f); place = y i; octets = 0; out = out }) ∙ w
 
 module _ (r : Comparing) (o : Comparison) (e : told r ≡ o) where
-  pub same-yes : (b : Bool) → r ≡ comparing.Accepted b → b ≡ true → compared 0 1 ≡ compared_of o
+  pub same-yes : (b : Bool) → r ≡ Ok b → b ≡ true → compared 0 1 ≡ compared_of o
   unfolding told compared_of flag
-  same-yes b q y = sym (ap (λ (r : Comparing). compared_of (told r)) (q ∙ ap (λ (b : Bool). comparing.Accepted b) y)) ∙ ap compared_of e
+  same-yes b q y = sym (ap (λ (r : Comparing). compared_of (told r)) (q ∙ ap (λ (b : Bool). Ok b) y)) ∙ ap compared_of e
 
-  pub same-no : (b : Bool) → r ≡ comparing.Accepted b → b ≡ false → compared 0 0 ≡ compared_of o
+  pub same-no : (b : Bool) → r ≡ Ok b → b ≡ false → compared 0 0 ≡ compared_of o
   unfolding told compared_of flag
-  same-no b q y = sym (ap (λ (r : Comparing). compared_of (told r)) (q ∙ ap (λ (b : Bool). comparing.Accepted b) y)) ∙ ap compared_of e
+  same-no b q y = sym (ap (λ (r : Comparing). compared_of (told r)) (q ∙ ap (λ (b : Bool). Ok b) y)) ∙ ap compared_of e
 
-  pub same-refused : (f : Refusal) → r ≡ comparing.Refused f → compared f.number 0 ≡ compared_of o
+  pub same-refused : (f : Refusal) → r ≡ Err f → compared (number_of f) 0 ≡ compared_of o
   unfolding told compared_of flag
   same-refused f q = sym (ap (λ (r : Comparing). compared_of (told r)) q) ∙ ap compared_of e
 
 module _ (r : Place) where
-  pub hand-part : (s t : ℕ) → r ≡ place.Part s t → HandsPlace r 1 s t
+  pub hand-part : (p : declared.Part) → r ≡ Some p → HandsPlace r 1 p.start p.end
   unfolding placed shown_of
-  hand-part s t q = sym (ap (λ (r : Place). shown_of (placed r)) q)
+  hand-part p q = sym (ap (λ (r : Place). shown_of (placed r)) q)
 
-  pub hand-none : r ≡ place.NoPart → HandsPlace r 0 0 0
+  pub hand-none : r ≡ None → HandsPlace r 0 0 0
   unfolding placed shown_of
   hand-none q = sym (ap (λ (r : Place). shown_of (placed r)) q)
 

@@ -7,7 +7,7 @@ use lib.ListN.{length}
 use Rattle.model.specs.Answers.{unchanged, reading}
 use Rattle.model.specs.Limits.{refusal_not_own}
 use Rattle.model.proofs.Numbered.{reading-numbered}
-use Rattle.answers.specs.declared.Reading.{Reading}
+use Rattle.answers.specs.Cases.{Reading}
 use Rattle.pieces.specs.Coded.{state_in, state_numbers}
 use Rattle.pieces.specs.Ending.{in_sheet, End}
 use Rattle.pieces.specs.Feeding.{state_after, InTurn, Piece}

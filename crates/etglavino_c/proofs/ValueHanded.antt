@@ -15,30 +15,26 @@ use Rattle.base.proofs.Cases.{picked, unpicked}
 use Rattle.model.specs.Answers.{settled, Output, unwritten_at, unwritten}
 use Rattle.model.proofs.Judging.{judged-holds}
 use Rattle.answers.specs.Cases.{output}
-use Rattle.answers.specs.declared.Refusal.{Refusal}
-use Rattle.answers.specs.declared.Writing.{Writing}
-use Rattle.answers.specs.declared.Writing.TheVariants as writing
+use Rattle.answers.specs.Cases.{Writing}
+use Rattle.answers.specs.Refusals.{number_of, place_in}
+use Rattle.answers.specs.declared.refusal.Refusal.{Refusal}
+use Rattle.std.specs.Prelude.{Ok, Err}
 use Rattle.typed.specs.Coding.{coding, the_octets, putting_checks, putting}
-use Rattle.typed.specs.Cases.{Valued, valued, Totalled, totalled, Lined, lined, Summed, summed}
+use Rattle.typed.specs.Cases.{Valuing, Totalling, Lining, Summing, Valued, valued, Totalled, totalled, Lined, lined, Summed, summed}
 use Rattle.typed.specs.declared.Value.{Value}
 use Rattle.typed.specs.declared.Value.TheVariants.{Single, Double, Whole, Raw}
 use Rattle.typed.specs.declared.Line.{Line}
 use Rattle.typed.specs.declared.Total.{Total}
-use Rattle.typed.specs.declared.Valuing.{Valuing}
-use Rattle.typed.specs.declared.Valuing.TheVariants as valuing
-use Rattle.typed.specs.declared.Totalling.{Totalling}
-use Rattle.typed.specs.declared.Totalling.TheVariants as totalling
-use Rattle.typed.specs.declared.Lining.{Lining}
-use Rattle.typed.specs.declared.Lining.TheVariants as lining
-use Rattle.typed.specs.declared.Summing.{Summing}
-use Rattle.typed.specs.declared.Summing.TheVariants as summing
+use Rattle.typed.specs.declared.Shift.{Shift}
+use Rattle.typed.specs.declared.Week.{Week}
+use Rattle.typed.specs.declared.Misfit.{Misfit}
 use Rattle.etglavino_c.specs.Pointers.{output_of}
 use Rattle.etglavino_c.specs.Values.{nil32, nil64, value_out, carried, handed_value, HandsValue, value_for, total_out, total_given, handed_total, line_out, line_given, handed_line, HandsLine, week_out, week_given, handed_week, HandsWeek}
 
 module _ (r : Valuing) where
-  module _ (v : Value) (e : r ≡ valuing.Accepted v) where
-    given : (u : Value) → v ≡ u → handed_value (valued (valuing.Accepted u)) ≡ handed_value (valued r)
-    given u q = sym (ap (λ (x : Valuing). handed_value (valued x)) (e ∙ ap (λ (x : Value). valuing.Accepted x) q))
+  module _ (v : Value) (e : r ≡ Ok v) where
+    given : (u : Value) → v ≡ u → handed_value (valued (Ok u)) ≡ handed_value (valued r)
+    given u q = sym (ap (λ (x : Valuing). handed_value (valued x)) (e ∙ ap (λ (x : Value). Ok x) q))
 
     pub hand-single : (x : Float) → v ≡ Single x → HandsValue r 0 1 x nil64 (pos 0) 0 0
     unfolding valued handed_value carried
@@ -57,7 +53,7 @@ module _ (r : Valuing) where
     unfolding valued handed_value carried
     hand-raw s t q = given (Raw s t) q
 
-  pub hand-unvalued : (f : Refusal) → r ≡ valuing.Refused f → HandsValue r f.number 0 nil32 nil64 (pos 0) 0 0
+  pub hand-unvalued : (f : Refusal) → r ≡ Err f → HandsValue r (number_of f) 0 nil32 nil64 (pos 0) 0 0
   unfolding valued handed_value carried
   hand-unvalued f e = sym (ap (λ (x : Valuing). handed_value (valued x)) e)
 
@@ -65,11 +61,11 @@ module _ (r : Valuing) where
   value-handed o e n k x y w s t h = h ∙ ap handed_value e
 
 module _ (r : Lining) where
-  pub hand-lined : (l : Line) (s : Total) → r ≡ lining.Accepted l s → HandsLine r 0 l.ordinary l.night l.holiday s.quarters s.hours
+  pub hand-lined : (s : Shift) → r ≡ Ok s → HandsLine r 0 s.line.ordinary s.line.night s.line.holiday s.total.quarters s.total.hours
   unfolding lined handed_line line_given
-  hand-lined l s e = sym (ap (λ (x : Lining). handed_line (lined x)) e)
+  hand-lined s e = sym (ap (λ (x : Lining). handed_line (lined x)) e)
 
-  pub hand-unlined : (f : Refusal) → r ≡ lining.Refused f → HandsLine r f.number nil64 nil64 nil64 0 nil64
+  pub hand-unlined : (f : Refusal) → r ≡ Err f → HandsLine r (number_of f) nil64 nil64 nil64 0 nil64
   unfolding lined handed_line line_given
   hand-unlined f e = sym (ap (λ (x : Lining). handed_line (lined x)) e)
 
@@ -77,23 +73,23 @@ module _ (r : Lining) where
   line-handed o e n x y z q h w = w ∙ ap handed_line e
 
 module _ (r : Summing) where
-  pub hand-summed : (l : ℕ) (s : Total) → r ≡ summing.Accepted l s → HandsWeek r 0 l s.quarters s.hours 0
+  pub hand-summed : (w : Week) → r ≡ Ok w → HandsWeek r 0 w.lines w.total.quarters w.total.hours 0
   unfolding summed handed_week week_given
-  hand-summed l s e = sym (ap (λ (x : Summing). handed_week (summed x)) e)
+  hand-summed w e = sym (ap (λ (x : Summing). handed_week (summed x)) e)
 
-  pub hand-unsummed : (f : Refusal) (k : ℕ) → r ≡ summing.Refused f k → HandsWeek r f.number 0 0 nil64 k
+  pub hand-unsummed : (m : Misfit) → r ≡ Err m → HandsWeek r (number_of m.refusal) 0 0 nil64 m.node
   unfolding summed handed_week week_given
-  hand-unsummed f k e = sym (ap (λ (x : Summing). handed_week (summed x)) e)
+  hand-unsummed m e = sym (ap (λ (x : Summing). handed_week (summed x)) e)
 
   pub week-handed : (o : Summed) → summed r ≡ o → (n l q : ℕ) (h : Float) (b : ℕ) → HandsWeek r n l q h b → week_out n l q h b ≡ handed_week o
   week-handed o e n l q h b w = w ∙ ap handed_week e
 
 module _ (r : Totalling) (o : Totalled) (e : totalled r ≡ o) where
-  pub total-handed : (s : Total) → r ≡ totalling.Accepted s → total_out 0 s.quarters s.hours ≡ handed_total o
+  pub total-handed : (s : Total) → r ≡ Ok s → total_out 0 s.quarters s.hours ≡ handed_total o
   unfolding totalled handed_total total_given
   total-handed s q = sym (ap (λ (x : Totalling). handed_total (totalled x)) q) ∙ ap handed_total e
 
-  pub total-unhanded : (f : Refusal) → r ≡ totalling.Refused f → total_out f.number 0 nil64 ≡ handed_total o
+  pub total-unhanded : (f : Refusal) → r ≡ Err f → total_out (number_of f) 0 nil64 ≡ handed_total o
   unfolding totalled handed_total total_given
   total-unhanded f q = sym (ap (λ (x : Totalling). handed_total (totalled x)) q) ∙ ap handed_total e
 
@@ -132,14 +128,14 @@ module _ (r : Writing) (out : List ℕ) (v : Value) (k : ℕ) (x' y' : Float) (w
   same : output r out ≡ putting u src x
   same = e ∙ ap (λ (y : Value). putting y src x) (q ∙ ap (λ (z : ℤ). value_for k x' y' z s e') (to_z-of_z w64 w' fits))
 
-  pub put-accepted : (len : ℕ) → r ≡ writing.Accepted len → output_of 0 len out ≡ putting u src x
+  pub put-accepted : (len : ℕ) → r ≡ Ok len → output_of 0 len out ≡ putting u src x
   unfolding output
   put-accepted len z = sym (ap (λ (r : Writing). output r out) z) ∙ same
 
-  pub put_refused : (f : Refusal) → r ≡ writing.Refused f → output_of f.number 0 out ≡ putting u src x
+  pub put_refused : (f : Refusal) → r ≡ Err f → output_of (number_of f) 0 out ≡ putting u src x
   unfolding output
   put_refused f z =
-      let w : unwritten_at f.number f.place out ≡ putting u src x = sym (ap (λ (r : Writing). output r out) z) ∙ same in
-      let y : eqb f.number 0 ≡ false = ap (λ (o : Output). eqb o.number 0) w ∙ sym (putting-tells u src x).0 ∙ sym (ap (λ (o : Output). o.accepted) w) in
-      let p : 0 ≡ f.place = sym (ap (λ (o : Output). o.place) w ∙ (putting-tells u src x).1) in
-      (λ i. record { accepted = y i; number = f.number; place = p i; octets = 0; out = out }) ∙ w
+      let w : unwritten_at (number_of f) (place_in f) out ≡ putting u src x = sym (ap (λ (r : Writing). output r out) z) ∙ same in
+      let y : eqb (number_of f) 0 ≡ false = ap (λ (o : Output). eqb o.number 0) w ∙ sym (putting-tells u src x).0 ∙ sym (ap (λ (o : Output). o.accepted) w) in
+      let p : 0 ≡ (place_in f) = sym (ap (λ (o : Output). o.place) w ∙ (putting-tells u src x).1) in
+      (λ i. record { accepted = y i; number = (number_of f); place = p i; octets = 0; out = out }) ∙ w

@@ -4,8 +4,8 @@ use Rattle.std.proofs.Math.Option.{Option, none, some}
 use Rattle.model.specs.Limits.{no_refusal}
 use Rattle.model.specs.Answers.{Outcome, Output, Comparison, Part}
 use Rattle.answers.specs.Cases.{outcome, placed}
-use Rattle.answers.specs.declared.Reading.{Reading}
-use Rattle.answers.specs.declared.Place.{Place}
+use Rattle.answers.specs.Cases.{Reading}
+use Rattle.answers.specs.Cases.{Place}
 
 -- the number, which tells an acceptance, the place, the length and the node count, with both lent buffers
 abbrev pub outcome_at : ℕ → ℕ → ℕ → ℕ → List ℕ → List ℕ → Outcome

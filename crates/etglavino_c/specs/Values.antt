@@ -9,10 +9,10 @@ use Rattle.typed.specs.declared.Value.{Value}
 use Rattle.typed.specs.declared.Value.TheVariants.{Single, Double, Whole, Raw}
 use Rattle.typed.specs.declared.Line.{Line}
 use Rattle.typed.specs.declared.Total.{Total}
-use Rattle.typed.specs.declared.Valuing.{Valuing}
-use Rattle.typed.specs.declared.Totalling.{Totalling}
-use Rattle.typed.specs.declared.Lining.{Lining}
-use Rattle.typed.specs.declared.Summing.{Summing}
+use Rattle.typed.specs.Cases.{Valuing}
+use Rattle.typed.specs.Cases.{Totalling}
+use Rattle.typed.specs.Cases.{Lining}
+use Rattle.typed.specs.Cases.{Summing}
 
 -- ---- a value: its kind, 1 a single, 2 a double, 3 a whole number, 4 raw, and what it carries
 

@@ -14,7 +14,7 @@ ghost use Rattle.model.specs.Answers.{reading, replacing, writing, comparing, hi
 ghost use Rattle.etglavino_c.specs.Pointers.{outcome_at, HandsReading, HandsPlaced, output_of, compared, compared_of, shown, shown_of, HandsPlace};
 ghost use Rattle.records.specs.Numbers.{numbers};
 
-use answers::{Comparing, Place, Reading, Writing};
+use answers::{Part, Reading};
 use records::Record;
 
 // An answer of reading or replacing, with its place.
@@ -22,20 +22,17 @@ fn hand_placed(answer: Reading, length: &mut usize, nodes: &mut usize, place: &m
     ensures { HandsPlaced answer result length.new nodes.new place.new }
 {
     match answer {
-        Reading::Accepted {
-            length: len,
-            nodes: count,
-        } => {
-            *length = len;
-            *nodes = count;
+        Ok(sizes) => {
+            *length = sizes.length;
+            *nodes = sizes.nodes;
             *place = 0;
             0
         }
-        Reading::Refused { refusal } => {
+        Err(refusal) => {
             *length = 0;
             *nodes = 0;
-            *place = refusal.place;
-            refusal.number
+            *place = refusal.place();
+            refusal.number()
         }
     }
 }
@@ -49,19 +46,16 @@ fn hand_reading(answer: Reading, length: &mut usize, nodes: &mut usize) -> u32
 }
 
 // A place: 1, where it starts and where it ends; or 0.
-fn hand_place(place: Place, start: &mut usize, end: &mut usize) -> u32
+fn hand_place(place: Option<Part>, start: &mut usize, end: &mut usize) -> u32
     ensures { HandsPlace place result start.new end.new }
 {
     match place {
-        Place::Part {
-            start: from,
-            end: to,
-        } => {
-            *start = from;
-            *end = to;
+        Some(part) => {
+            *start = part.start;
+            *end = part.end;
             1
         }
-        Place::NoPart => {
+        None => {
             *start = 0;
             *end = 0;
             0
@@ -96,13 +90,13 @@ pub extern "C" fn etg_write(
     ensures { output_of result written.new out.new ≡ writing form canonical.now length out.old }
 {
     match etglavino::write(form, canonical, length, out) {
-        Writing::Accepted { length: len } => {
+        Ok(len) => {
             *written = len;
             0
         }
-        Writing::Refused { refusal } => {
+        Err(refusal) => {
             *written = 0;
-            refusal.number
+            refusal.number()
         }
     }
 }
@@ -138,7 +132,7 @@ pub extern "C" fn etg_same(
     ensures { compared result same.new ≡ compared_of (comparing a.now a_length b.now b_length default_hint.now) }
 {
     match etglavino::same(a, a_length, b, b_length, default_hint) {
-        Comparing::Accepted { same: yes } => {
+        Ok(yes) => {
             if yes {
                 *same = 1;
             } else {
@@ -146,9 +140,9 @@ pub extern "C" fn etg_same(
             }
             0
         }
-        Comparing::Refused { refusal } => {
+        Err(refusal) => {
             *same = 0;
-            refusal.number
+            refusal.number()
         }
     }
 }

@@ -6,7 +6,7 @@ ghost use Rattle.spools.specs.Spool.{opening};
 ghost use Rattle.etglavino_c.specs.Pointers.{flag};
 ghost use Rattle.etglavino_c.specs.Spooling.{opening_of, state_in, state_numbers, begun, begun_of, stepped, stepped_of, adding_of};
 
-use spool::{Added, Adding, Opening, Starting};
+use spool::Adding;
 
 // 1 for yes, 0 for no.
 fn yes(told: bool) -> u32
@@ -53,21 +53,17 @@ pub extern "C" fn etg_spool_open(
     ensures { opening_of result count.new start.new end.new area.now ≡ opening area.now number }
 {
     match etglavino::spool_open(area, number) {
-        Opening::Accepted {
-            count: entries,
-            start: from,
-            end: to,
-        } => {
-            *count = entries;
-            *start = from;
-            *end = to;
+        Ok(contents) => {
+            *count = contents.count;
+            *start = contents.stands.start;
+            *end = contents.stands.end;
             0
         }
-        Opening::Refused { refusal } => {
+        Err(refusal) => {
             *count = 0;
             *start = 0;
             *end = 0;
-            refusal.number
+            refusal.number()
         }
     }
 }
@@ -82,16 +78,13 @@ pub extern "C" fn etg_spool_add_start(
     ensures { begun result state.new ≡ begun_of (starting area.now sheet.now length) }
 {
     match etglavino::spool_add_start(area, sheet, length) {
-        Starting::Accepted { state: fresh } => {
+        Ok(fresh) => {
             hand_state(fresh, state);
             0
         }
-        Starting::Refused {
-            refusal,
-            state: done,
-        } => {
-            hand_state(done, state);
-            refusal.number
+        Err(refusal) => {
+            hand_state(Adding::nowhere(), state);
+            refusal.number()
         }
     }
 }
@@ -119,7 +112,7 @@ pub extern "C" fn etg_spool_add(area: &mut [u8], sheet: &[u8], length: usize) ->
     ensures { adding_of result area.new ≡ adding area.old sheet.now length }
 {
     match etglavino::spool_add(area, sheet, length) {
-        Added::Accepted => 0,
-        Added::Refused { refusal } => refusal.number,
+        Ok(()) => 0,
+        Err(refusal) => refusal.number(),
     }
 }

@@ -6,9 +6,8 @@ ghost use Rattle.records.specs.Numbers.{numbers};
 ghost use Rattle.etglavino_c.specs.Pointers.{output_of};
 ghost use Rattle.etglavino_c.specs.Values.{value_out, handed_value, HandsValue, value_for, line_out, handed_line, HandsLine, total_out, handed_total, HandsTotal, week_out, handed_week, HandsWeek, line_for};
 
-use answers::Writing;
 use records::Record;
-use typed::{Line, Lining, Summing, Totalling, Value, Valuing};
+use typed::{Line, Lining, Summing, Value, Valuing};
 
 // The value of a kind: the payload of that kind counts, and the others are not looked at.
 fn value_for(kind: u32, single: f32, double: f64, whole: i64, start: usize, end: usize) -> Value
@@ -45,7 +44,7 @@ fn hand_value(
     *start = 0;
     *end = 0;
     match answer {
-        Valuing::Accepted { value } => {
+        Ok(value) => {
             match value {
                 Value::Single(x) => {
                     *kind = 1;
@@ -70,7 +69,7 @@ fn hand_value(
             }
             0
         }
-        Valuing::Refused { refusal } => refusal.number,
+        Err(refusal) => refusal.number(),
     }
 }
 
@@ -86,21 +85,21 @@ fn hand_line(
     ensures { HandsLine answer result ordinary.new night.new holiday.new quarters.new hours.new }
 {
     match answer {
-        Lining::Accepted { line, total } => {
-            *ordinary = line.ordinary;
-            *night = line.night;
-            *holiday = line.holiday;
-            *quarters = total.quarters;
-            *hours = total.hours;
+        Ok(shift) => {
+            *ordinary = shift.line.ordinary;
+            *night = shift.line.night;
+            *holiday = shift.line.holiday;
+            *quarters = shift.total.quarters;
+            *hours = shift.total.hours;
             0
         }
-        Lining::Refused { refusal } => {
+        Err(refusal) => {
             *ordinary = 0.0;
             *night = 0.0;
             *holiday = 0.0;
             *quarters = 0;
             *hours = 0.0;
-            refusal.number
+            refusal.number()
         }
     }
 }
@@ -116,22 +115,19 @@ fn hand_week(
     ensures { HandsWeek answer result lines.new quarters.new hours.new bad.new }
 {
     match answer {
-        Summing::Accepted {
-            lines: count,
-            total,
-        } => {
-            *lines = count;
-            *quarters = total.quarters;
-            *hours = total.hours;
+        Ok(week) => {
+            *lines = week.lines;
+            *quarters = week.total.quarters;
+            *hours = week.total.hours;
             *bad = 0;
             0
         }
-        Summing::Refused { refusal, node } => {
+        Err(misfit) => {
             *lines = 0;
             *quarters = 0;
             *hours = 0.0;
-            *bad = node;
-            refusal.number
+            *bad = misfit.node;
+            misfit.refusal.number()
         }
     }
 }
@@ -172,13 +168,13 @@ pub extern "C" fn etg_put_value(
 {
     let value = value_for(kind, single, double, whole, start, end);
     match etglavino::put_value(value, octets, out) {
-        Writing::Accepted { length } => {
+        Ok(length) => {
             *written = length;
             0
         }
-        Writing::Refused { refusal } => {
+        Err(refusal) => {
             *written = 0;
-            refusal.number
+            refusal.number()
         }
     }
 }
@@ -218,15 +214,15 @@ pub extern "C" fn etg_total(
         holiday,
     };
     match etglavino::total(line) {
-        Totalling::Accepted { total } => {
+        Ok(total) => {
             *quarters = total.quarters;
             *hours = total.hours;
             0
         }
-        Totalling::Refused { refusal } => {
+        Err(refusal) => {
             *quarters = 0;
             *hours = 0.0;
-            refusal.number
+            refusal.number()
         }
     }
 }

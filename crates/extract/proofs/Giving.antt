@@ -20,15 +20,17 @@ use Rattle.model.specs.Tree.{Tree, plain, hinted, list, canon, nodes}
 use Rattle.model.proofs.Exact.{canon-sound}
 use Rattle.model.proofs.Laws.{nodes-within-half}
 use Rattle.walk.specs.Extent.{Wholly, Measures}
-use Rattle.walk.specs.declared.Extent.{Extent}
-use Rattle.walk.specs.declared.Extent.TheVariants as extent
+use Rattle.walk.specs.Extent.{Measured}
 use Rattle.scan.specs.Writes.{Wrote}
 use Rattle.sheets.specs.Notes.{Noted}
 use Rattle.tables.specs.Told.{Holds, Fillable, Filled}
 use Rattle.answers.specs.Cases.{outcome, Refuses}
-use Rattle.answers.specs.declared.Refusal.{Refusal}
-use Rattle.answers.specs.declared.Reading.{Reading}
-use Rattle.answers.specs.declared.Reading.TheVariants as reading
+use Rattle.answers.specs.Cases.{Reading}
+use Rattle.answers.specs.declared.refusal.Refusal.TheVariants.{NotOwn}
+use Rattle.answers.proofs.Judged.{refuses}
+use Rattle.std.specs.Prelude.{Option as Optional, Some, None, Ok, Err}
+use Rattle.walk.specs.declared.Extent.{Extent}
+use Rattle.walk.specs.declared.Broken.{Broken}
 use Rattle.reader.specs.Stored.{Noteable, halved, most, Accepting, Puts}
 use Rattle.reader.proofs.Storing.{puts-refused}
 use Rattle.lookup.specs.Noted as lookup
@@ -40,82 +42,48 @@ use Rattle.extracts.specs.Extracting.{extract_of, extracting, extracting_own}
 use Rattle.extracts.proofs.Answered.{own-sheet}
 use Rattle.extracts.proofs.Sizes.{never-longer}
 use Rattle.extract.specs.Cut as cut
-use Rattle.extract.specs.Given.{Judges, Judged, Gives, Sheeted, Showable, ShowsExtract, Tellable, Tells}
-
--- ---- the table
-
-module _ (notes : List ℕ) (r : Reading) (len count : ℕ) (e : r ≡ reading.Accepted len count) where
-  accepting : (answer : List ℕ → Outcome) (canonical : List ℕ) (n : ℕ) → Puts answer canonical n notes r → Accepting answer canonical n notes len count
-  unfolding Puts
-  accepting answer canonical n p = subst (Puts answer canonical n notes) e p
-
-  pub fill-room : (numbers : ℕ) → Tellable notes numbers r → Fillable notes count numbers
-  fill-room numbers g =
-      let a = accepting g.answer g.canonical (numbers / width) g.puts in
-      record { tree = a.tree; held = a.held; fits = omega (arith, a.recorded) }
-
-  pub fill-accepted : (table table' : List ℕ) → Filled notes count table table' → Tells notes r table table'
-  fill-accepted table table' f =
-      record {
-        is = λ answer canonical p.
-            let a = accepting answer canonical (length table / width) p in
-            ap (λ (x : Reading). outcome x canonical table') e ∙ ap (outcome (reading.Accepted len count) canonical) (f.fills a.tree a.held) ∙ a.is table refl;
-      }
-
-pub fill-refused : (notes : List ℕ) (r : Reading) (f : Refusal) → r ≡ reading.Refused f → (table : List ℕ) → Tells notes r table table
-unfolding Puts
-fill-refused notes r f e table =
-    record {
-      is = λ answer canonical p.
-          let g : (t : List ℕ) → records t ≡ length table / width → outcome (reading.Refused f) canonical t ≡ answer t = subst (Puts answer canonical (length table / width) notes) e p in
-          ap (λ (x : Reading). outcome x canonical table) e ∙ g table refl;
-    }
+use Rattle.extract.specs.Given.{Sheets, Judges, Judged, Gives, Sheeted, Showable, ShowsExtract}
 
 -- ---- a sheet noted
 
 module _ (c : List ℕ) (n : ℕ) (notes : List ℕ) where
-  unsheeted : false ≡ not (is_none (sheet_tree c n)) → Judges (sheet_tree c n) c n notes 0 (ltb 0 0)
+  unsheeted : false ≡ not (is_none (sheet_tree c n)) → Sheets c n notes None
+  unfolding Sheets
   unsheeted e = record { tells = e; sheeted = λ t f. f; held = λ t f. none-some (sym (none_of (sheet_tree c n) e) ∙ f) }
 
-  pub note-beyond : length c < n → Judges (sheet_tree c n) c n notes 0 (ltb 0 0)
+  pub note-beyond : length c < n → Sheets c n notes None
   note-beyond h = unsheeted (sheet-beyond c n h)
 
-  pub note-long : max_canonical < n → Judges (sheet_tree c n) c n notes 0 (ltb 0 0)
+  pub note-long : max_canonical < n → Sheets c n notes None
   note-long h = unsheeted (sheet-long c n h)
 
-counted : (t : Tree) → 0 < nodes t
-unfolding nodes
-counted (plain d) = omega arith
-counted (hinted h d) = omega arith
-counted (list f) = omega arith
-
-module _ (c : List ℕ) (n : ℕ) (before notes : List ℕ) (r : Extent) (v : Noted (take n c) before notes r) (lent : n ≤ length c) where
-  pub note-none : (p : ℕ) → r ≡ extent.Refused p → Judges (sheet_tree c n) c n notes 0 (ltb 0 0)
+module _ (c : List ℕ) (n : ℕ) (before notes : List ℕ) (r : Measured) (v : Noted (take n c) before notes r) (lent : n ≤ length c) where
+  pub note-none : (p : Broken) → r ≡ Err p → Sheets c n notes None
   note-none p e = unsheeted c n notes (sheet-none c n lent r v.measures p e)
 
-  module _ (len count deep : ℕ) (e : r ≡ extent.Whole len count deep) where
-    pub note-deep : max_depth < deep → Judges (sheet_tree c n) c n notes 0 (ltb 0 0)
-    note-deep h = unsheeted c n notes (sheet-deep c n lent r v.measures len count deep e h)
+  module _ (sizes : Extent) (e : r ≡ Ok sizes) where
+    pub note-deep : max_depth < sizes.depth → Sheets c n notes None
+    note-deep h = unsheeted c n notes (sheet-deep c n lent r v.measures sizes e h)
 
-    enough : Noteable n (length before) → lookup.Notes count (length before)
+    enough : Noteable n (length before) → lookup.Notes sizes.nodes (length before)
     unfolding Measures
     enough g =
-        let w : Wholly (decode₁ (take n c)) len count deep = subst (Measures (decode₁ (take n c))) e v.measures in
+        let w : Wholly (decode₁ (take n c)) sizes.len sizes.nodes sizes.depth = subst (Measures (decode₁ (take n c))) e v.measures in
         let l : length (canon w.tree) ≡ n = sym (ap length (canon-sound (take n c) w.tree w.is)) ∙ length-take-le n c lent in
         record { enough = by g (omega (arith, l, nodes-within-half w.tree, w.counted)) }
       where
-        by : Noteable n (length before) → 2 * count ≤ n → min count most_nodes ≤ length before
+        by : Noteable n (length before) → 2 * sizes.nodes ≤ n → min sizes.nodes most_nodes ≤ length before
         by (halved k) h = omega arith
         by (most k) h = omega arith
 
-    pub note-whole : n ≤ max_canonical → deep ≤ max_depth → Noteable n (length before) → Judges (sheet_tree c n) c n notes count (ltb 0 count)
-    unfolding is_none
+    pub note-whole : n ≤ max_canonical → sizes.depth ≤ max_depth → Noteable n (length before) → Sheets c n notes (Some sizes.nodes)
+    unfolding is_none Sheets
     note-whole short shallow room =
-        let s : lookup.Sheet c n count count notes = noted-whole c n count count before notes r v lent len count deep e short (omega arith) refl shallow (enough room) in
+        let s : lookup.Sheet c n sizes.nodes sizes.nodes notes = noted-whole c n sizes.nodes sizes.nodes before notes r v lent sizes e short (omega arith) refl shallow (enough room) in
         record {
-          tells = lt-ltb 0 count (omega (arith, counted s.tree, s.held.counted)) ∙ sym (ap (λ (o : Option Tree). not (is_none o)) s.is);
+          tells = sym (ap (λ (o : Option Tree). not (is_none o)) s.is);
           sheeted = λ t f. f;
-          held = λ t f. subst (Holds notes count) (some_same (λ (u : Tree). s.tree ≡ u) (sym s.is ∙ f) refl) s.held;
+          held = λ t f. subst (Holds notes sizes.nodes) (some_same (λ (u : Tree). s.tree ≡ u) (sym s.is ∙ f) refl) s.held;
         }
 
 -- ---- with its table
@@ -127,8 +95,9 @@ owned-judges c n table m notes own o =
 pub kept-notes : (n : ℕ) (before after : List ℕ) → Noteable n (length before) → length after ≡ length before → Noteable n (length after)
 kept-notes n before after g e = subst (Noteable n) (sym e) g
 
-pub note-judged : (c : List ℕ) (n : ℕ) (notes : List ℕ) (m : ℕ) → Judges (sheet_tree c n) c n notes m (ltb 0 m) → Judged c n notes m (ltb 0 m)
-note-judged c n notes m j = record { found = sheet_tree c n; judges = j }
+pub note-judged : (c : List ℕ) (n : ℕ) (notes : List ℕ) (o : Optional ℕ) → Sheets c n notes o → (m : ℕ) → o ≡ Some m → Judged c n notes m true
+unfolding Sheets
+note-judged c n notes o j m e = record { found = sheet_tree c n; judges = subst (Sheets c n notes) e j }
 
 pub owned-judged : (c : List ℕ) (n : ℕ) (table : List ℕ) (m : ℕ) (notes : List ℕ) (own : Bool) → Owned c n table m notes own → Judged c n notes m own
 owned-judged c n table m notes own o = record { found = own_tree c n table m; judges = owned-judges c n table m notes own o }
@@ -137,9 +106,9 @@ owned-judged c n table m notes own o = record { found = own_tree c n table m; ju
 
 puts-as : (f h : List ℕ → Outcome) (canonical : List ℕ) (n : ℕ) (notes : List ℕ) → ((table : List ℕ) → f table ≡ h table) → (r : Reading) → Puts f canonical n notes r → Puts h canonical n notes r
 unfolding Puts
-puts-as f h canonical n notes e (reading.Accepted len count) p =
+puts-as f h canonical n notes e (Ok s) p =
     record { tree = p.tree; held = p.held; recorded = p.recorded; few = p.few; is = λ table z. p.is table z ∙ e table }
-puts-as f h canonical n notes e (reading.Refused x) p = λ table z. p table z ∙ e table
+puts-as f h canonical n notes e (Err x) p = λ table z. p table z ∙ e table
 
 -- fewer octets need no more notes
 fewer : (m n room : ℕ) → m ≤ n → Noteable n room → Noteable m room
@@ -222,34 +191,30 @@ module _ (sheet : List ℕ) (len : ℕ) (before : List ℕ) (n : ℕ) (own : Boo
   unfolding extract_of is_none the judged verdict
   refused-7 table = refl
 
-  pub give-7 : own ≡ false → (notes : List ℕ) (r : Reading) → Refuses 7 r → Gives sheet len before n own canonical canonical k notes r
-  give-7 y notes r f =
+  pub give-7 : own ≡ false → (notes : List ℕ) → Gives sheet len before n own canonical canonical k notes (Err NotOwn)
+  give-7 y notes =
       record {
         is = λ o j.
             let e : o ≡ none = none_of o (sym y ∙ j.tells) in
-            subst (λ (x : Option Tree). Puts (extract_of x canonical) canonical k notes r) (sym e)
-            (puts-refused (extract_of none canonical) canonical notes k 7 (omega arith) 0 r f (λ table z. f.is canonical table ∙ refused-7 table));
+            subst (λ (x : Option Tree). Puts (extract_of x canonical) canonical k notes (Err NotOwn)) (sym e)
+            (puts-refused (extract_of none canonical) canonical notes k 7 (omega arith) 0 (Err NotOwn) (refuses NotOwn) (λ table z. (refuses NotOwn).is canonical table ∙ refused-7 table));
       }
 
 -- ---- the entries
 
-pub notes-given : (sheet : List ℕ) (len : ℕ) (before : List ℕ) (n : ℕ) (canonical canonical' : List ℕ) (k : ℕ) (notes : List ℕ) (r : Reading)
-    → Judges (sheet_tree sheet len) sheet len before n (ltb 0 n) → Gives sheet len before n (ltb 0 n) canonical canonical' k notes r → Puts (extracting sheet len canonical) canonical' k notes r
-unfolding extracting
-notes-given sheet len before n canonical canonical' k notes r j g = puts-as _ _ canonical' k notes (λ table. refl) r (g.is (sheet_tree sheet len) j)
+module _ (sheet : List ℕ) (len : ℕ) (before : List ℕ) (found : Optional ℕ) (j : Sheets sheet len before found) (canonical : List ℕ) (k : ℕ) where
+  pub notes-given : (n : ℕ) → found ≡ Some n → (canonical' notes : List ℕ) (r : Reading)
+      → Gives sheet len before n true canonical canonical' k notes r → Puts (extracting sheet len canonical) canonical' k notes r
+  unfolding extracting Sheets
+  notes-given n e canonical' notes r g = puts-as _ _ canonical' k notes (λ table. refl) r (g.is (sheet_tree sheet len) (subst (Sheets sheet len before) e j))
 
-pub extract-done : (sheet : List ℕ) (len : ℕ) (canonical canonical' notes table table' : List ℕ) (r : Reading)
-    → Puts (extracting sheet len canonical) canonical' (length table / width) notes r → Tells notes r table table' → outcome r canonical' table' ≡ extracting sheet len canonical table
-extract-done sheet len canonical canonical' notes table table' r p f = f.is (extracting sheet len canonical) canonical' p
+  pub notes-none : found ≡ None → Puts (extracting sheet len canonical) canonical k before (Err NotOwn)
+  unfolding extracting Sheets
+  notes-none e =
+      puts-as _ _ canonical k before (λ table. refl) (Err NotOwn) ((give-7 sheet len before 0 false canonical k refl before).is (sheet_tree sheet len) (subst (Sheets sheet len before) e j))
 
-module _ (sheet : List ℕ) (len : ℕ) (rows : List ℕ) (m : ℕ) (before : List ℕ) (own : Bool) (o : Owned sheet len rows m before own) (canonical canonical' notes table : List ℕ) (r : Reading)
-    (g : Gives sheet len before m own canonical canonical' (length table / width) notes r) where
-  puts : Puts (extract_of (own_tree sheet len rows m) canonical) canonical' (length table / width) notes r
-  puts = g.is (own_tree sheet len rows m) (owned-judges sheet len rows m before own o)
-
-  pub own-tells : Tellable notes (length table) r
-  own-tells = record { answer = extract_of (own_tree sheet len rows m) canonical; canonical = canonical'; puts = puts }
-
-  pub own-done : (table' : List ℕ) → Tells notes r table table' → outcome r canonical' table' ≡ extracting_own sheet len rows m canonical table
+module _ (sheet : List ℕ) (len : ℕ) (rows : List ℕ) (m : ℕ) (before : List ℕ) (own : Bool) (o : Owned sheet len rows m before own) (canonical canonical' notes : List ℕ) (k : ℕ) (r : Reading)
+    (g : Gives sheet len before m own canonical canonical' k notes r) where
+  pub own-puts : Puts (extracting_own sheet len rows m canonical) canonical' k notes r
   unfolding extracting_own
-  own-done table' f = f.is (extract_of (own_tree sheet len rows m) canonical) canonical' puts
+  own-puts = puts-as _ _ canonical' k notes (λ table. refl) r (g.is (own_tree sheet len rows m) (owned-judges sheet len rows m before own o))

@@ -8,6 +8,7 @@ use mathlib.Core.List.{List, [], ◌∷◌}
 use lib.ListN.{length, length-drop, take, drop, get_or, drop_of_length-le}
 use lib.Seq.{drop-cons, drop-drop, length-take-le}
 use borrow.Author.Tests.{le-leb, lt-leb}
+use Rattle.std.specs.Prelude.{Option, Some, None}
 use Rattle.base.specs.Choice.{is_none}
 use Rattle.base.proofs.Cases.{picked, unpicked, not-true, not-false}
 use Rattle.model.specs.Answers.{sheet_tree}
@@ -17,10 +18,13 @@ use Rattle.spools.specs.Spool.{no_sheet, entry_of}
 use Rattle.spools.proofs.Damaged.{no_length}
 use Rattle.spools.proofs.Groups.{read-last, read_more, read-needless, read_past}
 use Rattle.spools.proofs.Three.{three-groups}
-use Rattle.answers.specs.declared.Place.TheVariants.{Part, NoPart}
+use Rattle.answers.specs.Cases.{place_at}
 use Rattle.groups.specs.Places.{Lengthy, Lengths, SheetAt}
 use Rattle.groups.specs.declared.lengths.Length.{Length}
-use Rattle.groups.specs.declared.lengths.Length.TheVariants.{Is, NoLength}
+
+-- a length that there is
+abbrev length_is : ℕ → ℕ → Option Length
+length_is value next = Some (record { value = value; next = next })
 
 -- the octets at a place
 abbrev at₀ : List ℕ → ℕ → ℕ
@@ -40,7 +44,7 @@ from-three s at h =
     from-two s at (omega arith) ∙ ap (λ (k : List ℕ). at₀ s at ∷ at₀ s (at + 1) ∷ k) (drop-cons s (at + 2) 0 h ∙ ap (λ (n : ℕ). at₀ s (at + 2) ∷ drop n s) z)
 
 module _ (s : List ℕ) (at : ℕ) (h : at < length s) where
-  pub one-group : at₀ s at < 128 → Lengths s at (Is (at₀ s at) (at + 1))
+  pub one-group : at₀ s at < 128 → Lengths s at (length_is (at₀ s at) (at + 1))
   unfolding Lengths
   one-group a = record { reads = ap length_of (from_one s at h) ∙ read-last (at₀ s at) (drop (at + 1) s) a; from = omega arith; within = omega arith; small = omega arith }
 
@@ -48,20 +52,20 @@ module _ (s : List ℕ) (at : ℕ) (h : at < length s) where
   unfolding length_of
   empty = refl
 
-  pub no_second : 128 ≤ at₀ s at → length s ≤ at + 1 → Lengths s at NoLength
+  pub no_second : 128 ≤ at₀ s at → length s ≤ at + 1 → Lengths s at None
   unfolding Lengths
   no_second a l =
       no_length (drop at s)
       (ap length_of (from_one s at h ∙ ap (λ (k : List ℕ). at₀ s at ∷ k) (drop_of_length-le s l)) ∙ read_past (at₀ s at) [] a empty)
 
-  pub second-zero : 128 ≤ at₀ s at → at + 1 < length s → at₀ s (at + 1) ≡ 0 → Lengths s at NoLength
+  pub second-zero : 128 ≤ at₀ s at → at + 1 < length s → at₀ s (at + 1) ≡ 0 → Lengths s at None
   unfolding Lengths
   second-zero a l b =
       let k = drop (at + 2) s in
       no_length (drop at s)
       (ap length_of (from-two s at l ∙ ap (λ (x : ℕ). at₀ s at ∷ x ∷ k) b) ∙ read-needless (at₀ s at) (0 ∷ k) k a (read-last 0 k (omega arith)))
 
-  pub two-groups : 128 ≤ at₀ s at → at + 1 < length s → (at₀ s (at + 1) ≡ 0 → ⊥) → at₀ s (at + 1) < 128 → Lengths s at (Is (at₀ s at % 128 + 128 * at₀ s (at + 1)) (at + 2))
+  pub two-groups : 128 ≤ at₀ s at → at + 1 < length s → (at₀ s (at + 1) ≡ 0 → ⊥) → at₀ s (at + 1) < 128 → Lengths s at (length_is (at₀ s at % 128 + 128 * at₀ s (at + 1)) (at + 2))
   unfolding Lengths
   two-groups a l z b =
       let k = drop (at + 2) s in
@@ -72,14 +76,14 @@ module _ (s : List ℕ) (at : ℕ) (h : at < length s) where
         small = omega arith;
       }
 
-  pub no_third : 128 ≤ at₀ s at → at + 1 < length s → 128 ≤ at₀ s (at + 1) → length s ≤ at + 2 → Lengths s at NoLength
+  pub no_third : 128 ≤ at₀ s at → at + 1 < length s → 128 ≤ at₀ s (at + 1) → length s ≤ at + 2 → Lengths s at None
   unfolding Lengths
   no_third a l b m =
       no_length (drop at s)
       (ap length_of (from-two s at l ∙ ap (λ (k : List ℕ). at₀ s at ∷ at₀ s (at + 1) ∷ k) (drop_of_length-le s m))
       ∙ read_past (at₀ s at) (at₀ s (at + 1) ∷ []) a (read_past (at₀ s (at + 1)) [] b empty))
 
-  pub third-zero : 128 ≤ at₀ s at → 128 ≤ at₀ s (at + 1) → at + 2 < length s → at₀ s (at + 2) ≡ 0 → Lengths s at NoLength
+  pub third-zero : 128 ≤ at₀ s at → 128 ≤ at₀ s (at + 1) → at + 2 < length s → at₀ s (at + 2) ≡ 0 → Lengths s at None
   unfolding Lengths
   third-zero a b l c =
       let k = drop (at + 3) s in
@@ -88,7 +92,7 @@ module _ (s : List ℕ) (at : ℕ) (h : at < length s) where
       ∙ read_past (at₀ s at) (at₀ s (at + 1) ∷ 0 ∷ k) a (read-needless (at₀ s (at + 1)) (0 ∷ k) k b (read-last 0 k (omega arith))))
 
   pub three-read : 128 ≤ at₀ s at → 128 ≤ at₀ s (at + 1) → at + 2 < length s → (at₀ s (at + 2) ≡ 0 → ⊥) → at₀ s (at + 2) < 128
-      → Lengths s at (Is (at₀ s at % 128 + 128 * (at₀ s (at + 1) % 128) + 16384 * at₀ s (at + 2)) (at + 3))
+      → Lengths s at (length_is (at₀ s at % 128 + 128 * (at₀ s (at + 1) % 128) + 16384 * at₀ s (at + 2)) (at + 3))
   unfolding Lengths
   three-read a b l z c =
       let k = drop (at + 3) s in
@@ -104,17 +108,23 @@ module _ (s : List ℕ) (at : ℕ) (h : at < length s) where
         small = omega arith;
       }
 
-  pub third-more : 128 ≤ at₀ s at → 128 ≤ at₀ s (at + 1) → at + 2 < length s → 128 ≤ at₀ s (at + 2) → Lengths s at NoLength
+  pub third-more : 128 ≤ at₀ s at → 128 ≤ at₀ s (at + 1) → at + 2 < length s → 128 ≤ at₀ s (at + 2) → Lengths s at None
   unfolding Lengths
   third-more a b l c = ap entry_of (from-three s at l) ∙ three-groups (at₀ s at) (at₀ s (at + 1)) (at₀ s (at + 2)) (drop (at + 3) s) a b c
 
 -- ---- the sheet after a length
-module _ (s : List ℕ) (at : ℕ) (r : Length) (w : Lengths s at r) where
-  pub no-sheet : r ≡ NoLength → SheetAt s at NoPart
+module _ (s : List ℕ) (at : ℕ) (r : Option Length) (w : Lengths s at r) where
+  pub no-sheet : r ≡ None → SheetAt s at None
   unfolding Lengths SheetAt
   no-sheet e = subst (Lengths s at) e w
 
-  module _ (value next : ℕ) (e : r ≡ Is value next) where
+  module _ (found : Length) (e : r ≡ Some found) where
+    abbrev value : ℕ
+    value = found.value
+
+    abbrev next : ℕ
+    next = found.next
+
     l : Lengthy s at value next
     unfolding Lengths
     l = subst (Lengths s at) e w
@@ -122,7 +132,7 @@ module _ (s : List ℕ) (at : ℕ) (r : Length) (w : Lengths s at r) where
     pub length-within : next ≤ length s
     length-within = l.within
 
-    pub runs_past : length s - next < value → SheetAt s at NoPart
+    pub runs_past : length s - next < value → SheetAt s at None
     unfolding SheetAt entry_of bind first
     runs_past h = rw l.reads (rw (lt-leb value (length (drop next s)) (omega (arith, length-drop next s))))
 
@@ -146,14 +156,14 @@ module _ (s : List ℕ) (at : ℕ) (r : Length) (w : Lengths s at r) where
     unfolding no_sheet
     tested h b t = t ∙ ap (λ (n : ℕ). not (is_none (sheet_tree new n))) (sym (new-length h))
 
-    pub a-sheet : (b : Bool) → value ≤ length s - next → b ≡ not (is_none (sheet_tree new value)) → b ≡ true → SheetAt s at (Part next (next + value))
+    pub a-sheet : (b : Bool) → value ≤ length s - next → b ≡ not (is_none (sheet_tree new value)) → b ≡ true → SheetAt s at (place_at next (next + value))
     unfolding SheetAt entry_of bind
     a-sheet b g t y =
         let h = part-within g in
         let n : no_sheet new ≡ false = not-true (sym (tested h b t) ∙ y) in
         record { reads = rw (l.reads, first-is h) (unpicked _ _ n); from = omega (arith, l.from); ordered = omega arith; within = h }
 
-    pub not-sheet : (b : Bool) → value ≤ length s - next → b ≡ not (is_none (sheet_tree new value)) → b ≡ false → SheetAt s at NoPart
+    pub not-sheet : (b : Bool) → value ≤ length s - next → b ≡ not (is_none (sheet_tree new value)) → b ≡ false → SheetAt s at None
     unfolding SheetAt entry_of bind
     not-sheet b g t y =
         let h = part-within g in

@@ -5,52 +5,52 @@ ghost use Rattle.spools.specs.Groups.{groups};
 ghost use Rattle.groups.specs.Places.{Lengths};
 ghost use Rattle.groups.specs.Octets.{Wide};
 
-// A length and the place after it. A length of more than three groups is none: no sheet is as long.
-#[derive(Clone, Copy)]
-pub enum Length {
-    Is { value: usize, next: usize },
-    NoLength,
+// A length, of at most three groups, since no sheet is longer; and the place after it.
+#[derive(Clone, Copy, Debug, PartialEq, Eq)]
+pub struct Length {
+    pub value: usize,
+    pub next: usize,
 }
 
-// The length at a place.
-pub fn length_at(area: &[u8], at: usize) -> Length
+// The length at a place, if there is one.
+pub fn length_at(area: &[u8], at: usize) -> Option<Length>
     requires { at < length area.now }
     ensures { Lengths area.now at result }
 {
     let a = area[at];
     if a < 128 {
-        return Length::Is {
+        return Some(Length {
             value: a as usize,
             next: at + 1,
-        };
+        });
     }
     if at + 1 >= area.len() {
-        return Length::NoLength;
+        return None;
     }
     let b = area[at + 1];
     if b == 0 {
-        return Length::NoLength;
+        return None;
     }
     if b < 128 {
-        return Length::Is {
+        return Some(Length {
             value: (a % 128) as usize + 128 * b as usize,
             next: at + 2,
-        };
+        });
     }
     if at + 2 >= area.len() {
-        return Length::NoLength;
+        return None;
     }
     let c = area[at + 2];
     if c == 0 {
-        return Length::NoLength;
+        return None;
     }
     if c < 128 {
-        return Length::Is {
+        return Some(Length {
             value: (a % 128) as usize + 128 * (b % 128) as usize + 16384 * c as usize,
             next: at + 3,
-        };
+        });
     }
-    Length::NoLength
+    None
 }
 
 // How many groups the length of a sheet has.

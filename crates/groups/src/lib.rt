@@ -9,29 +9,25 @@ ghost use Rattle.spools.specs.Spool.{entry};
 ghost use Rattle.groups.specs.Places.{SheetAt};
 ghost use Rattle.groups.specs.Octets.{Entried, Long};
 
-use answers::Place;
+use answers::Part;
 use lengths::{Length, length_at};
 pub use lengths::{group_at, groups_len};
 
-// The sheet of the entry at a place.
-pub fn sheet_at(area: &[u8], at: usize) -> Place
+// The sheet of the entry at a place, if there is one.
+pub fn sheet_at(area: &[u8], at: usize) -> Option<Part>
     requires { at < length area.now }
     ensures { SheetAt area.now at result }
 {
-    match length_at(area, at) {
-        Length::Is { value, next } => {
-            if value > area.len() - next {
-                return Place::NoPart;
-            }
-            let end = next + value;
-            let part = &area[next..end];
-            if lookup::sheet(part, value) {
-                return Place::Part { start: next, end };
-            }
-            Place::NoPart
-        }
-        Length::NoLength => Place::NoPart,
+    let Length { value, next } = length_at(area, at)?;
+    if value > area.len() - next {
+        return None;
     }
+    let end = next + value;
+    let part = &area[next..end];
+    if lookup::sheet(part, value) {
+        return Some(Part { start: next, end });
+    }
+    None
 }
 
 // How many octets an entry has.

@@ -3,50 +3,35 @@
 
 ghost use Rattle.std.specs.Prelude.{◌≤◌, ◌<◌, length};
 ghost use Rattle.model.specs.Octets.{hexval};
-ghost use Rattle.octets.specs.Classes.{Classed};
 ghost use Rattle.hexadecimal.specs.Pairs.{Pairs, Digit};
 
 use octets::hex_of;
 use scan::skip_at;
 
 // An octet, or the closing mark.
-#[derive(Clone, Copy)]
+#[derive(Clone, Copy, Debug, PartialEq, Eq)]
 pub enum Pair {
     Two { octet: u8, next: usize },
     Hash { next: usize },
-    NoPair,
 }
 
 // The next octet, with whitespace on the way, or the end.
-pub fn pair_at(classes: &[u8; 256], src: &[u8], at: usize) -> Pair
-    requires classed { Classed classes.now }
-    requires at_in_bounds { at ≤ length src.now }
+pub fn pair_at(src: &[u8], at: usize) -> Option<Pair>
+    requires { at ≤ length src.now }
     ensures { Pairs src.now at result }
 {
-    let i = skip_at(classes, src, at);
-    if i >= src.len() {
-        return Pair::NoPair;
-    }
-    let a = src[i];
+    let i = skip_at(src, at);
+    let a = *src.get(i)?;
     if a == b'#' {
-        return Pair::Hash { next: i + 1 };
+        return Some(Pair::Hash { next: i + 1 });
     }
-    let h = hex_of(classes, a);
-    if h >= 16 {
-        return Pair::NoPair;
-    }
-    let j = skip_at(classes, src, i + 1);
-    if j >= src.len() {
-        return Pair::NoPair;
-    }
-    let l = hex_of(classes, src[j]);
-    if l >= 16 {
-        return Pair::NoPair;
-    }
-    Pair::Two {
+    let h = hex_of(a)?;
+    let j = skip_at(src, i + 1);
+    let l = hex_of(*src.get(j)?)?;
+    Some(Pair::Two {
         octet: h * 16 + l,
         next: j + 1,
-    }
+    })
 }
 
 // The value of a digit, with no branch: a letter's low four bits are 9 less than its value.

@@ -6,61 +6,56 @@ ghost use Rattle.typed.specs.Quarters.{count_of, counted, quarters_of, quarter_b
 ghost use Rattle.typed.specs.Cases.{totalled};
 ghost use Rattle.typed.specs.Asked.{totalling};
 
-use typed::{Count, Line, Total, Totalling, refused_totalling};
+use answers::Refusal;
+use typed::{Line, Total, Totalling};
 
 // One more than the largest number of 52 bits.
 const DIGITS: u64 = 0x10_0000_0000_0000;
 
 // The quarters of a pattern: 53 digits of which all but the highest seven or fewer must be 0.
-fn count_bits(b: u64) -> Count
+fn count_bits(b: u64) -> Option<u32>
     ensures { result ≡ count_of b }
 {
     if b == 0 {
-        return Count::Quarters(0);
+        return Some(0);
     }
     let e = b / DIGITS;
     if e < 1021 {
-        return Count::NoCount;
+        return None;
     }
     if e > 1027 {
-        return Count::NoCount;
+        return None;
     }
     let m = DIGITS + b % DIGITS;
     let k = 1073 - e;
     let q = m >> k;
     if q > 96 {
-        return Count::NoCount;
+        return None;
     }
     if q << k != m {
-        return Count::NoCount;
+        return None;
     }
-    Count::Quarters(q as u32)
+    Some(q as u32)
 }
 
 // The quarters of a double.
-fn count(x: f64) -> Count
+fn count(x: f64) -> Option<u32>
     ensures { result ≡ counted x }
 {
     if x != x {
-        return Count::NoCount;
+        return None;
     }
     count_bits(f64::to_bits(x))
 }
 
 // The quarters of a line.
-pub fn quarters_of(line: Line) -> Count
+pub fn quarters_of(line: Line) -> Option<u32>
     ensures { result ≡ quarters_of line }
 {
-    let Count::Quarters(a) = count(line.ordinary) else {
-        return Count::NoCount;
-    };
-    let Count::Quarters(b) = count(line.night) else {
-        return Count::NoCount;
-    };
-    let Count::Quarters(c) = count(line.holiday) else {
-        return Count::NoCount;
-    };
-    Count::Quarters(a + b + c)
+    let a = count(line.ordinary)?;
+    let b = count(line.night)?;
+    let c = count(line.holiday)?;
+    Some(a + b + c)
 }
 
 // The bits of the double that is so many quarters.
@@ -94,7 +89,7 @@ pub fn total(line: Line) -> Totalling
     ensures { totalled result ≡ totalling line }
 {
     match quarters_of(line) {
-        Count::Quarters(n) => Totalling::Accepted { total: total_by(n) },
-        Count::NoCount => refused_totalling(12),
+        Some(n) => Ok(total_by(n)),
+        None => Err(Refusal::NotLine),
     }
 }

@@ -14,13 +14,13 @@ use Rattle.model.specs.Decode.{decode₁}
 use Rattle.model.specs.Tree.{Tree, plain, hinted, list, Forest, nil, cons}
 use Rattle.lookup.specs.Agreed.{Copied}
 use Rattle.lookup.specs.Tokens.{Sheets}
-use Rattle.answers.specs.Cases.{told, RefusesComparing}
+use Rattle.answers.specs.Cases.{told}
 use Rattle.base.proofs.Lists.{front_length, equal-same}
 use Rattle.lookup.proofs.Sheets.{tree_of, none_of, Sheet, sheet-of, within}
-use Rattle.answers.specs.declared.Comparing.{Comparing}
-use Rattle.answers.specs.declared.Comparing.TheVariants.{Accepted}
+use Rattle.answers.specs.declared.refusal.Refusal.TheVariants.{NotOwn}
+use Rattle.std.specs.Prelude.{Ok, Err}
 
-by_rows : (b : Bool) (y : Bool) → judged (when 7 b ∷ []) (record { accepted = true; number = 0; place = 0; yes = y }) (λ n. uncompared n) ≡ pick b (uncompared 7) (told (Accepted y))
+by_rows : (b : Bool) (y : Bool) → judged (when 7 b ∷ []) (record { accepted = true; number = 0; place = 0; yes = y }) (λ n. uncompared n) ≡ pick b (uncompared 7) (told (Ok y))
 unfolding judged verdict told
 by_rows true y = refl
 by_rows false y = refl
@@ -47,29 +47,29 @@ mutual
 
 module _ (a : List ℕ) (n : ℕ) (b : List ℕ) (m : ℕ) where
   answers : (x : List ℕ) (o p : Option Tree) → sheet_tree a n ≡ o → sheet_tree b m ≡ p
-      → comparing a n b m x ≡ pick (either (is_none o) (is_none p)) (uncompared 7) (told (Accepted (same (the o) (the p) x)))
+      → comparing a n b m x ≡ pick (either (is_none o) (is_none p)) (uncompared 7) (told (Ok (same (the o) (the p) x)))
   unfolding comparing comparing_checks
   answers x o p e f = by_rows (either (is_none (sheet_tree a n)) (is_none (sheet_tree b m))) (same (the (sheet_tree a n)) (the (sheet_tree b m)) x) ∙ rw (e, f)
 
   module _ (r : Bool) (e : r ≡ not (is_none (sheet_tree a n))) where
-    pub left-refused : (x : List ℕ) → r ≡ false → (q : Comparing) → RefusesComparing 7 q → told q ≡ comparing a n b m x
-    unfolding is_none
-    left-refused x y q f = f.is ∙ sym (answers x none (sheet_tree b m) (none_of (sheet_tree a n) (sym y ∙ e)) refl)
+    pub left-refused : (x : List ℕ) → r ≡ false → told (Err NotOwn) ≡ comparing a n b m x
+    unfolding is_none told
+    left-refused x y = sym (answers x none (sheet_tree b m) (none_of (sheet_tree a n) (sym y ∙ e)) refl)
 
     -- the same octets are a sheet of the same tree
-    pub copied-same : r ≡ true → (so : Bool) → Copied a n b m so → so ≡ true → (x : List ℕ) → told (Accepted true) ≡ comparing a n b m x
+    pub copied-same : r ≡ true → (so : Bool) → Copied a n b m so → so ≡ true → (x : List ℕ) → told (Ok true) ≡ comparing a n b m x
     unfolding is_none the
     copied-same y so k z x =
         let j : sheet_tree a n ≡ sheet_tree b m =
         within a n (sheet-lent a n r e y) ∙ ap (λ (l : List ℕ). chain (decode₁ l) fitting) (k.same z) ∙ sym (within b m (k.lent z)) in
         tree_of (sheet_tree a n) (sym y ∙ e)
-        (λ t i. sym (answers x (some t) (some t) i (sym j ∙ i) ∙ ap (λ (v : Bool). told (Accepted v)) (same_self t x)))
+        (λ t i. sym (answers x (some t) (some t) i (sym j ∙ i) ∙ ap (λ (v : Bool). told (Ok v)) (same_self t x)))
 
     module _ (y : r ≡ true) (q : Bool) (f : q ≡ not (is_none (sheet_tree b m))) where
-      pub right-refused : (x : List ℕ) → q ≡ false → (c : Comparing) → RefusesComparing 7 c → told c ≡ comparing a n b m x
-      unfolding is_none
-      right-refused x z c g =
-          g.is ∙ tree_of (sheet_tree a n) (sym y ∙ e)
+      pub right-refused : (x : List ℕ) → q ≡ false → told (Err NotOwn) ≡ comparing a n b m x
+      unfolding is_none told
+      right-refused x z =
+          tree_of (sheet_tree a n) (sym y ∙ e)
           (λ t i. sym (answers x (some t) none i (none_of (sheet_tree b m) (sym z ∙ f))))
 
       module _ (z : q ≡ true) where
@@ -88,10 +88,10 @@ module _ (a : List ℕ) (n : ℕ) (b : List ℕ) (m : ℕ) where
               right_short = omega (arith, ap length k.is, k.fitting.long);
             })
 
-        pub compared : (x : List ℕ) (s : Bool) → s ≡ same (the (decode₁ (take n a))) (the (decode₁ (take m b))) x → (y : Bool) → s ≡ y → told (Accepted y) ≡ comparing a n b m x
+        pub compared : (x : List ℕ) (y : Bool) → y ≡ same (the (decode₁ (take n a))) (the (decode₁ (take m b))) x → told (Ok y) ≡ comparing a n b m x
         unfolding is_none the
-        compared x s w y q =
+        compared x y w =
             trees
             (λ t u i j g h.
-            let v : y ≡ same t u x = sym q ∙ w ∙ ap₂ (λ (t u : Tree). same t u x) (ap the g.decoded) (ap the h.decoded) in
-            sym (answers x (some t) (some u) i j ∙ ap (λ (v : Bool). told (Accepted v)) (sym v)))
+            let v : y ≡ same t u x = w ∙ ap₂ (λ (t u : Tree). same t u x) (ap the g.decoded) (ap the h.decoded) in
+            sym (answers x (some t) (some u) i j ∙ ap (λ (v : Bool). told (Ok v)) (sym v)))

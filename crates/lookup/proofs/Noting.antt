@@ -17,8 +17,8 @@ use Rattle.model.specs.Tree.{Tree, canon, nodes}
 use Rattle.model.proofs.Exact.{canon-sound}
 use Rattle.model.proofs.Laws.{small-nodes}
 use Rattle.walk.specs.Extent.{Wholly, Measures}
+use Rattle.walk.specs.Extent.{Measured}
 use Rattle.walk.specs.declared.Extent.{Extent}
-use Rattle.walk.specs.declared.Extent.TheVariants.{Whole}
 use Rattle.sheets.specs.Notes.{Notable, Noted}
 use Rattle.tables.specs.Rows.{row_list, RowIs}
 use Rattle.tables.specs.Told.{row_at, Readable, Holds}
@@ -26,20 +26,20 @@ use Rattle.tables.specs.declared.rows.Row as coded
 use Rattle.tables.proofs.Held.{note-holds}
 use Rattle.tables.proofs.Telling.{holds_row}
 use Rattle.answers.specs.Cases.{placed}
-use Rattle.answers.specs.declared.Place.{Place}
-use Rattle.answers.specs.declared.Place.TheVariants.{Part, NoPart}
+use Rattle.answers.specs.Cases.{Place, place_at}
+use Rattle.std.specs.Prelude.{Some, None, Ok}
 use Rattle.lookup.specs.Noted.{Notes, Sheet, Owned, Owning, Readables, ShowsPlace}
 use Rattle.lookup.proofs.Sheets.{tree_of, fitted, within, sheet-of, own_of}
 use Rattle.lookup.proofs.Shown.{table_at, hint-unowned, hint-beyond, hint-other, hint-found, data-unowned, data-beyond, data-found}
 
 -- ---- a sheet noted
 
-module _ (c : List ℕ) (n m k : ℕ) (before after : List ℕ) (r : Extent) (v : Noted (take n c) before after r) (lent : n ≤ length c) (len count deep : ℕ) (e : r ≡ Whole len count deep) where
-  wholly : Wholly (decode₁ (take n c)) len count deep
+module _ (c : List ℕ) (n m k : ℕ) (before after : List ℕ) (r : Measured) (v : Noted (take n c) before after r) (lent : n ≤ length c) (sizes : Extent) (e : r ≡ Ok sizes) where
+  wholly : Wholly (decode₁ (take n c)) sizes.len sizes.nodes sizes.depth
   unfolding Measures
   wholly = subst (Measures (decode₁ (take n c))) e v.measures
 
-  pub noted-whole : n ≤ max_canonical → m ≤ k → count ≡ m → deep ≤ max_depth → Notes m (length before) → Sheet c n m k after
+  pub noted-whole : n ≤ max_canonical → m ≤ k → sizes.nodes ≡ m → sizes.depth ≤ max_depth → Notes m (length before) → Sheet c n m k after
   unfolding chain fitting
   noted-whole short held z shallow room =
       let t : Tree = wholly.tree in
@@ -77,12 +77,12 @@ module _ (notes : List ℕ) (m node : ℕ) (own hinted : Bool) where
             by_bool hinted (λ y. f c n table o y ∙ sym (picked _ _ y)) (λ y. g c n table o y ∙ sym (unpicked _ _ y));
       }
 
-  pub show-unowned : own ≡ false → ShowsPlace notes m node own hinted NoPart
-  show-unowned y = show-by NoPart (λ c n table o z. hint-unowned c n table m node own o.tells y) (λ c n table o z. data-unowned c n table m node own o.tells y)
+  pub show-unowned : own ≡ false → ShowsPlace notes m node own hinted None
+  show-unowned y = show-by None (λ c n table o z. hint-unowned c n table m node own o.tells y) (λ c n table o z. data-unowned c n table m node own o.tells y)
 
   module _ (y : own ≡ true) where
-    pub show-beyond : m ≤ node → ShowsPlace notes m node own hinted NoPart
-    show-beyond h = show-by NoPart (λ c n table o z. hint-beyond c n table m node own o.tells y h) (λ c n table o z. data-beyond c n table m node own o.tells y h)
+    pub show-beyond : m ≤ node → ShowsPlace notes m node own hinted None
+    show-beyond h = show-by None (λ c n table o z. hint-beyond c n table m node own o.tells y h) (λ c n table o z. data-beyond c n table m node own o.tells y h)
 
     module _ (h : node < m) (row : coded.Row) (is : RowIs row (row_at notes node)) where
       -- the numbers that the note tells are the table's
@@ -93,13 +93,13 @@ module _ (notes : List ℕ) (m node : ℕ) (own hinted : Bool) where
           ap (λ (x : List ℕ). get_or x k 0) (is ∙ ap row_numbers (holds_row notes m t (o.held t e) node h))
           ∙ sym (table_at c n table m t (own_of c n table m t e) node k h l))
 
-      pub show-other : hinted ≡ true → (row.kind ≡ 1 → ⊥) → ShowsPlace notes m node own hinted NoPart
+      pub show-other : hinted ≡ true → (row.kind ≡ 1 → ⊥) → ShowsPlace notes m node own hinted None
       show-other z d =
-          show-by NoPart
+          show-by None
           (λ c n table o x. hint-other c n table m node own o.tells y h row.kind (number_at c n table o 0 (omega arith)) d)
           (λ c n table o x. differ z x)
 
-      pub show-hint : hinted ≡ true → row.kind ≡ 1 → ShowsPlace notes m node own hinted (Part row.hint_start row.hint_end)
+      pub show-hint : hinted ≡ true → row.kind ≡ 1 → ShowsPlace notes m node own hinted (place_at row.hint_start row.hint_end)
       show-hint z d =
           show-by _
           (λ c n table o x.
@@ -107,7 +107,7 @@ module _ (notes : List ℕ) (m node : ℕ) (own hinted : Bool) where
           row.hint_start row.hint_end (number_at c n table o 4 (omega arith)) (number_at c n table o 5 (omega arith)))
           (λ c n table o x. differ z x)
 
-      pub show-data : hinted ≡ false → ShowsPlace notes m node own hinted (Part row.data_start row.data_end)
+      pub show-data : hinted ≡ false → ShowsPlace notes m node own hinted (place_at row.data_start row.data_end)
       show-data z =
           show-by _
           (λ c n table o x. differ x z)

@@ -21,8 +21,10 @@ use Rattle.model.proofs.Exact.{canon-sound}
 use Rattle.model.proofs.Laws.{fits-within, fitting-nodes}
 use Rattle.walk.specs.Extent.{Wholly, Measures}
 use Rattle.walk.proofs.Tabled.{table-length}
+use Rattle.walk.specs.Extent.{Measured}
 use Rattle.walk.specs.declared.Extent.{Extent}
-use Rattle.walk.specs.declared.Extent.TheVariants.{Whole, Refused}
+use Rattle.walk.specs.declared.Broken.{Broken}
+use Rattle.std.specs.Prelude.{Ok, Err}
 
 -- ---- the first octets
 
@@ -97,14 +99,14 @@ module _ (c : List ℕ) (n : ℕ) where
     unfolding sheet_tree
     within = unpicked _ _ (le-ltb _ _ k)
 
-    module _ (r : Extent) (w : Measures (decode₁ (take n c)) r) where
-      pub sheet-none : (p : ℕ) → r ≡ Refused p → false ≡ not (is_none (sheet_tree c n))
+    module _ (r : Measured) (w : Measures (decode₁ (take n c)) r) where
+      pub sheet-none : (p : Broken) → r ≡ Err p → false ≡ not (is_none (sheet_tree c n))
       unfolding Measures chain
       sheet-none p e = let g : decode₁ (take n c) ≡ none = subst (Measures (decode₁ (take n c))) e w in
           no-tree (sheet_tree c n) (λ t f. none-some (sym g ∙ (sheet-of c n t f).decoded))
 
-      module _ (len m d : ℕ) (e : r ≡ Whole len m d) where
-        wholly : Wholly (decode₁ (take n c)) len m d
+      module _ (sizes : Extent) (e : r ≡ Ok sizes) where
+        wholly : Wholly (decode₁ (take n c)) sizes.len sizes.nodes sizes.depth
         unfolding Measures
         wholly = subst (Measures (decode₁ (take n c))) e w
 
@@ -112,16 +114,16 @@ module _ (c : List ℕ) (n : ℕ) where
         the_same : (t : Tree) → Sheet c n t → wholly.tree ≡ t
         the_same t s = some_same (λ (u : Tree). wholly.tree ≡ u) (sym wholly.is ∙ s.decoded) refl
 
-        pub sheet-deep : max_depth < d → false ≡ not (is_none (sheet_tree c n))
+        pub sheet-deep : max_depth < sizes.depth → false ≡ not (is_none (sheet_tree c n))
         sheet-deep h =
             no-tree (sheet_tree c n)
             (λ t f. let s : Sheet c n t = sheet-of c n t f in omega (arith, wholly.deepest, ap depth (the_same t s), s.fitting.deep))
 
         -- of the limits of a short sheet only the depth is left
-        pub sheet-whole : n ≤ max_canonical → leb d max_depth ≡ not (is_none (sheet_tree c n))
+        pub sheet-whole : n ≤ max_canonical → leb sizes.depth max_depth ≡ not (is_none (sheet_tree c n))
         unfolding chain fitting
         sheet-whole l =
-            by_le d max_depth
+            by_le sizes.depth max_depth
             (λ q.
             let f : fits wholly.tree ≡ true = fitted wholly.tree (omega (arith, wholly.deepest))
             (omega (arith, ap length (canon-sound (take n c) wholly.tree wholly.is), length-take-le n c k)) in

@@ -20,8 +20,9 @@ use Rattle.answers.specs.Cases.{placed}
 use Rattle.answers.specs.Shown.{shown_at}
 use Rattle.lookup.specs.Numbers.{InRecord}
 use Rattle.lookup.proofs.Sheets.{tree_of, none_of, Own, own_of, own-lent}
-use Rattle.answers.specs.declared.Place.{Place}
-use Rattle.answers.specs.declared.Place.TheVariants.{Part, NoPart}
+use Rattle.answers.specs.Cases.{Place, place_at}
+use Rattle.answers.specs.declared.Part.{Part}
+use Rattle.std.specs.Prelude.{Some, None, Ok}
 
 -- ---- a number of a row
 
@@ -155,36 +156,36 @@ module _ (c : List ℕ) (n : ℕ) (table : List ℕ) (m node : ℕ) where
   data_of o e = rw e
 
   module _ (b : Bool) (e : b ≡ not (is_none (own_tree c n table m))) where
-    pub hint-unowned : b ≡ false → placed NoPart ≡ hint_part c n table m node
+    pub hint-unowned : b ≡ false → placed None ≡ hint_part c n table m node
     unfolding placed chain
     hint-unowned y = sym (hint-of none (unowned b e y))
 
-    pub data-unowned : b ≡ false → placed NoPart ≡ data_part c n table m node
+    pub data-unowned : b ≡ false → placed None ≡ data_part c n table m node
     unfolding placed chain
     data-unowned y = sym (data_of none (unowned b e y))
 
     module _ (y : b ≡ true) where
-      pub hint-beyond : m ≤ node → placed NoPart ≡ hint_part c n table m node
+      pub hint-beyond : m ≤ node → placed None ≡ hint_part c n table m node
       unfolding placed chain
       hint-beyond h = sym (hint-of none (beyond b e y h))
 
-      pub data-beyond : m ≤ node → placed NoPart ≡ data_part c n table m node
+      pub data-beyond : m ≤ node → placed None ≡ data_part c n table m node
       unfolding placed chain
       data-beyond h = sym (data_of none (beyond b e y h))
 
       module _ (h : node < m) where
-        pub hint-other : (k : ℕ) → k ≡ get_or table (node * width + 0) 0 → (k ≡ 1 → ⊥) → placed NoPart ≡ hint_part c n table m node
+        pub hint-other : (k : ℕ) → k ≡ get_or table (node * width + 0) 0 → (k ≡ 1 → ⊥) → placed None ≡ hint_part c n table m node
         unfolding placed chain
         hint-other k z d = found b e y h (λ r i l. sym (hint-of (some r) i ∙ unpicked _ _ (ne_eqb _ _ (λ q. d (z ∙ l 0 (omega arith) ∙ q)))))
 
         pub hint-found : (k : ℕ) → k ≡ get_or table (node * width + 0) 0 → k ≡ 1 → (s t : ℕ) → s ≡ get_or table (node * width + 4) 0 → t ≡ get_or table (node * width + 5) 0
-            → placed (Part s t) ≡ hint_part c n table m node
+            → placed (place_at s t) ≡ hint_part c n table m node
         unfolding placed chain
         hint-found k z d s t p q =
             found b e y h
             (λ r i l. sym (hint-of (some r) i ∙ picked _ _ (eq-eqb _ _ (sym (l 0 (omega arith)) ∙ sym z ∙ d)) ∙ sym (ap₂ (λ (x y : ℕ). some (part x y)) (p ∙ l 4 (omega arith)) (q ∙ l 5 (omega arith)))))
 
-        pub data-found : (s t : ℕ) → s ≡ get_or table (node * width + 6) 0 → t ≡ get_or table (node * width + 7) 0 → placed (Part s t) ≡ data_part c n table m node
+        pub data-found : (s t : ℕ) → s ≡ get_or table (node * width + 6) 0 → t ≡ get_or table (node * width + 7) 0 → placed (place_at s t) ≡ data_part c n table m node
         unfolding placed chain
         data-found s t p q =
             found b e y h (λ r i l. sym (data_of (some r) i ∙ sym (ap₂ (λ (x y : ℕ). some (part x y)) (p ∙ l 6 (omega arith)) (q ∙ l 7 (omega arith)))))
@@ -215,60 +216,60 @@ module _ (c : List ℕ) (n : ℕ) (table : List ℕ) (m node : ℕ) where
 
   module _ (r : Place) where
     module _ (w : placed r ≡ hint_part c n table m node) where
-      pub hint-default : (d : List ℕ) → r ≡ NoPart → d ≡ hint_shown c n table m node d
+      pub hint-default : (d : List ℕ) → r ≡ None → d ≡ hint_shown c n table m node d
       unfolding hint_shown shown_or placed
       hint-default d q = let z : hint_part c n table m node ≡ none = sym w ∙ ap placed q in rw z
 
-      pub hint-default-at : (x y : ℕ × ℕ) → r ≡ NoPart → y ≡ shown_at (hint_part c n table m node) x y
+      pub hint-default-at : (x y : ℕ × ℕ) → r ≡ None → y ≡ shown_at (hint_part c n table m node) x y
       unfolding shown_at placed
       hint-default-at x y q = let z : hint_part c n table m node ≡ none = sym w ∙ ap placed q in rw z
 
-      module _ (s e : ℕ) (q : r ≡ Part s e) where
-        hint-is : hint_part c n table m node ≡ some (part s e)
+      module _ (found : Part) (q : r ≡ Some found) where
+        hint-is : hint_part c n table m node ≡ some (part found.start found.end)
         unfolding placed
         hint-is = sym w ∙ ap placed q
 
-        pub hint-ordered : s ≤ e
-        hint-ordered = (hint-inside s e hint-is).ordered
+        pub hint-ordered : found.start ≤ found.end
+        hint-ordered = (hint-inside found.start found.end hint-is).ordered
 
-        pub hint-ended : e ≤ length c
-        hint-ended = (hint-inside s e hint-is).ended
+        pub hint-ended : found.end ≤ length c
+        hint-ended = (hint-inside found.start found.end hint-is).ended
 
-        pub hint-shown : (d : List ℕ) → take (e - s) (drop s c) ≡ hint_shown c n table m node d
+        pub hint-shown : (d : List ℕ) → take (found.end - found.start) (drop found.start c) ≡ hint_shown c n table m node d
         unfolding hint_shown shown_or octets_at
         hint-shown d = rw hint-is
 
-        pub hint-at : (x y : ℕ × ℕ) → (x.0, s + x.1) ≡ shown_at (hint_part c n table m node) x y
+        pub hint-at : (x y : ℕ × ℕ) → (x.0, found.start + x.1) ≡ shown_at (hint_part c n table m node) x y
         unfolding shown_at
         hint-at x y = rw hint-is
 
     module _ (w : placed r ≡ data_part c n table m node) where
-      pub data-none : r ≡ NoPart → [] ≡ data_shown c n table m node
+      pub data-none : r ≡ None → [] ≡ data_shown c n table m node
       unfolding data_shown shown_or placed
       data-none q = let z : data_part c n table m node ≡ none = sym w ∙ ap placed q in rw z
 
-      pub data-none-at : (x : ℕ × ℕ) → r ≡ NoPart → (x.0, 0 + x.1) ≡ shown_at (data_part c n table m node) x x
+      pub data-none-at : (x : ℕ × ℕ) → r ≡ None → (x.0, 0 + x.1) ≡ shown_at (data_part c n table m node) x x
       unfolding shown_at placed
       data-none-at x q =
           let z : data_part c n table m node ≡ none = sym w ∙ ap placed q in
           let e : 0 + x.1 ≡ x.1 = omega arith in
           rw z (λ i. (x.0, e i))
 
-      module _ (s e : ℕ) (q : r ≡ Part s e) where
-        data_is : data_part c n table m node ≡ some (part s e)
+      module _ (found : Part) (q : r ≡ Some found) where
+        data_is : data_part c n table m node ≡ some (part found.start found.end)
         unfolding placed
         data_is = sym w ∙ ap placed q
 
-        pub data-ordered : s ≤ e
-        data-ordered = (data-inside s e data_is).ordered
+        pub data-ordered : found.start ≤ found.end
+        data-ordered = (data-inside found.start found.end data_is).ordered
 
-        pub data-ended : e ≤ length c
-        data-ended = (data-inside s e data_is).ended
+        pub data-ended : found.end ≤ length c
+        data-ended = (data-inside found.start found.end data_is).ended
 
-        pub data-shown : take (e - s) (drop s c) ≡ data_shown c n table m node
+        pub data-shown : take (found.end - found.start) (drop found.start c) ≡ data_shown c n table m node
         unfolding data_shown shown_or octets_at
         data-shown = rw data_is
 
-        pub data-at : (x y : ℕ × ℕ) → (x.0, s + x.1) ≡ shown_at (data_part c n table m node) x y
+        pub data-at : (x y : ℕ × ℕ) → (x.0, found.start + x.1) ≡ shown_at (data_part c n table m node) x y
         unfolding shown_at
         data-at x y = rw data_is

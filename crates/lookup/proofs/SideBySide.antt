@@ -32,8 +32,9 @@ use Rattle.lookup.specs.Tokens.{mark, part_of, lexeme_of, Readable, TokenAt, She
 use Rattle.lookup.proofs.Lockstep.{lockstep}
 use Rattle.lookup.proofs.Matching.{opens, closes, hints, atoms}
 use Rattle.lookup.specs.declared.alike.Token.{Token}
+use Rattle.std.specs.Prelude.{Option, Some, None}
 use Rattle.canonical.specs.declared.Item.{Item}
-use Rattle.canonical.specs.declared.Item.TheVariants.{Open, Close, Plain, Hinted, Other}
+use Rattle.canonical.specs.declared.Item.TheVariants.{Open, Close, Plain, Hinted}
 
 -- ---- the octets of a string are the part that the lexeme tells
 
@@ -72,7 +73,7 @@ module _ (src : List ℕ) (at : ℕ) where
 
 -- ---- the lexeme at a place
 
-module _ (src : List ℕ) (at : ℕ) (w : Readable src at) (r : Item) (v : ItemAt src at r) where
+module _ (src : List ℕ) (at : ℕ) (w : Readable src at) (r : Option Item) (v : ItemAt src at r) where
   marked : (sort : ℕ) → sort ≤ 2 → (l : Lexeme) → strict_lexeme (drop at src) ≡ got l (drop (at + 1) src) → lexeme_of src (mark sort (at + 1)) ≡ l → TokenAt src at (mark sort (at + 1))
   marked sort h l e q =
       record {
@@ -82,45 +83,49 @@ module _ (src : List ℕ) (at : ℕ) (w : Readable src at) (r : Item) (v : ItemA
         lies = record { sorted = h; hint_ordered = omega arith; hint_ended = omega arith; ordered = omega arith; ended = omega arith };
       }
 
-  pub token-open : r ≡ Open → (t : Token) → t ≡ mark 0 (at + 1) → TokenAt src at t
-  unfolding ItemAt
-  token-open z t e = rw e (marked 0 (omega arith) opening (subst (ItemAt src at) z v) (opens src (mark 0 (at + 1)) refl))
-
-  pub token-close : r ≡ Close → (t : Token) → t ≡ mark 1 (at + 1) → TokenAt src at t
-  unfolding ItemAt
-  token-close z t e = rw e (marked 1 (omega arith) closing (subst (ItemAt src at) z v) (closes src (mark 1 (at + 1)) refl))
-
-  pub token-plain : (s e : ℕ) → r ≡ Plain s e → TokenAt src at (record { sort = 2; hinted = false; from = 0; to = 0; start = s; end = e; next = e })
-  unfolding ItemAt
-  token-plain s e z =
-      let p : Plainly src at s e = subst (ItemAt src at) z v in
-      record {
-        reads = p.reads ∙ ap (λ (l : Lexeme). got l (drop e src)) (ap atom (sym (plain-part src at s e p)) ∙ sym (atoms src _ refl refl));
-        ahead = omega (arith, p.ends, verbatim-length p.octets);
-        within = p.within;
-        lies = record { sorted = omega arith; hint_ordered = omega arith; hint_ended = omega arith; ordered = omega (arith, p.begins, p.ends, verbatim-length p.octets); ended = p.within };
-      }
-
-  pub token-hinted : (hs he s e : ℕ) → r ≡ Hinted hs he s e → TokenAt src at (record { sort = 2; hinted = true; from = hs; to = he; start = s; end = e; next = e })
-  unfolding ItemAt
-  token-hinted hs he s e z =
-      let p : Hintedly src at hs he s e = subst (ItemAt src at) z v in
-      record {
-        reads = p.reads ∙ ap (λ (l : Lexeme). got l (drop e src)) (ap₂ hinting (sym (hint-part src at hs he s e p)) (sym (data-part src at hs he s e p)) ∙ sym (hints src _ refl refl));
-        ahead = omega (arith, p.ends, p.hint_ends);
-        within = p.within;
-        lies = record {
-          sorted = omega arith;
-          hint_ordered = omega (arith, p.hint_begins, p.hint_ends, verbatim-length p.hint);
-          hint_ended = omega (arith, p.ends, p.within);
-          ordered = omega (arith, p.begins, p.ends, verbatim-length p.octets);
-          ended = p.within;
-        };
-      }
-
-  pub token-other : r ≡ Other → (t : Token) → TokenAt src at t
+  pub token-other : r ≡ None → (t : Token) → TokenAt src at t
   unfolding ItemAt
   token-other z t = let g : strict_lexeme (drop at src) ≡ refused = subst (ItemAt src at) z v in never (sym g ∙ w.reads)
+
+  module _ (d : Item) (told : r ≡ Some d) where
+    item-is : (x : Item) → d ≡ x → ItemAt src at (Some x)
+    item-is x e = subst (ItemAt src at) (told ∙ ap (λ (y : Item). Some y) e) v
+
+    pub token-open : d ≡ Open → (t : Token) → t ≡ mark 0 (at + 1) → TokenAt src at t
+    unfolding ItemAt
+    token-open z t e = rw e (marked 0 (omega arith) opening (item-is Open z) (opens src (mark 0 (at + 1)) refl))
+
+    pub token-close : d ≡ Close → (t : Token) → t ≡ mark 1 (at + 1) → TokenAt src at t
+    unfolding ItemAt
+    token-close z t e = rw e (marked 1 (omega arith) closing (item-is Close z) (closes src (mark 1 (at + 1)) refl))
+
+    pub token-plain : (s e : ℕ) → d ≡ Plain s e → TokenAt src at (record { sort = 2; hinted = false; from = 0; to = 0; start = s; end = e; next = e })
+    unfolding ItemAt
+    token-plain s e z =
+        let p : Plainly src at s e = item-is (Plain s e) z in
+        record {
+          reads = p.reads ∙ ap (λ (l : Lexeme). got l (drop e src)) (ap atom (sym (plain-part src at s e p)) ∙ sym (atoms src _ refl refl));
+          ahead = omega (arith, p.ends, verbatim-length p.octets);
+          within = p.within;
+          lies = record { sorted = omega arith; hint_ordered = omega arith; hint_ended = omega arith; ordered = omega (arith, p.begins, p.ends, verbatim-length p.octets); ended = p.within };
+        }
+
+    pub token-hinted : (hs he s e : ℕ) → d ≡ Hinted hs he s e → TokenAt src at (record { sort = 2; hinted = true; from = hs; to = he; start = s; end = e; next = e })
+    unfolding ItemAt
+    token-hinted hs he s e z =
+        let p : Hintedly src at hs he s e = item-is (Hinted hs he s e) z in
+        record {
+          reads = p.reads ∙ ap (λ (l : Lexeme). got l (drop e src)) (ap₂ hinting (sym (hint-part src at hs he s e p)) (sym (data-part src at hs he s e p)) ∙ sym (hints src _ refl refl));
+          ahead = omega (arith, p.ends, p.hint_ends);
+          within = p.within;
+          lies = record {
+            sorted = omega arith;
+            hint_ordered = omega (arith, p.hint_begins, p.hint_ends, verbatim-length p.hint);
+            hint_ended = omega (arith, p.ends, p.within);
+            ordered = omega (arith, p.begins, p.ends, verbatim-length p.octets);
+            ended = p.within;
+          };
+        }
 
 -- the end of the text
 ended : (src : List ℕ) (at : ℕ) (ls : List Lexeme) → length src ≤ at → strict_lexemes (drop at src) ≡ some ls → ls ≡ []

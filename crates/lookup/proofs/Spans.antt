@@ -14,6 +14,7 @@ use Rattle.model.specs.Answers.{the}
 use Rattle.model.specs.Compare.{same}
 use Rattle.model.specs.Decode.{decode₁}
 use Rattle.model.specs.Lexemes.{atom}
+use Rattle.std.specs.Prelude.{Some}
 use Rattle.canonical.specs.declared.Item.TheVariants.{Plain}
 use Rattle.sheets.specs.Places.{start_of, end_of, StringAt}
 use Rattle.sheets.proofs.Items.{string-item}
@@ -47,10 +48,10 @@ atoms-match x d e = ap (λ (t : Bool). both t (equal d e)) (equal-same x)
 module _ (a b x : List ℕ) (i j : ℕ) (w : Matching a b x i j) (h : i < length a) (l : j < length b) (r q : ℕ) (u : StringAt a i r) (v : StringAt b j q)
     (so : Bool) (f : Both r q so) (y : so ≡ true) where
   left-token : TokenAt a i (token_of r)
-  left-token = token-plain a i (left-reads a b x i j w h) (Plain (start_of r) (end_of r)) (string-item a i h r u (f.left y)) (start_of r) (end_of r) refl
+  left-token = token-plain a i (left-reads a b x i j w h) (Some (Plain (start_of r) (end_of r))) (string-item a i h r u (f.left y)) (Plain (start_of r) (end_of r)) refl (start_of r) (end_of r) refl
 
   right-token : TokenAt b j (token_of q)
-  right-token = token-plain b j (right-reads a b x i j w h l) (Plain (start_of q) (end_of q)) (string-item b j l q v (f.right y)) (start_of q) (end_of q) refl
+  right-token = token-plain b j (right-reads a b x i j w h l) (Some (Plain (start_of q) (end_of q))) (string-item b j l q v (f.right y)) (Plain (start_of q) (end_of q)) refl (start_of q) (end_of q) refl
 
   pub left-span : Span (length a) r
   left-span = record { ordered = left-token.lies.ordered; ended = left-token.lies.ended }

@@ -8,7 +8,7 @@ use Rattle.model.specs.Table.{records}
 use Rattle.model.specs.Answers.{sheet_tree, own_tree, hint_part, data_part}
 use Rattle.tables.specs.Told.{Holds, Readable}
 use Rattle.answers.specs.Cases.{placed}
-use Rattle.answers.specs.declared.Place.{Place}
+use Rattle.answers.specs.Cases.{Place}
 
 -- the first len octets are a sheet of count nodes, these are its notes, and of n records there are enough
 pub record Sheet (c : List ℕ) (len count n : ℕ) (notes : List ℕ) : Type 0 where

@@ -46,9 +46,9 @@ fn token_at(src: &[u8], at: usize) -> Token
     ensures { TokenAt src.now at result }
 {
     match canonical::lexeme_at(src, at) {
-        Item::Open => parenthesis(0, at + 1),
-        Item::Close => parenthesis(1, at + 1),
-        Item::Plain { start, end } => Token {
+        Some(Item::Open) => parenthesis(0, at + 1),
+        Some(Item::Close) => parenthesis(1, at + 1),
+        Some(Item::Plain { start, end }) => Token {
             sort: 2,
             hinted: false,
             from: 0,
@@ -57,12 +57,14 @@ fn token_at(src: &[u8], at: usize) -> Token
             end,
             next: end,
         },
-        Item::Hinted {
-            hint_start,
-            hint_end,
-            start,
-            end,
-        } => Token {
+        Some(
+            Item::Hinted {
+                hint_start,
+                hint_end,
+                start,
+                end,
+            },
+        ) => Token {
             sort: 2,
             hinted: true,
             from: hint_start,
@@ -72,7 +74,7 @@ fn token_at(src: &[u8], at: usize) -> Token
             next: end,
         },
         // The octets are canonical, so that this never comes.
-        Item::Other => parenthesis(1, at + 1),
+        None => parenthesis(1, at + 1),
     }
 }
 

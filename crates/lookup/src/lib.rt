@@ -5,20 +5,20 @@ mod alike; // alike.rt: lexeme by lexeme
 pub mod noted; // noted.rt: a sheet by its notes
 pub mod turns; // turns.rt: a sheet and its records, one record at a time
 mod parts; // parts.rt: octets compared
-mod tiers; // tiers.rt: notes in local space
 
 ghost use Rattle.std.specs.Prelude.{not, ◌≡◌, ◌+◌, ◌*◌, ◌≤◌, ◌<◌, length as size, get_or};
+ghost use Rattle.model.specs.Limits.{most_nodes};
 ghost use Rattle.model.specs.Table.{width};
 ghost use Rattle.base.specs.Choice.{is_none};
 ghost use Rattle.model.specs.Answers.{sheet_tree, own_tree, hint_part, data_part, hint_shown, data_shown, comparing};
 ghost use Rattle.answers.specs.Cases.{placed, told};
 ghost use Rattle.answers.specs.Shown.{Shows, shown_at};
 ghost use Rattle.lookup.specs.Numbers.{InRecord};
+ghost use Rattle.lookup.specs.Noted.{Notes};
 
-use answers::{Comparing, Place, refused_comparing};
+use answers::{Comparing, Part, Refusal};
 pub use noted::{own_notes, place_by};
 pub use turns::{answer, bound, node_of, turn};
-use walk::Extent;
 
 // Whether the first `length` octets are one fitting canonical form (S 1.1: a sheet).
 pub fn sheet(canonical: &[u8], length: usize) -> bool
@@ -32,26 +32,39 @@ pub fn sheet(canonical: &[u8], length: usize) -> bool
     }
     let part = &canonical[..length];
     match sheets::measure(part) {
-        Extent::Whole {
-            len: _,
-            nodes: _,
-            depth,
-        } => depth <= limits::DEPTH,
-        Extent::Refused { place: _ } => false,
+        Ok(sizes) => sizes.depth <= limits::DEPTH,
+        Err(_) => false,
     }
 }
 
-// Whether, besides, the first `nodes` records are its table (S 1.4: the sheet's own).
+// The same as `own_sheet`, by notes in local space.
+#[inline(never)]
+fn own_sized<const NOTES: usize>(
+    canonical: &[u8],
+    length: usize,
+    table: &[u32],
+    nodes: usize,
+) -> bool
+    requires enough { Notes nodes NOTES }
+    requires bounded { NOTES ≤ most_nodes }
+    ensures { result ≡ not (is_none (own_tree canonical.now length table.now nodes)) }
+{
+    let mut notes: [usize; NOTES] = [0; NOTES];
+    own_notes(canonical, length, table, nodes, &mut notes)
+}
+
+// Whether, besides, the first `nodes` records are its table (S 1.4: the sheet's own). A short sheet does not pay for clearing the
+// notes of the largest.
 pub fn own_sheet(canonical: &[u8], length: usize, table: &[u32], nodes: usize) -> bool
     ensures { result ≡ not (is_none (own_tree canonical.now length table.now nodes)) }
 {
     if nodes <= limits::SHORT_NOTES {
-        return tiers::own_short(canonical, length, table, nodes);
+        return own_sized::<{ limits::SHORT_NOTES }>(canonical, length, table, nodes);
     }
     if nodes <= limits::MIDDLE_NOTES {
-        return tiers::own_middle(canonical, length, table, nodes);
+        return own_sized::<{ limits::MIDDLE_NOTES }>(canonical, length, table, nodes);
     }
-    tiers::own_long(canonical, length, table, nodes)
+    own_sized::<{ limits::NODES }>(canonical, length, table, nodes)
 }
 
 // The k-th number of a node's record.
@@ -69,22 +82,22 @@ pub fn hint_place(
     table: &[u32],
     nodes: usize,
     node: usize,
-) -> Place
+) -> Option<Part>
     ensures { placed result ≡ hint_part canonical.now length table.now nodes node }
 {
     if own_sheet(canonical, length, table, nodes) {
         if node >= nodes {
-            return Place::NoPart;
+            return None;
         }
         if number(table, node, 0) != 1 {
-            return Place::NoPart;
+            return None;
         }
-        Place::Part {
+        Some(Part {
             start: number(table, node, 4),
             end: number(table, node, 5),
-        }
+        })
     } else {
-        Place::NoPart
+        None
     }
 }
 
@@ -95,19 +108,19 @@ pub fn data_place(
     table: &[u32],
     nodes: usize,
     node: usize,
-) -> Place
+) -> Option<Part>
     ensures { placed result ≡ data_part canonical.now length table.now nodes node }
 {
     if own_sheet(canonical, length, table, nodes) {
         if node >= nodes {
-            return Place::NoPart;
+            return None;
         }
-        Place::Part {
+        Some(Part {
             start: number(table, node, 6),
             end: number(table, node, 7),
-        }
+        })
     } else {
-        Place::NoPart
+        None
     }
 }
 
@@ -123,8 +136,8 @@ pub fn hint<'a>(
     ensures { Shows result (hint_shown canonical.now length table.now nodes node default_hint.now) (shown_at (hint_part canonical.now length table.now nodes node) canonical.entry.ref_ptr default_hint.entry.ref_ptr) }
 {
     match hint_place(canonical, length, table, nodes, node) {
-        Place::Part { start, end } => &canonical[start..end],
-        Place::NoPart => default_hint,
+        Some(part) => &canonical[part.start..part.end],
+        None => default_hint,
     }
 }
 
@@ -139,8 +152,8 @@ pub fn data<'a>(
     ensures { Shows result (data_shown canonical.now length table.now nodes node) (shown_at (data_part canonical.now length table.now nodes node) canonical.entry.ref_ptr canonical.entry.ref_ptr) }
 {
     match data_place(canonical, length, table, nodes, node) {
-        Place::Part { start, end } => &canonical[start..end],
-        Place::NoPart => &canonical[0..0],
+        Some(part) => &canonical[part.start..part.end],
+        None => &canonical[0..0],
     }
 }
 
@@ -151,20 +164,16 @@ pub fn same(a: &[u8], a_length: usize, b: &[u8], b_length: usize, default_hint: 
 {
     if sheet(a, a_length) {
         if parts::copied(a, a_length, b, b_length) {
-            return Comparing::Accepted { same: true };
+            return Ok(true);
         }
         if sheet(b, b_length) {
             let left = &a[..a_length];
             let right = &b[..b_length];
-            if alike::alike(left, right, default_hint) {
-                Comparing::Accepted { same: true }
-            } else {
-                Comparing::Accepted { same: false }
-            }
+            Ok(alike::alike(left, right, default_hint))
         } else {
-            refused_comparing(7)
+            Err(Refusal::NotOwn)
         }
     } else {
-        refused_comparing(7)
+        Err(Refusal::NotOwn)
     }
 }

@@ -3,7 +3,7 @@ ghost use Rattle.std.specs.Prelude.{length as size};
 ghost use Rattle.lookup.specs.Noted.{Notes, Owned, Readables, ShowsPlace};
 
 use crate::turns::{bound, kept};
-use answers::Place;
+use answers::Part;
 use tables::rows::{parent_at, row_at};
 
 // Whether the first `nodes` records are the table of the sheet of these octets (S 1.4: the sheet's own); where they are, these are its
@@ -54,28 +54,28 @@ pub fn own_notes(
 
 // Where a node's hint stands, if it is a string with a hint, or where its data stands; by the notes of a sheet, where they are told to
 // be its own records'.
-pub fn place_by(notes: &[usize], nodes: usize, node: usize, own: bool, hinted: bool) -> Place
+pub fn place_by(notes: &[usize], nodes: usize, node: usize, own: bool, hinted: bool) -> Option<Part>
     requires { Readables notes.now nodes own }
     ensures { ShowsPlace notes.now nodes node own hinted result }
 {
     if own {
         if node >= nodes {
-            return Place::NoPart;
+            return None;
         }
         let row = tables::row_of(notes, node);
         if hinted {
             if row.kind != 1 {
-                return Place::NoPart;
+                return None;
             }
-            return Place::Part {
+            return Some(Part {
                 start: row.hint_start as usize,
                 end: row.hint_end as usize,
-            };
+            });
         }
-        return Place::Part {
+        return Some(Part {
             start: row.data_start as usize,
             end: row.data_end as usize,
-        };
+        });
     }
-    Place::NoPart
+    None
 }

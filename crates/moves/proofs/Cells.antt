@@ -1,10 +1,9 @@
 -- The loops that move octets and that write zeros.
 use Prim.Native.Nat.{ℕ, suc, ◌+◌, ◌-◌, ◌≤◌, ◌<◌}
 use native.Mathlib.Omega.{arith}
-use native.Mathlib.Numerals.{add-one}
 use mathlib.Core.Path.{◌≡◌, refl, sym, ap, ap₂, ◌∙◌}
 use mathlib.Core.List.{List, [], ◌∷◌, ◌++◌, append-nil}
-use lib.ListN.{length, take, drop, get_or, replicate, set, length-set, length-drop}
+use lib.ListN.{length, take, drop, get_or, set, length-drop}
 use lib.Seq.{drop-cons, sets, take-set-le, drop-set-lt, take-add, drop-drop, drop_at, drop-length, take_all, length-take-le, length-sets}
 use Rattle.base.proofs.Stores.{sets-append, sets-join, sets-all}
 use Rattle.scan.specs.Writes.{Wrote}
@@ -133,29 +132,3 @@ module _ (l₀ : List ℕ) (from to delta : ℕ) where
 
     pub down-one : to ≤ length l₀ → delta ≤ from → j < to → Lowering l₀ from to delta (set l (j - delta) (get_or l j 0)) (j + 1)
     down-one r d h = down_by 1 r d (omega arith) _ (one l j (j - delta) (omega (arith, g.long)))
-
--- ---- zeros: what is left to store gives the whole
-pub record Zeroing (l₀ : List ℕ) (from to : ℕ) (l : List ℕ) (j : ℕ) : Type 0 where
-  pub low : from ≤ j
-  pub high : j ≤ to
-  pub long : length l ≡ length l₀
-  pub same : sets l j (replicate (to - j) 0) ≡ sets l₀ from (replicate (to - from) 0)
-
-pub zero-start : (l : List ℕ) (from to : ℕ) → from ≤ to → Zeroing l from to l from
-zero-start l from to h = record { low = omega arith; high = h; long = refl; same = refl }
-
-pub zero-long : (l₀ : List ℕ) (from to : ℕ) (l : List ℕ) (j : ℕ) → Zeroing l₀ from to l j → length l ≡ length l₀
-zero-long l₀ from to l j g = g.long
-
-pub zero-on : (l₀ : List ℕ) (from to : ℕ) (l : List ℕ) (j : ℕ) → Zeroing l₀ from to l j → j < to → Zeroing l₀ from to (set l j 0) (j + 1)
-zero-on l₀ from to l j g h =
-    let a : to - j ≡ suc (to - (j + 1)) = omega arith in
-    record {
-      low = omega (arith, g.low);
-      high = omega arith;
-      long = length-set l j _ ∙ g.long;
-      same = ap (λ (n : ℕ). sets (set l j 0) n (replicate (to - (j + 1)) 0)) (add-one j) ∙ ap (λ (n : ℕ). sets l j (replicate n 0)) (sym a) ∙ g.same;
-    }
-
-pub zero-end : (l₀ : List ℕ) (from to : ℕ) (l : List ℕ) (j : ℕ) → Zeroing l₀ from to l j → to ≤ j → l ≡ sets l₀ from (replicate (to - from) 0)
-zero-end l₀ from to l j g h = let a : to - j ≡ 0 = omega arith in rw a at g.same

@@ -1,11 +1,12 @@
 // What an octet is to the grammar: its class, by one fixed list of 256 numbers (specs/Classes.antt says what each means),
 // and its value as a digit, a base-64 letter or an escape.
-// A constant is rebuilt at each look-up, so that a list is built once for a text, by `classes` or `letters`, and lent down.
+// The lists are static: a look-up reads them where they lie, and nobody passes them on.
 #![tactic(auto)]
 
 ghost use Rattle.std.specs.Prelude.{◌≡◌};
 ghost use Rattle.model.specs.Octets.{hexval, octval, escape, letter};
-ghost use Rattle.octets.specs.Classes.{Class, Classed, Lettered};
+ghost use Rattle.octets.specs.Classes.{Class};
+ghost use Rattle.octets.specs.Values.{Value};
 
 mod class_list;
 mod letter_list;
@@ -23,78 +24,61 @@ pub const TOKEN: u8 = 14;
 
 pub const HEX: u8 = 17;
 
-// The class numbers.
-pub fn classes() -> [u8; 256]
-    ensures { Classed result }
-{
-    class_list::CLASSES
-}
-
 // The class number of an octet.
-pub fn class_of(classes: &[u8; 256], b: u8) -> u8
-    requires { Classed classes.now }
+pub fn class_of(b: u8) -> u8
     ensures { Class b result }
 {
-    classes[b as usize]
+    class_list::CLASSES[b as usize]
 }
 
-// The values of base-64 letters; 64 is none.
-pub fn letters() -> [u8; 256]
-    ensures { Lettered result }
-{
-    letter_list::LETTERS
-}
-
-// The value of a base-64 letter.
-pub fn letter_of(letters: &[u8; 256], b: u8) -> u8
-    requires { Lettered letters.now }
+// The value of a base-64 letter; 64 is none. No `Option`: `radix64::steps` asks for the values of known letters, and would unwrap each.
+pub fn letter_of(b: u8) -> u8
     ensures { result ≡ letter b }
 {
-    letters[b as usize]
+    letter_list::LETTERS[b as usize]
 }
 
-// The value of a hexadecimal digit of either case; 16 is none.
-pub fn hex_of(classes: &[u8; 256], b: u8) -> u8
-    requires { Classed classes.now }
-    ensures { result ≡ hexval b }
+// The value of a hexadecimal digit of either case.
+pub fn hex_of(b: u8) -> Option<u8>
+    ensures { Value 16 (hexval b) result }
 {
-    let c = class_of(classes, b);
+    let c = class_of(b);
     if c < HEX {
-        return 16;
+        return None;
     }
     // A and a are 1 past a multiple of 32.
-    if c == HEX { b % 32 + 9 } else { b - b'0' }
+    Some(if c == HEX { b % 32 + 9 } else { b - b'0' })
 }
 
-// The value of an octal digit; 8 is none.
-pub fn octal_of(b: u8) -> u8
-    ensures { result ≡ octval b }
+// The value of an octal digit.
+pub fn octal_of(b: u8) -> Option<u8>
+    ensures { Value 8 (octval b) result }
 {
     if b < b'0' {
-        return 8;
+        return None;
     }
     if b > b'7' {
-        return 8;
+        return None;
     }
-    b - b'0'
+    Some(b - b'0')
 }
 
-// The octet that a backslash and this octet mean; 256 is none.
-pub fn escape_of(e: u8) -> u16
-    ensures { result ≡ escape e }
+// The octet that a backslash and this octet mean.
+pub fn escape_of(e: u8) -> Option<u8>
+    ensures { Value 256 (escape e) result }
 {
     match e {
-        98 => 8,
-        116 => 9,
-        118 => 11,
-        110 => 10,
-        102 => 12,
-        114 => 13,
-        34 => 34,
-        39 => 39,
-        92 => 92,
-        97 => 7,
-        63 => 63,
-        _ => 256,
+        98 => Some(8),
+        116 => Some(9),
+        118 => Some(11),
+        110 => Some(10),
+        102 => Some(12),
+        114 => Some(13),
+        34 => Some(34),
+        39 => Some(39),
+        92 => Some(92),
+        97 => Some(7),
+        63 => Some(63),
+        _ => None,
     }
 }

@@ -5,7 +5,7 @@ use mathlib.Core.List.{List, ◌++◌}
 use lib.ListN.{length}
 use Rattle.model.specs.Answers.{reading}
 use Rattle.answers.specs.Cases.{outcome}
-use Rattle.answers.specs.declared.Reading.{Reading}
+use Rattle.answers.specs.Cases.{Reading}
 use Rattle.pieces.specs.Feeding.{sheet_after, state_after, InTurn, Piece}
 use Rattle.pieces.specs.Handed.{Handed, starts, fed}
 use Rattle.pieces.specs.Ending.{in_sheet, End}

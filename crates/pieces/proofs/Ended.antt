@@ -14,17 +14,20 @@ use Rattle.model.specs.Automaton.{place}
 use Rattle.model.specs.Decode.{decode₁, decode}
 use Rattle.model.specs.Limits.{max_source}
 use Rattle.model.specs.Table.{records}
+use Rattle.walk.specs.Extent.{Measured}
 use Rattle.walk.specs.declared.Extent.{Extent}
-use Rattle.walk.specs.declared.Extent.TheVariants.{Whole, Refused}
+use Rattle.walk.specs.declared.Broken.{Broken}
+use Rattle.std.specs.Prelude.{Ok, Err, ⊤}
 use Rattle.scan.specs.Writes.{Wrote}
 use Rattle.sheets.specs.Notes.{Noted}
 use Rattle.texts.specs.Texts.{text_verdict, Taken}
 use Rattle.texts.proofs.Taking.{through}
-use Rattle.answers.specs.Cases.{RefusesAt, Refuses}
-use Rattle.answers.specs.declared.Reading.{Reading}
-use Rattle.answers.specs.declared.Reading.TheVariants as answer
+use Rattle.answers.specs.Cases.{Reading, Judging, Judges, accepted, RefusesAt, Refuses}
+use Rattle.answers.specs.declared.refusal.Refusal.{Refusal}
+use Rattle.answers.specs.declared.refusal.Refusal.TheVariants.{Syntax, Size}
+use Rattle.answers.proofs.Judged.{judge-none, judged-refuses, judged-row, refuses}
 use Rattle.rooms.specs.Rooms.{room_verdict}
-use Rattle.reader.specs.Stored.{Noteable, Puts}
+use Rattle.reader.specs.Stored.{read_tree, Noteable, Puts}
 use Rattle.reader.proofs.Storing.{puts-refused, put-none, put_refused, put-room, put-accepted}
 use Rattle.reader.proofs.Entry.{notes-taken}
 use Rattle.pieces.specs.Capped.{extent}
@@ -55,55 +58,63 @@ module _ (canonical : List ℕ) (fed : ℕ) (notes : List ℕ) (g : Held fed (le
   noteable : Noteable (length (take fed canonical)) (length notes)
   noteable = subst (λ (n : ℕ). Noteable n (length notes)) inside-part g.notable
 
-  module _ (n : ℕ) (notes' : List ℕ) (x : Extent) (v : Noted (take fed canonical) notes notes' x) where
+  module _ (n : ℕ) (notes' : List ℕ) (x : Measured) (v : Noted (take fed canonical) notes notes' x) where
     taken : Taken (decode 1 (take fed canonical)) (place_of 1 (take fed canonical)) canonical notes notes' x
     unfolding decode place_of
     taken =
         through (decode₁ (take fed canonical)) (take fed canonical) canonical notes notes' x v inside-short refl (place (take fed canonical)) x v.measures v.fails
         (λ h. ap (λ (m : ℕ). take m canonical) (sym inside-part))
 
-    pub inside-none : (q : ℕ) → x ≡ Refused q → (r : Reading) → RefusesAt 3 q r → Puts (reading 1 (take fed canonical) canonical) canonical n notes' r
-    inside-none q e r f = notes-taken 1 (take fed canonical) canonical notes' n 0 judges canonical (omega arith) r (put-none 1 (take fed canonical) canonical canonical n notes notes' x taken q e r f)
+    -- rows 1 and 2 never apply
+    passed : (a : Reading) → Puts (read_tree (decode 1 (take fed canonical)) (place_of 1 (take fed canonical)) canonical) canonical n notes' a → Puts (reading 1 (take fed canonical) canonical) canonical n notes' a
+    passed = notes-taken 1 (take fed canonical) canonical notes' n (Ok tt) (judge-none _ tt (sym judges)) canonical tt refl
 
-    module _ (len count deep : ℕ) (e : x ≡ Whole len count deep) (k : ℕ) (h : k ≡ room_verdict deep count len (length canonical) n) where
-      pub inside-refused : 0 < k → (r : Reading) → Refuses k r → Puts (reading 1 (take fed canonical) canonical) canonical n notes' r
-      inside-refused l r f =
-          notes-taken 1 (take fed canonical) canonical notes' n 0 judges canonical (omega arith) r (put_refused 1 (take fed canonical) canonical canonical n notes notes' x taken len count deep e k h l r f)
+    pub inside-none : (q : Broken) → x ≡ Err q → Puts (reading 1 (take fed canonical) canonical) canonical n notes' (Err (Syntax q.place))
+    inside-none q e = passed (Err (Syntax q.place)) (put-none 1 (take fed canonical) canonical canonical n notes notes' x taken q e)
 
-      pub inside-accepted : k ≤ 0 → Puts (reading 1 (take fed canonical) canonical) canonical n notes' (answer.Accepted len count)
-      inside-accepted l =
-          let w : Wrote (take len (drop 0 canonical)) 0 canonical canonical (0 + length (take len canonical)) =
-          record { place = refl; same = sym (sets-self canonical len (omega (arith, put-room 1 (take fed canonical) canonical canonical n notes notes' x taken len count deep e k h l))) } in
-          notes-taken 1 (take fed canonical) canonical notes' n 0 judges canonical (omega arith) (answer.Accepted len count)
-          (put-accepted 1 (take fed canonical) canonical canonical n notes notes' x taken len count deep e k h l noteable canonical (0 + length (take len canonical)) w)
+    module _ (sizes : Extent) (e : x ≡ Ok sizes) (r : Judging) (j : Judges (room_verdict sizes.depth sizes.nodes sizes.len (length canonical) n) r) where
+      pub inside-refused : (f : Refusal) → r ≡ Err f → Puts (reading 1 (take fed canonical) canonical) canonical n notes' (Err f)
+      inside-refused f i = passed (Err f) (put_refused 1 (take fed canonical) canonical canonical n notes notes' x taken sizes e r j f i)
+
+      pub inside-accepted : (u : ⊤) → r ≡ Ok u → Puts (reading 1 (take fed canonical) canonical) canonical n notes' (accepted sizes.len sizes.nodes)
+      inside-accepted u i =
+          let w : Wrote (take sizes.len (drop 0 canonical)) 0 canonical canonical (0 + length (take sizes.len canonical)) =
+          record { place = refl; same = sym (sets-self canonical sizes.len (omega (arith, put-room 1 (take fed canonical) canonical canonical n notes notes' x taken sizes e r j u i))) } in
+          passed (accepted sizes.len sizes.nodes)
+          (put-accepted 1 (take fed canonical) canonical canonical n notes notes' x taken sizes e r j u i noteable canonical (0 + length (take sizes.len canonical)) w)
 
 -- ---- octets that went past it
 
-module _ (track : Track) (room n : ℕ) (x : Extent) (g : x ≡ extent (meant track)) (r : Reading) where
-  pub past-none : (q : ℕ) → x ≡ Refused q → RefusesAt 3 q r → RefusesAt (past_row (extent (meant track)) room n) (past_place (extent (meant track))) r
+module _ (track : Track) (room n : ℕ) (x : Measured) (g : x ≡ extent (meant track)) where
+  by_extent : (y : Measured) (r : Reading) → x ≡ y → RefusesAt (past_row y room n) (past_place y) r → RefusesAt (past_row (extent (meant track)) room n) (past_place (extent (meant track))) r
+  by_extent y r e f = subst (λ (y : Measured). RefusesAt (past_row y room n) (past_place y) r) (sym e ∙ g) f
+
+  pub past-none : (q : Broken) → x ≡ Err q → RefusesAt (past_row (extent (meant track)) room n) (past_place (extent (meant track))) (Err (Syntax q.place))
   unfolding past_row past_place
-  past-none q e f = subst (λ (y : Extent). RefusesAt (past_row y room n) (past_place y) r) (sym e ∙ g) f
+  past-none q e = by_extent (Err q) (Err (Syntax q.place)) e (refuses (Syntax q.place))
 
-  module _ (len count deep : ℕ) (e : x ≡ Whole len count deep) (k : ℕ) (h : k ≡ room_verdict deep count len room n) where
-    pub past-refused : 0 < k → Refuses k r → RefusesAt (past_row (extent (meant track)) room n) (past_place (extent (meant track))) r
+  module _ (sizes : Extent) (e : x ≡ Ok sizes) (r : Judging) (j : Judges (room_verdict sizes.depth sizes.nodes sizes.len room n) r) where
+    pub past-refused : (f : Refusal) → r ≡ Err f → RefusesAt (past_row (extent (meant track)) room n) (past_place (extent (meant track))) (Err f)
     unfolding past_row past_place
-    past-refused l f =
-        let z : k ≡ past_row (Whole len count deep) room n = h ∙ sym (picked _ _ (lt-ltb 0 (room_verdict deep count len room n) (omega (arith, h)))) in
-        subst (λ (y : Extent). RefusesAt (past_row y room n) (past_place y) r) (sym e ∙ g) (subst (λ (m : ℕ). Refuses m r) z f)
+    past-refused f i =
+        let k : ℕ = room_verdict sizes.depth sizes.nodes sizes.len room n in
+        let z : k ≡ past_row (Ok sizes) room n = sym (picked _ _ (lt-ltb 0 k (judged-row k r j f i))) in
+        by_extent (Ok sizes) (Err f) e (subst (λ (m : ℕ). Refuses m (Err f)) z (judged-refuses k r j f i))
 
-    pub past-never : k ≤ 0 → Refuses 6 r → RefusesAt (past_row (extent (meant track)) room n) (past_place (extent (meant track))) r
+    pub past-never : (u : ⊤) → r ≡ Ok u → RefusesAt (past_row (extent (meant track)) room n) (past_place (extent (meant track))) (Err Size)
     unfolding past_row past_place
-    past-never l f =
-        let z : 6 ≡ past_row (Whole len count deep) room n = sym (unpicked _ _ (le-ltb 0 (room_verdict deep count len room n) (omega (arith, h)))) in
-        subst (λ (y : Extent). RefusesAt (past_row y room n) (past_place y) r) (sym e ∙ g) (subst (λ (m : ℕ). Refuses m r) z f)
+    past-never u i =
+        let k : ℕ = room_verdict sizes.depth sizes.nodes sizes.len room n in
+        let z : 6 ≡ past_row (Ok sizes) room n = sym (unpicked _ _ (le-ltb 0 k (omega (arith, j.passes u i)))) in
+        by_extent (Ok sizes) (Err Size) e (subst (λ (m : ℕ). Refuses m (Err Size)) z (refuses Size))
 
-past-positive : (x : Extent) (room n : ℕ) → 0 < past_row x room n
+past-positive : (x : Measured) (room n : ℕ) → 0 < past_row x room n
 unfolding past_row
-past-positive (Whole len count deep) room n =
-    by_le (room_verdict deep count len room n) 0
-    (λ h. subst (λ (m : ℕ). 0 < m) (sym (unpicked _ _ (le-ltb 0 (room_verdict deep count len room n) h))) (omega arith))
-    (λ h. subst (λ (m : ℕ). 0 < m) (sym (picked _ _ (lt-ltb 0 (room_verdict deep count len room n) h))) h)
-past-positive (Refused p) room n = omega arith
+past-positive (Ok x) room n =
+    by_le (room_verdict x.depth x.nodes x.len room n) 0
+    (λ h. subst (λ (m : ℕ). 0 < m) (sym (unpicked _ _ (le-ltb 0 (room_verdict x.depth x.nodes x.len room n) h))) (omega arith))
+    (λ h. subst (λ (m : ℕ). 0 < m) (sym (picked _ _ (lt-ltb 0 (room_verdict x.depth x.nodes x.len room n) h))) h)
+past-positive (Err p) room n = omega arith
 
 -- ---- both
 

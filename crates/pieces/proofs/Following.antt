@@ -9,7 +9,7 @@ use lib.ListN.{length, take, get_or}
 use lib.Seq.{take-suc, take_all}
 use Rattle.base.proofs.Cases.{picked, unpicked}
 use Rattle.model.specs.Count.{shut_by}
-use Rattle.walk.specs.declared.Extent.TheVariants.{Whole, Refused}
+use Rattle.walk.specs.Extent.{Whole, Refused}
 use Rattle.model.specs.Automaton as automaton
 use Rattle.model.specs.Automaton.{step, run, rests}
 use Rattle.automaton.proofs.Runs.{run-append}

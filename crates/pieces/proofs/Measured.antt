@@ -18,7 +18,8 @@ use Rattle.model.specs.Tree.{Tree, plain, hinted, list, nodes}
 use Rattle.model.proofs.Exact.{canon-sound}
 use Rattle.model.proofs.Strict.{strict-all-complete}
 use Rattle.walk.specs.Extent.{Wholly, Measures}
-use Rattle.walk.specs.declared.Extent.TheVariants.{Whole, Refused}
+use Rattle.walk.specs.Extent.{Measured, Whole, Refused}
+use Rattle.walk.proofs.Extents.{place-equal}
 use Rattle.walk.proofs.Chained.{decodes}
 use Rattle.automaton.proofs.Laws.{alive-begins, place-begins}
 use Rattle.automaton.proofs.Through.{finished, tree-run}
@@ -74,11 +75,8 @@ run-measures s = by_bool (whole (run free start s)) (λ w. rw w (whole-decoded s
     by w none e = e
     by w (some t) e = differ (ap whole (decoded-whole s t e) ∙ finished-whole t) w
 
-not-refused : {G : Type 0} {len count deep p : ℕ} → Whole len count deep ≡ Refused p → G
+not-refused : {G : Type 0} {len count deep p : ℕ} → ◌≡◌ {A = Measured} (Whole len count deep) (Refused p) → G
 not-refused e = let z : ◌≡◌ {A = ℕ} 0 1 = cc in absurd (omega arith)
-
-same_place : {p q : ℕ} → Refused p ≡ Refused q → p ≡ q
-same_place e = cc
 
 -- ---- with capped numbers, for every text that is read
 
@@ -93,4 +91,4 @@ module _ (s : List ℕ) (h : length s ≤ max_source) where
   capped-fails p e =
       by_bool (whole (run capped start s))
       (λ w. not-refused (sym (picked _ _ w) ∙ e))
-      (λ w. sym (same_place (sym (unpicked _ _ w) ∙ e)) ∙ capped-taken s h)
+      (λ w. sym (place-equal (sym (unpicked _ _ w) ∙ e)) ∙ capped-taken s h)

@@ -17,10 +17,11 @@ use Rattle.model.specs.Table.{records}
 use Rattle.model.specs.Tree.{Tree, canon, nodes, depth}
 use Rattle.model.proofs.Exact.{canon-sound}
 use Rattle.walk.specs.Extent.{Measures}
-use Rattle.walk.specs.declared.Extent.{Extent}
-use Rattle.walk.specs.declared.Extent.TheVariants.{Whole, Refused}
+use Rattle.walk.specs.Extent.{Measured}
+use Rattle.walk.specs.Extent.{Whole, Refused}
+use Rattle.std.specs.Prelude.{Ok, Err}
 use Rattle.answers.specs.Cases.{outcome}
-use Rattle.answers.specs.declared.Reading.{Reading}
+use Rattle.answers.specs.Cases.{Reading}
 use Rattle.rooms.specs.Rooms.{room_verdict}
 use Rattle.reader.specs.Stored.{read_tree}
 use Rattle.rooms.proofs.Rooms.{roomy}
@@ -73,18 +74,18 @@ module _ (s d first table : List ℕ) (short : length s ≤ max_source) (same : 
 -- ---- past the sheet
 
 module _ (s first table : List ℕ) (short : length s ≤ max_source) (long : space (length first) < length s) where
-  past-as : (x : Extent) → Measures (decode₁ s) x → ((p : ℕ) → x ≡ Refused p → p ≡ place s) → (sheet : List ℕ) → unchanged_at (past_row x (length first) (records table)) (past_place x) sheet table ≡ in_sheet sheet (read_tree (decode₁ s) (place s) first table)
+  past-as : (x : Measured) → Measures (decode₁ s) x → ((p : ℕ) → x ≡ Refused p → p ≡ place s) → (sheet : List ℕ) → unchanged_at (past_row x (length first) (records table)) (past_place x) sheet table ≡ in_sheet sheet (read_tree (decode₁ s) (place s) first table)
   unfolding Measures past_row past_place
-  past-as (Refused p) m f sheet = ap (λ (q : ℕ). unchanged_at refusal_syntax q sheet table) (f p refl) ∙ ap (in_sheet sheet) (sym (tree-none (decode₁ s) (place s) first table m))
-  past-as (Whole len n d) m f sheet =
-      let a : room_verdict (depth m.tree) (nodes m.tree) (length (canon m.tree)) (length first) (records table) ≡ room_verdict d n len (length first) (records table) =
+  past-as (Err p) m f sheet = ap (λ (q : ℕ). unchanged_at refusal_syntax q sheet table) (f p.place refl) ∙ ap (in_sheet sheet) (sym (tree-none (decode₁ s) (place s) first table m))
+  past-as (Ok x) m f sheet =
+      let a : room_verdict (depth m.tree) (nodes m.tree) (length (canon m.tree)) (length first) (records table) ≡ room_verdict x.depth x.nodes x.len (length first) (records table) =
       λ i. room_verdict (sym m.deepest i) (sym m.counted i) (sym m.long i) (length first) (records table) in
-      let b : len ≡ length s = m.long ∙ ap length (sym (canon-sound s m.tree m.is)) in
-      by_le (room_verdict d n len (length first) (records table)) 0
-      (λ h. let g = roomy d n len (length first) (records table) (omega arith) in absurd (omega (arith, g.lent, g.small, b)))
+      let b : x.len ≡ length s = m.long ∙ ap length (sym (canon-sound s m.tree m.is)) in
+      by_le (room_verdict x.depth x.nodes x.len (length first) (records table)) 0
+      (λ h. let g = roomy x.depth x.nodes x.len (length first) (records table) (omega arith) in absurd (omega (arith, g.lent, g.small, b)))
       (λ h.
-      ap (λ (k : ℕ). unchanged k sheet table) (picked _ _ (lt-ltb 0 (room_verdict d n len (length first) (records table)) h))
-      ∙ ap (in_sheet sheet) (sym (tree-refused (decode₁ s) (place s) first table m.tree m.is (room_verdict d n len (length first) (records table)) (sym a) h)))
+      ap (λ (k : ℕ). unchanged k sheet table) (picked _ _ (lt-ltb 0 (room_verdict x.depth x.nodes x.len (length first) (records table)) h))
+      ∙ ap (in_sheet sheet) (sym (tree-refused (decode₁ s) (place s) first table m.tree m.is (room_verdict x.depth x.nodes x.len (length first) (records table)) (sym a) h)))
 
 -- ---- in turn
 

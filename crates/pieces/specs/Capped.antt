@@ -4,8 +4,8 @@ use Rattle.base.specs.Choice.{pick, both}
 use Rattle.model.specs.Automaton.{State, rests}
 use Rattle.model.specs.Count.{shut}
 use Rattle.model.specs.Limits.{max_source}
-use Rattle.walk.specs.declared.Extent.{Extent}
-use Rattle.walk.specs.declared.Extent.TheVariants.{Whole, Refused}
+use Rattle.walk.specs.Extent.{Measured}
+use Rattle.walk.specs.Extent.{Whole, Refused}
 
 abbrev pub cap : ℕ
 cap = max_source + 1
@@ -18,5 +18,5 @@ abbrev pub whole : State → Bool
 whole x = both (rests x.phase) (shut x.tally)
 
 -- octets, nodes and depth of the tree that is whole, else how many octets begin one
-unfoldable pub extent : State → Extent
+unfoldable pub extent : State → Measured
 extent x = pick (whole x) (Whole x.taken x.tally.seen x.tally.deepest) (Refused x.taken)

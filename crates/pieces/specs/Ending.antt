@@ -1,13 +1,12 @@
 -- The end of a text that came in pieces (S 13.4).
-use Rattle.std.specs.Prelude.{ℕ, ◌≤◌, ◌≡◌, false, List, length, take, leb, ltb}
+use Rattle.std.specs.Prelude.{ℕ, ◌≤◌, ◌≡◌, false, List, length, take, leb, ltb, Ok, Err}
 use Rattle.base.specs.Choice.{pick}
 use Rattle.model.specs.Answers.{Outcome, unchanged_at, unchanged, reading}
 use Rattle.model.specs.Limits.{max_source, refusal_source_size, refusal_syntax, refusal_size, refusal_not_own}
 use Rattle.model.specs.Table.{records}
-use Rattle.walk.specs.declared.Extent.{Extent}
-use Rattle.walk.specs.declared.Extent.TheVariants.{Whole, Refused}
+use Rattle.walk.specs.Extent.{Measured}
 use Rattle.answers.specs.Cases.{outcome}
-use Rattle.answers.specs.declared.Reading.{Reading}
+use Rattle.answers.specs.Cases.{Reading}
 use Rattle.rooms.specs.Rooms.{room_verdict}
 use Rattle.reader.specs.Stored.{Noteable}
 use Rattle.pieces.specs.Capped.{extent}
@@ -32,14 +31,14 @@ pub record End (x : State) (sheet : List ℕ) (lent : ℕ) (table table' : List 
 -- ---- what the code does, whatever the state is
 
 -- the row of a text that went past the sheet. It is never accepted: no state that was handed back says that it has room
-unfoldable pub past_row : Extent → ℕ → ℕ → ℕ
-past_row (Whole len count deep) room n = pick (ltb 0 (room_verdict deep count len room n)) (room_verdict deep count len room n) refusal_size
-past_row (Refused p) room n = refusal_syntax
+unfoldable pub past_row : Measured → ℕ → ℕ → ℕ
+past_row (Ok x) room n = pick (ltb 0 (room_verdict x.depth x.nodes x.len room n)) (room_verdict x.depth x.nodes x.len room n) refusal_size
+past_row (Err p) room n = refusal_syntax
 
 -- S 13.4: with 3, the place of S 7.3
-unfoldable pub past_place : Extent → ℕ
-past_place (Whole len count deep) = 0
-past_place (Refused p) = p
+unfoldable pub past_place : Measured → ℕ
+past_place (Ok x) = 0
+past_place (Err p) = p.place
 
 unfoldable pub ended_by : State → List ℕ → ℕ → List ℕ → Outcome
 ended_by x sheet lent table =

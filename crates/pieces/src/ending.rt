@@ -1,6 +1,7 @@
 // The end of a text that came in pieces: the answer of reading the whole in form 1.
 ghost use Rattle.std.specs.Prelude.{◌≡◌, ◌≤◌, length, take};
 ghost use Rattle.model.specs.Answers.{reading};
+ghost use Rattle.model.specs.Limits.{most_nodes};
 ghost use Rattle.answers.specs.Cases.{outcome, RefusesAt};
 ghost use Rattle.reader.specs.Stored.{Noteable, Puts};
 ghost use Rattle.pieces.specs.Capped.{extent};
@@ -11,8 +12,7 @@ ghost use Rattle.pieces.specs.Ending.{Held, End, past_row, past_place, ended_by}
 use crate::coded::state_in;
 use crate::state::{State, space};
 use crate::track::Track;
-use answers::{Reading, refused, refused_at};
-use walk::Extent;
+use answers::{Reading, Refusal, Sizes};
 
 // Octets that the sheet holds: they are read where they stand.
 fn inside(canonical: &[u8], fed: usize, notes: &mut [usize], records: usize) -> Reading
@@ -20,32 +20,21 @@ fn inside(canonical: &[u8], fed: usize, notes: &mut [usize], records: usize) -> 
     ensures { Puts (reading 1 (take fed canonical.now) canonical.now) canonical.now records notes.new result }
 {
     let part = &canonical[..fed];
-    match sheets::note(part, notes) {
-        Extent::Whole { len, nodes, depth } => {
-            let row = rooms::room(len, nodes, depth, canonical.len(), records);
-            if row > 0 {
-                return refused(row);
-            }
-            Reading::Accepted { length: len, nodes }
-        }
-        Extent::Refused { place } => refused_at(3, place),
-    }
+    let sizes = sheets::note(part, notes)?;
+    rooms::room(sizes, canonical.len(), records)?;
+    Ok(Sizes {
+        length: sizes.len,
+        nodes: sizes.nodes,
+    })
 }
 
 // A text that went past the sheet has no room, whatever it is.
 fn past(track: Track, room: usize, records: usize) -> Reading
     ensures { RefusesAt (past_row (extent (meant track)) room records) (past_place (extent (meant track))) result }
 {
-    match track.extent() {
-        Extent::Whole { len, nodes, depth } => {
-            let row = rooms::room(len, nodes, depth, room, records);
-            if row > 0 {
-                return refused(row);
-            }
-            refused(6)
-        }
-        Extent::Refused { place } => refused_at(3, place),
-    }
+    let sizes = track.extent()?;
+    rooms::room(sizes, room, records)?;
+    Err(Refusal::Size)
 }
 
 // The end but for the table, for which so many records are lent: the notes tell it. Another size than the first time is sent back,
@@ -61,14 +50,14 @@ pub fn end_notes(
     ensures { Puts (ended_by state canonical.now lent) canonical.now records notes.new result }
 {
     if canonical.len() != state.room {
-        return refused(7);
+        return Err(Refusal::NotOwn);
     }
     if lent != state.lent {
-        return refused(7);
+        return Err(Refusal::NotOwn);
     }
     let fed = state.fed;
     if fed > limits::SOURCE {
-        return refused(2);
+        return Err(Refusal::SourceSize);
     }
     if fed <= space(canonical.len()) {
         return inside(canonical, fed, notes, records);
@@ -77,45 +66,18 @@ pub fn end_notes(
     past(track, canonical.len(), records)
 }
 
-// The same and the table, as numbers.
-fn end_in(state: State, canonical: &[u8], table: &mut [u32], notes: &mut [usize]) -> Reading
-    requires { Noteable state.fed (length notes.old) }
+// The same and the table, as numbers, by notes in local space: a short text does not pay for clearing the notes of the largest.
+#[inline(never)]
+fn end_sized<const NOTES: usize>(state: State, canonical: &[u8], table: &mut [u32]) -> Reading
+    requires noteable { Noteable state.fed NOTES }
+    requires bounded { NOTES ≤ most_nodes }
     ensures { outcome result canonical.now table.new ≡ ended_by state canonical.now (length table.old) table.old }
 {
+    let mut notes: [usize; NOTES] = [0; NOTES];
     let records = table.len() / limits::WIDTH;
-    match end_notes(state, canonical, notes, table.len(), records) {
-        Reading::Accepted { length, nodes } => {
-            tables::fill(notes, nodes, table);
-            Reading::Accepted { length, nodes }
-        }
-        Reading::Refused { refusal } => Reading::Refused { refusal },
-    }
-}
-
-// A short text.
-fn end_short(state: State, canonical: &[u8], table: &mut [u32]) -> Reading
-    requires { state.fed ≤ 128 }
-    ensures { outcome result canonical.now table.new ≡ ended_by state canonical.now (length table.old) table.old }
-{
-    let mut notes: [usize; limits::SHORT_NOTES] = [0; limits::SHORT_NOTES];
-    end_in(state, canonical, table, &mut notes)
-}
-
-// Of middle length.
-fn end_middle(state: State, canonical: &[u8], table: &mut [u32]) -> Reading
-    requires { state.fed ≤ 1024 }
-    ensures { outcome result canonical.now table.new ≡ ended_by state canonical.now (length table.old) table.old }
-{
-    let mut notes: [usize; limits::MIDDLE_NOTES] = [0; limits::MIDDLE_NOTES];
-    end_in(state, canonical, table, &mut notes)
-}
-
-// Of any length.
-fn end_long(state: State, canonical: &[u8], table: &mut [u32]) -> Reading
-    ensures { outcome result canonical.now table.new ≡ ended_by state canonical.now (length table.old) table.old }
-{
-    let mut notes: [usize; limits::NODES] = [0; limits::NODES];
-    end_in(state, canonical, table, &mut notes)
+    let sizes = end_notes(state, canonical, &mut notes, table.len(), records)?;
+    tables::fill(&notes, sizes.nodes, table);
+    Ok(sizes)
 }
 
 // The end: the answer of reading the whole in form 1. Another size than the first time is sent back, before all else.
@@ -124,12 +86,12 @@ pub fn end(state: State, canonical: &[u8], table: &mut [u32]) -> Reading
 {
     let fed = state.fed;
     if fed <= limits::SHORT {
-        return end_short(state, canonical, table);
+        return end_sized::<{ limits::SHORT_NOTES }>(state, canonical, table);
     }
     if fed <= limits::MIDDLE {
-        return end_middle(state, canonical, table);
+        return end_sized::<{ limits::MIDDLE_NOTES }>(state, canonical, table);
     }
-    end_long(state, canonical, table)
+    end_sized::<{ limits::NODES }>(state, canonical, table)
 }
 
 // The end but for the table, of a state that numbers say, where so many records are lent: the notes tell them.

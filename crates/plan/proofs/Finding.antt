@@ -19,6 +19,7 @@ use Rattle.tables.specs.Told.{Holds}
 use Rattle.lookup.proofs.Sheets.{tree_of, none_of}
 use Rattle.plan.specs.Asked.{changed, texted, node_of, placeless, placing, change_checks, change_tree}
 use Rattle.plan.specs.Spots.{Refusing}
+use Rattle.answers.specs.declared.refusal.Refusal.TheVariants.{NotOwn, NoNode, NoPlace}
 use Rattle.plan.specs.declared.Asked.{Asked}
 use Rattle.plan.specs.declared.Asked.TheVariants.{Replace, Insert, Remove}
 
@@ -80,13 +81,13 @@ module _ (a : Asked) (canonical : List ℕ) (len : ℕ) (table : List ℕ) (coun
 
 -- ---- by notes
 module _ (notes : List ℕ) (count : ℕ) (a : Asked) where
-  pub refuse-unowned : (own : Bool) → own ≡ false → Refusing notes count own a 7
+  pub refuse-unowned : (own : Bool) → own ≡ false → Refusing notes count own a NotOwn
   refuse-unowned own y = record { is = λ c len table e g u. not_own a c len table count (none_of (own_tree c len table count) (sym y ∙ e)) u }
 
-  pub refuse-beyond : count ≤ node_of a → Refusing notes count true a 8
+  pub refuse-beyond : count ≤ node_of a → Refusing notes count true a NoNode
   refuse-beyond h = record { is = λ c len table e g u. tree_of (own_tree c len table count) e (λ t i. no_node a c len table count t i u h) }
 
-  pub refuse-placeless : node_of a < count → ((t : Tree) → Holds notes count t → placeless a t ≡ true) → Refusing notes count true a 9
+  pub refuse-placeless : node_of a < count → ((t : Tree) → Holds notes count t → placeless a t ≡ true) → Refusing notes count true a NoPlace
   refuse-placeless h p = record { is = λ c len table e g u. tree_of (own_tree c len table count) e (λ t i. no_place a c len table count t i u h (p t (g t i))) }
 
 -- ---- whether a text comes

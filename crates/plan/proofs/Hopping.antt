@@ -16,7 +16,7 @@ use Rattle.tables.specs.Told.{row_by, third_part, row_at, Readable}
 use Rattle.tables.specs.declared.rows.Row as coded
 use Rattle.edits.specs.Element.{element}
 use Rattle.plan.specs.Spots.{Counts, Hoppable, Hops, Shown}
-use Rattle.plan.specs.declared.spots.Reached.TheVariants.{At, Past}
+use Rattle.std.specs.Prelude.{Some, None}
 
 -- ---- the node count that a note tells
 module _ (a b x : ℕ) where
@@ -48,13 +48,13 @@ module _ (notes : List ℕ) (end k from : ℕ) (g : Hoppable (length notes) end 
   hop-start = record { same = refl; near = omega (arith, g.near) }
 
   module _ (left j : ℕ) (v : Hopping notes end k from left j) where
-    pub hop-past : 0 < left → end ≤ j → Hops notes end k from Past
+    pub hop-past : 0 < left → end ≤ j → Hops notes end k from None
     unfolding Hops element
     hop-past h l =
         let z : left ≡ suc (left - 1) = omega arith in
         sym v.same ∙ ap (λ (n : ℕ). element (row_at notes) end n j) z ∙ unpicked _ _ (le-ltb j end l)
 
-    pub hop-end : left ≤ 0 → Hops notes end k from (At j)
+    pub hop-end : left ≤ 0 → Hops notes end k from (Some j)
     unfolding Hops element
     hop-end h = let z : left ≡ 0 = omega arith in sym v.same ∙ ap (λ (n : ℕ). element (row_at notes) end n j) z
 

@@ -12,7 +12,7 @@ use Rattle.edits.proofs.Moved.{new-length}
 use Rattle.plan.specs.Asked.{changed, given}
 use Rattle.plan.specs.Planned.{Sized, Small, AtSpot, Resizable}
 use Rattle.plan.specs.declared.Asked.{Asked}
-use Rattle.plan.specs.declared.Sizes.{Sizes}
+use Rattle.walk.specs.declared.Extent.{Extent}
 
 -- a tree is at most as deep as it has nodes
 mutual
@@ -36,7 +36,7 @@ module _ (len count first n start end level : ℕ) (a : Asked) (t : Tree) (at : 
       let m = moves t in
       (at.spot.ordered, omega (arith, at.spot.ordered, m.octets_in, at.long), omega (arith, m.nodes_in, at.counted))
 
-  pub resizable : (text : Sizes) → Small text → Resizable len count start end n level text
+  pub resizable : (text : Extent) → Small text → Resizable len count start end n level text
   resizable text small =
       record {
         ordered = ordered.0;
@@ -48,7 +48,7 @@ module _ (len count first n start end level : ℕ) (a : Asked) (t : Tree) (at : 
         small = small;
       }
 
-  module _ (u : Tree) (text : Sizes) (s : Sized (given a u) text) where
+  module _ (u : Tree) (text : Extent) (s : Sized (given a u) text) where
     pub long-is : len - (end - start) + text.len ≡ length (canon (changed a t u))
     long-is =
         let y = new-length (moves u) in

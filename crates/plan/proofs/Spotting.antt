@@ -28,10 +28,9 @@ use Rattle.plan.specs.Asked.{changed, given, node_of, placeless}
 use Rattle.plan.specs.Spots.{Recorded, Levels, NodeAt, Kept, EntryAt, Entry, Hoppable, Hops, Shown, SlotAt, Slot, SpotOf, Finds, Findable}
 use Rattle.plan.specs.declared.Asked.{Asked}
 use Rattle.plan.specs.declared.Asked.TheVariants.{Replace, Insert, Remove}
-use Rattle.plan.specs.declared.Found.{Found}
-use Rattle.plan.specs.declared.Found.TheVariants.{Spot, Unfound}
-use Rattle.plan.specs.declared.spots.Reached.{Reached}
-use Rattle.plan.specs.declared.spots.Reached.TheVariants.{At, Past}
+use Rattle.plan.specs.Spots.{Found, found}
+use Rattle.std.specs.Prelude.{Option as Optional, Some, None, Ok, Err}
+use Rattle.answers.specs.declared.refusal.Refusal.TheVariants.{NotOwn, NoNode, NoPlace}
 use Rattle.plan.proofs.Finding.{refuse-unowned, refuse-beyond, refuse-placeless}
 use Rattle.plan.proofs.Levelling.{levels-holders}
 
@@ -45,7 +44,7 @@ positive (suc n) h = omega arith
 
 -- ---- a node
 module _ (notes : List ℕ) (count : ℕ) (kept : Kept notes count) (node : ℕ) where
-  pub entry-beyond : count ≤ node → Entry notes count node (Unfound 8)
+  pub entry-beyond : count ≤ node → Entry notes count node (Err NoNode)
   unfolding Entry
   entry-beyond h = record { row = refl; beyond = h }
 
@@ -56,7 +55,7 @@ module _ (notes : List ℕ) (count : ℕ) (kept : Kept notes count) (node : ℕ)
     pub entry-recorded : Recorded (length notes) node
     entry-recorded = record { few = omega (arith, kept.few); fits = omega (arith, holds-long notes count kept.tree kept.held) }
 
-    pub entry-node : (row : coded.Row) → RowIs row (row_at notes node) → (level : ℕ) → Levels notes node level → Entry notes count node (Spot node row.nodes row.start row.end level)
+    pub entry-node : (row : coded.Row) → RowIs row (row_at notes node) → (level : ℕ) → Levels notes node level → Entry notes count node (found node row.nodes row.start row.end level)
     unfolding Entry
     entry-node row is level l =
         record {
@@ -111,17 +110,17 @@ module _ (notes : List ℕ) (count : ℕ) (kept : Kept notes count) (node : ℕ)
 
   pub replace-found : (r : Found) → Entry notes count node r → Finds notes count true (Replace node) r
   unfolding Entry Finds node_of placeless
-  replace-found (Spot first n start end level) e =
-      record { good = refl; inside = e.inside; has = λ t h. refl; spot = λ t h. replace-spot first n start end level e t h }
-  replace-found (Unfound k) e = rw e.row (refuse-beyond notes count (Replace node) e.beyond)
+  replace-found (Ok s) e =
+      record { good = refl; inside = e.inside; has = λ t h. refl; spot = λ t h. replace-spot s.first s.count s.start s.end s.level e t h }
+  replace-found (Err k) e = rw e.row (refuse-beyond notes count (Replace node) e.beyond)
 
   pub remove-found : (node ≡ 0 → ⊥) → (r : Found) → Entry notes count node r → Finds notes count true (Remove node) r
   unfolding Entry Finds node_of placeless
-  remove-found p (Spot first n start end level) e =
-      record { good = refl; inside = e.inside; has = λ t h. ne_eqb node 0 p; spot = λ t h. remove-spot first n start end level e t h (positive node p) }
-  remove-found p (Unfound k) e = rw e.row (refuse-beyond notes count (Remove node) e.beyond)
+  remove-found p (Ok s) e =
+      record { good = refl; inside = e.inside; has = λ t h. ne_eqb node 0 p; spot = λ t h. remove-spot s.first s.count s.start s.end s.level e t h (positive node p) }
+  remove-found p (Err k) e = rw e.row (refuse-beyond notes count (Remove node) e.beyond)
 
-  pub remove_first : node ≡ 0 → Finds notes count true (Remove node) (Unfound 9)
+  pub remove_first : node ≡ 0 → Finds notes count true (Remove node) (Err NoPlace)
   unfolding Finds node_of placeless
   remove_first h =
       refuse-placeless notes count (Remove node)
@@ -174,12 +173,12 @@ module _ (notes : List ℕ) (count : ℕ) (node k : ℕ) (h : node < count) wher
 
   pub insert-found : (r : Found) → Slot notes count node k r → Finds notes count true (Insert node k) r
   unfolding Slot Finds node_of is_none
-  insert-found (Spot first n start end level) e =
-      record { good = refl; inside = h; has = λ t g. no_slot t g (some first) e.is; spot = λ t g. insert-spot t g first n start end level e }
-  insert-found (Unfound i) e = rw e.row (refuse-placeless notes count (Insert node k) h (λ t g. no_slot t g none e.is))
+  insert-found (Ok s) e =
+      record { good = refl; inside = h; has = λ t g. no_slot t g (some s.first) e.is; spot = λ t g. insert-spot t g s.first s.count s.start s.end s.level e }
+  insert-found (Err i) e = rw e.row (refuse-placeless notes count (Insert node k) h (λ t g. no_slot t g none e.is))
 
 module _ (notes : List ℕ) (count : ℕ) (node k : ℕ) where
-  pub insert-beyond : count ≤ node → Finds notes count true (Insert node k) (Unfound 8)
+  pub insert-beyond : count ≤ node → Finds notes count true (Insert node k) (Err NoNode)
   unfolding Finds node_of
   insert-beyond h = refuse-beyond notes count (Insert node k) h
 
@@ -209,7 +208,7 @@ module _ (notes : List ℕ) (count : ℕ) (kept : Kept notes count) (node k : �
   pub slot_small : node + row.nodes ≤ most_nodes
   slot_small = omega (arith, ends, kept.few)
 
-  pub slot-string : (row.kind ≡ 2 → ⊥) → Slot notes count node k (Unfound 9)
+  pub slot-string : (row.kind ≡ 2 → ⊥) → Slot notes count node k (Err NoPlace)
   unfolding Slot placed
   slot-string n = record { row = refl; is = unpicked _ _ (ne_eqb _ 2 (λ z. n (kind-is ∙ z))) }
 
@@ -221,7 +220,7 @@ module _ (notes : List ℕ) (count : ℕ) (kept : Kept notes count) (node k : �
     unfolding placed
     hopped = picked _ _ (eq-eqb _ 2 (sym kind-is ∙ l)) ∙ ap (λ (c : ℕ). element (row_at notes) (node + c) k (node + 1)) (sym count-is)
 
-    pub slot-past : (r : Reached) → Hops notes (node + row.nodes) k (node + 1) r → r ≡ Past → Slot notes count node k (Unfound 9)
+    pub slot-past : (r : Optional ℕ) → Hops notes (node + row.nodes) k (node + 1) r → r ≡ None → Slot notes count node k (Err NoPlace)
     unfolding Slot Hops
     slot-past r e z =
         let m : element (row_at notes) (node + row.nodes) k (node + 1) ≡ none = subst (Hops notes (node + row.nodes) k (node + 1)) z e in
@@ -233,9 +232,9 @@ module _ (notes : List ℕ) (count : ℕ) (kept : Kept notes count) (node k : �
     pub slot-recorded : Recorded (length notes) node
     slot-recorded = record { few = omega (arith, kept.few); fits = omega (arith, holds-long notes count t kept.held) }
 
-    pub slot_at : (r : Reached) → Hops notes (node + row.nodes) k (node + 1) r → (first : ℕ) → r ≡ At first
+    pub slot_at : (r : Optional ℕ) → Hops notes (node + row.nodes) k (node + 1) r → (first : ℕ) → r ≡ Some first
         → (at : ℕ) → at ≡ pick (ltb first (node + row.nodes)) (row_at notes first).start row.data_end
-        → (level : ℕ) → Levels notes node level → Slot notes count node k (Spot first 0 at at (level + 1))
+        → (level : ℕ) → Levels notes node level → Slot notes count node k (found first 0 at at (level + 1))
     unfolding Slot Hops
     slot_at r e first z at o level v =
         let m : element (row_at notes) (node + row.nodes) k (node + 1) ≡ some first = subst (Hops notes (node + row.nodes) k (node + 1)) z e in
@@ -255,7 +254,7 @@ spot-replace notes count kept a node z r e = subst (λ (b : Asked). Finds notes 
 pub spot-same : (notes : List ℕ) (count : ℕ) (a b : Asked) → a ≡ b → (r : Found) → Finds notes count true b r → Finds notes count true a r
 spot-same notes count a b z r e = subst (λ (x : Asked). Finds notes count true x r) (sym z) e
 
-pub find-unowned : (notes : List ℕ) (count : ℕ) (own : Bool) (a : Asked) → own ≡ false → Finds notes count own a (Unfound 7)
+pub find-unowned : (notes : List ℕ) (count : ℕ) (own : Bool) (a : Asked) → own ≡ false → Finds notes count own a (Err NotOwn)
 unfolding Finds
 find-unowned notes count own a y = refuse-unowned notes count a own y
 

@@ -1,18 +1,19 @@
 -- A change by steps: its spot, the sizes of the new tree, and what rows 7, 8, 9 and 4 to 6 say of it.
-use Rattle.std.specs.Prelude.{ℕ, ◌+◌, ◌-◌, ◌≤◌, ◌≡◌, Bool, true, not, List, length}
+use Rattle.std.specs.Prelude.{ℕ, ◌+◌, ◌-◌, ◌≤◌, ◌≡◌, Bool, true, not, List, length, Result, Ok, Err}
 use Rattle.std.proofs.Math.Option.{some}
 use Rattle.base.specs.Choice.{is_none}
 use Rattle.model.specs.Tree.{Tree, Forest, canon, canons, nodes, nodess, depth, depths}
 use Rattle.model.specs.Table.{records}
 use Rattle.model.specs.Limits.{max_depth, most_nodes, max_canonical}
-use Rattle.model.specs.Answers.{sheet_tree, own_tree, filled, unchanged}
+use Rattle.model.specs.Answers.{sheet_tree, own_tree, filled, unchanged_at}
 use Rattle.lookup.specs.Noted.{Sheet}
 use Rattle.plan.specs.Asked.{changed, given, change_tree}
 use Rattle.plan.specs.Spots.{SpotOf}
 use Rattle.plan.specs.declared.Asked.{Asked}
-use Rattle.plan.specs.declared.Sizes.{Sizes}
+use Rattle.walk.specs.declared.Extent.{Extent}
 use Rattle.plan.specs.declared.Plan.{Plan}
-use Rattle.plan.specs.declared.Plan.TheVariants.{Fits, Misfit}
+use Rattle.answers.specs.Refusals.{number_of, place_in}
+use Rattle.answers.specs.declared.refusal.Refusal.{Refusal}
 
 -- ---- what is lent: a sheet, its notes, and a table that is known by its records' number and a truth value
 
@@ -27,20 +28,20 @@ pub record Lends (c : List ℕ) (len count n : ℕ) (own : Bool) (table : List �
 
 -- ---- sizes
 
-pub record Sized (g : Forest) (s : Sizes) : Type 0 where
+pub record Sized (g : Forest) (s : Extent) : Type 0 where
   pub long : s.len ≡ length (canons g)
   pub counted : s.nodes ≡ nodess g
   pub deepest : s.depth ≡ depths g
 
 -- the sizes of what a text means
-pub record Small (s : Sizes) : Type 0 where
+pub record Small (s : Extent) : Type 0 where
   pub len : s.len ≤ 98304
   pub nodes : s.nodes ≤ 98304
   pub depth : s.depth ≤ 98304
 
 -- ---- the sizes of a tree of which a part of n nodes, under so many lists, gives way to one of the sizes given
 
-pub record Resizable (len count start end n level : ℕ) (text : Sizes) : Type 0 where
+pub record Resizable (len count start end n level : ℕ) (text : Extent) : Type 0 where
   pub ordered : start ≤ end
   pub ended : end ≤ len
   pub fewer : n ≤ count
@@ -49,7 +50,7 @@ pub record Resizable (len count start end n level : ℕ) (text : Sizes) : Type 0
   pub low : level ≤ most_nodes
   pub small : Small text
 
-abbrev pub resized : ℕ → ℕ → ℕ → ℕ → ℕ → ℕ → Sizes → Sizes
+abbrev pub resized : ℕ → ℕ → ℕ → ℕ → ℕ → ℕ → Extent → Extent
 resized len count start end n level text = record { len = len - (end - start) + text.len; nodes = count - n + text.nodes; depth = level + text.depth }
 
 -- ---- the plan
@@ -73,7 +74,7 @@ pub record Taking (t' : Tree) (c : List ℕ) (n len' count' : ℕ) : Type 0 wher
   pub short : len' ≤ max_canonical
   pub lent : len' ≤ length c
 
-pub record Fitting (c : List ℕ) (len count n : ℕ) (own : Bool) (a : Asked) (text : Sizes) (first start end len' count' : ℕ) : Type 0 where
+pub record Fitting (c : List ℕ) (len count n : ℕ) (own : Bool) (a : Asked) (text : Extent) (first start end len' count' : ℕ) : Type 0 where
   pub good : own ≡ true
   pub number : ℕ
   pub level : ℕ
@@ -87,9 +88,9 @@ pub record Fitting (c : List ℕ) (len count n : ℕ) (own : Bool) (a : Asked) (
       → change_tree a (some u) c len table count ≡ filled (changed a tree u) len count c table
 
 -- a row applies to everything of these sizes
-pub record Misfitting (c : List ℕ) (len count n : ℕ) (own : Bool) (a : Asked) (text : Sizes) (number : ℕ) : Type 0 where
-  pub answer : (table : List ℕ) → Lends c len count n own table → (u : Tree) → Sized (given a u) text → change_tree a (some u) c len table count ≡ unchanged number c table
+pub record Misfitting (c : List ℕ) (len count n : ℕ) (own : Bool) (a : Asked) (text : Extent) (f : Refusal) : Type 0 where
+  pub answer : (table : List ℕ) → Lends c len count n own table → (u : Tree) → Sized (given a u) text → change_tree a (some u) c len table count ≡ unchanged_at (number_of f) (place_in f) c table
 
-unfoldable pub Plans : List ℕ → ℕ → ℕ → ℕ → Bool → Asked → Sizes → Plan → Type 0
-Plans c len count n own a text (Fits first start end len' count') = Fitting c len count n own a text first start end len' count'
-Plans c len count n own a text (Misfit k) = Misfitting c len count n own a text k
+unfoldable pub Plans : List ℕ → ℕ → ℕ → ℕ → Bool → Asked → Extent → Result Plan Refusal → Type 0
+Plans c len count n own a text (Ok p) = Fitting c len count n own a text p.first p.start p.end p.length p.nodes
+Plans c len count n own a text (Err f) = Misfitting c len count n own a text f

@@ -1,11 +1,11 @@
 -- Where a change takes place, found by notes: the nodes that give way, their octets, and the lists around them.
-use Rattle.std.specs.Prelude.{ℕ, zero, suc, ◌+◌, ◌-◌, ◌≤◌, ◌<◌, ◌≡◌, Bool, true, false, not, List, take, ltb}
+use Rattle.std.specs.Prelude.{ℕ, zero, suc, ◌+◌, ◌-◌, ◌≤◌, ◌<◌, ◌≡◌, Bool, true, false, not, List, take, ltb, Option, Some, None, Result, Ok, Err}
 use Rattle.std.proofs.Math.Option.{none, some}
 use Rattle.base.specs.Choice.{pick, is_none}
 use Rattle.model.specs.Tree.{Tree, nodes}
 use Rattle.model.specs.Table.{rows, row_of}
 use Rattle.model.specs.Limits.{most_nodes}
-use Rattle.model.specs.Answers.{own_tree, unchanged}
+use Rattle.model.specs.Answers.{own_tree, unchanged_at}
 use Rattle.sheets.specs.Places.{shift}
 use Rattle.tables.specs.Told.{row_at, Readable, Holds}
 use Rattle.edits.specs.Levels.{holders}
@@ -13,10 +13,16 @@ use Rattle.edits.specs.Element.{element, placed, place_octet}
 use Rattle.edits.specs.Moves.{Change}
 use Rattle.plan.specs.Asked.{changed, given, node_of, placeless, change_tree}
 use Rattle.plan.specs.declared.Asked.{Asked}
-use Rattle.plan.specs.declared.Found.{Found}
-use Rattle.plan.specs.declared.Found.TheVariants.{Spot, Unfound}
-use Rattle.plan.specs.declared.spots.Reached.{Reached}
-use Rattle.plan.specs.declared.spots.Reached.TheVariants.{At, Past}
+use Rattle.plan.specs.declared.Spot.{Spot}
+use Rattle.answers.specs.Refusals.{number_of, place_in}
+use Rattle.answers.specs.declared.refusal.Refusal.{Refusal}
+use Rattle.answers.specs.declared.refusal.Refusal.TheVariants.{NoNode, NoPlace}
+
+abbrev pub Found : Type 0
+Found = Result Spot Refusal
+
+abbrev pub found : ℕ → ℕ → ℕ → ℕ → ℕ → Found
+found first n start end level = Ok (record { first = first; count = n; start = start; end = end; level = level })
 
 -- ---- a node
 
@@ -55,13 +61,13 @@ pub record EntryAt (notes : List ℕ) (count node first n start end level : ℕ)
   pub at : (t : Tree) → Holds notes count t → NodeAt start end n level t node
 
 -- or there is none
-pub record NoEntry (count node number : ℕ) : Type 0 where
-  pub row : number ≡ 8
+pub record NoEntry (count node : ℕ) (f : Refusal) : Type 0 where
+  pub row : f ≡ NoNode
   pub beyond : count ≤ node
 
 unfoldable pub Entry : List ℕ → ℕ → ℕ → Found → Type 0
-Entry notes count node (Spot first n start end level) = EntryAt notes count node first n start end level
-Entry notes count node (Unfound k) = NoEntry count node k
+Entry notes count node (Ok s) = EntryAt notes count node s.first s.count s.start s.end s.level
+Entry notes count node (Err f) = NoEntry count node f
 
 -- ---- the k-th element of a list
 
@@ -77,9 +83,9 @@ pub record Hoppable (room end from : ℕ) : Type 0 where
   pub near : from ≤ end
 
 -- over k elements from one on, the node that is reached before the list ends
-unfoldable pub Hops : List ℕ → ℕ → ℕ → ℕ → Reached → Type 0
-Hops notes end k from (At j) = element (row_at notes) end k from ≡ some j
-Hops notes end k from Past = element (row_at notes) end k from ≡ none
+unfoldable pub Hops : List ℕ → ℕ → ℕ → ℕ → Option ℕ → Type 0
+Hops notes end k from (Some j) = element (row_at notes) end k from ≡ some j
+Hops notes end k from None = element (row_at notes) end k from ≡ none
 
 -- the note of the element, if there is one
 pub record Shown (notes : List ℕ) (first end : ℕ) : Type 0 where
@@ -95,13 +101,13 @@ pub record SlotAt (notes : List ℕ) (count node k first n start end level : ℕ
   pub low : level ≤ node + 1
 
 -- or there is none
-pub record NoSlot (notes : List ℕ) (node k number : ℕ) : Type 0 where
-  pub row : number ≡ 9
+pub record NoSlot (notes : List ℕ) (node k : ℕ) (f : Refusal) : Type 0 where
+  pub row : f ≡ NoPlace
   pub is : placed (row_at notes) node k ≡ none
 
 unfoldable pub Slot : List ℕ → ℕ → ℕ → ℕ → Found → Type 0
-Slot notes count node k (Spot first n start end level) = SlotAt notes count node k first n start end level
-Slot notes count node k (Unfound number) = NoSlot notes node k number
+Slot notes count node k (Ok s) = SlotAt notes count node k s.first s.count s.start s.end s.level
+Slot notes count node k (Err f) = NoSlot notes node k f
 
 -- ---- the spot of a change
 
@@ -119,14 +125,14 @@ pub record Finding (notes : List ℕ) (count : ℕ) (own : Bool) (a : Asked) (fi
   pub spot : (t : Tree) → Holds notes count t → SpotOf first n start end level a t
 
 -- row 7, 8 or 9 applies, whatever is put in, to every sheet with these notes
-pub record Refusing (notes : List ℕ) (count : ℕ) (own : Bool) (a : Asked) (number : ℕ) : Type 0 where
+pub record Refusing (notes : List ℕ) (count : ℕ) (own : Bool) (a : Asked) (f : Refusal) : Type 0 where
   pub is : (c : List ℕ) (len : ℕ) (table : List ℕ) → own ≡ not (is_none (own_tree c len table count))
       → ((t : Tree) → own_tree c len table count ≡ some t → Holds notes count t)
-      → (u : Tree) → change_tree a (some u) c len table count ≡ unchanged number c table
+      → (u : Tree) → change_tree a (some u) c len table count ≡ unchanged_at (number_of f) (place_in f) c table
 
 unfoldable pub Finds : List ℕ → ℕ → Bool → Asked → Found → Type 0
-Finds notes count own a (Spot first n start end level) = Finding notes count own a first n start end level
-Finds notes count own a (Unfound k) = Refusing notes count own a k
+Finds notes count own a (Ok s) = Finding notes count own a s.first s.count s.start s.end s.level
+Finds notes count own a (Err f) = Refusing notes count own a f
 
 pub record Findable (notes : List ℕ) (count : ℕ) (own : Bool) : Type 0 where
   pub kept : own ≡ true → Kept notes count

@@ -9,7 +9,9 @@ ghost use Rattle.std.specs.Prelude.{◌≡◌};
 ghost use Rattle.plan.specs.Asked.{texted};
 ghost use Rattle.plan.specs.Planned.{Known, Small, Resizable, resized, Plans};
 
+use answers::Refusal;
 use spots::find;
+use walk::Extent;
 
 // What is asked: a node gives way to a text's tree, a text's tree becomes element k of a list, or a node is removed.
 #[derive(Clone, Copy)]
@@ -19,43 +21,27 @@ pub enum Asked {
     Remove { node: usize },
 }
 
-// The canonical length, the node count and the depth of what comes; all 0 where nothing does.
-#[derive(Clone, Copy)]
-pub struct Sizes {
-    pub len: usize,
+// The nodes that give way: the first one's number and how many they are, their octets, and how many lists are around them.
+#[derive(Clone, Copy, Debug, PartialEq, Eq)]
+pub struct Spot {
+    pub first: usize,
+    pub count: usize,
+    pub start: usize,
+    pub end: usize,
+    pub level: usize,
+}
+
+// A spot, or row 7, 8 or 9.
+pub type Found = Result<Spot, Refusal>;
+
+// The first node that gives way, the octets that do, and the new length and node count.
+#[derive(Clone, Copy, Debug, PartialEq, Eq)]
+pub struct Plan {
+    pub first: usize,
+    pub start: usize,
+    pub end: usize,
+    pub length: usize,
     pub nodes: usize,
-    pub depth: usize,
-}
-
-// The nodes that give way: the first one's number and how many they are, their octets, and how many lists are around them; or the
-// number of the refusal.
-#[derive(Clone, Copy)]
-pub enum Found {
-    Spot {
-        first: usize,
-        count: usize,
-        start: usize,
-        end: usize,
-        level: usize,
-    },
-    Unfound {
-        number: u32,
-    },
-}
-
-// The first node that gives way, the octets that do, and the new length and node count; or the number of the refusal.
-#[derive(Clone, Copy)]
-pub enum Plan {
-    Fits {
-        first: usize,
-        start: usize,
-        end: usize,
-        length: usize,
-        nodes: usize,
-    },
-    Misfit {
-        number: u32,
-    },
 }
 
 // Whether a text comes with it.
@@ -69,24 +55,16 @@ pub fn has_text(asked: Asked) -> bool
     }
 }
 
-// The sizes of a tree of which a part gives way to what has the sizes given. The old tree fits, so that the new one is too deep
+// The sizes of a tree of which a part gives way to what has the sizes given, all 0 where nothing comes. The old tree fits, so that the new one is too deep
 // only where the lists around the part and the text's together are: the depth told is theirs.
-fn resize(
-    length: usize,
-    nodes: usize,
-    start: usize,
-    end: usize,
-    count: usize,
-    level: usize,
-    text: Sizes,
-) -> Sizes
-    requires { Resizable length nodes start end count level text }
-    ensures { result ≡ resized length nodes start end count level text }
+fn resize(length: usize, nodes: usize, spot: Spot, text: Extent) -> Extent
+    requires { Resizable length nodes spot.start spot.end spot.count spot.level text }
+    ensures { result ≡ resized length nodes spot.start spot.end spot.count spot.level text }
 {
-    Sizes {
-        len: length - (end - start) + text.len,
-        nodes: nodes - count + text.nodes,
-        depth: level + text.depth,
+    Extent {
+        len: length - (spot.end - spot.start) + text.len,
+        nodes: nodes - spot.count + text.nodes,
+        depth: spot.level + text.depth,
     }
 }
 
@@ -99,33 +77,20 @@ pub fn judge(
     records: usize,
     nodes: usize,
     asked: Asked,
-    text: Sizes,
-) -> Plan
+    text: Extent,
+) -> Result<Plan, Refusal>
     requires small { Small text }
     requires known { Known canonical.now length nodes records notes.now own }
     ensures { Plans canonical.now length nodes records own asked text result }
 {
-    match find(notes, own, nodes, asked) {
-        Found::Spot {
-            first,
-            count,
-            start,
-            end,
-            level,
-        } => {
-            let to = resize(length, nodes, start, end, count, level, text);
-            let row = rooms::room(to.len, to.nodes, to.depth, canonical.len(), records);
-            if row > 0 {
-                return Plan::Misfit { number: row };
-            }
-            Plan::Fits {
-                first,
-                start,
-                end,
-                length: to.len,
-                nodes: to.nodes,
-            }
-        }
-        Found::Unfound { number } => Plan::Misfit { number },
-    }
+    let spot = find(notes, own, nodes, asked)?;
+    let to = resize(length, nodes, spot, text);
+    rooms::room(to, canonical.len(), records)?;
+    Ok(Plan {
+        first: spot.first,
+        start: spot.start,
+        end: spot.end,
+        length: to.len,
+        nodes: to.nodes,
+    })
 }

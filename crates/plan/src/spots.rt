@@ -4,16 +4,10 @@ ghost use Rattle.base.specs.Choice.{pick};
 ghost use Rattle.tables.specs.Told.{row_at};
 ghost use Rattle.plan.specs.Spots.{Recorded, Levels, Kept, Entry, Counts, Hoppable, Hops, Shown, Slot, Finds, Findable};
 
-use crate::{Asked, Found};
+use crate::{Asked, Found, Spot};
+use answers::Refusal;
 use sheets::notes::LIST;
 use sheets::places::SHIFT;
-
-// A node reached before the list ends, or none.
-#[derive(Clone, Copy)]
-pub enum Reached {
-    At { node: usize },
-    Past,
-}
 
 // How many lists are around a node: of the nodes before it, those that count it among theirs.
 fn level(notes: &[usize], node: usize) -> usize
@@ -37,17 +31,17 @@ fn entry(notes: &[usize], nodes: usize, node: usize) -> Found
     ensures { Entry notes.now nodes node result }
 {
     if node >= nodes {
-        return Found::Unfound { number: 8 };
+        return Err(Refusal::NoNode);
     }
     let row = tables::row_of(notes, node);
     let around = level(notes, node);
-    Found::Spot {
+    Ok(Spot {
         first: node,
         count: row.nodes as usize,
         start: row.start as usize,
         end: row.end as usize,
         level: around,
-    }
+    })
 }
 
 // How many nodes a node has, itself among them.
@@ -63,7 +57,7 @@ fn count_of(notes: &[usize], node: usize) -> usize
 }
 
 // Over k elements, from a node on, of a list whose nodes end before `end`.
-fn hop(notes: &[usize], end: usize, k: usize, from: usize) -> Reached
+fn hop(notes: &[usize], end: usize, k: usize, from: usize) -> Option<usize>
     requires { Hoppable (length notes.now) end from }
     ensures { Hops notes.now end k from result }
 {
@@ -71,12 +65,12 @@ fn hop(notes: &[usize], end: usize, k: usize, from: usize) -> Reached
     let mut j = from;
     while left > 0 {
         if j >= end {
-            return Reached::Past;
+            return None;
         }
         j += count_of(notes, j);
         left -= 1;
     }
-    Reached::At { node: j }
+    Some(j)
 }
 
 // Where the element begins that has a number so far, or the end that is given past the last of them.
@@ -99,23 +93,21 @@ fn slot(notes: &[usize], nodes: usize, node: usize, k: usize) -> Found
 {
     let row = tables::row_of(notes, node);
     if row.kind != 2 {
-        return Found::Unfound { number: 9 };
+        return Err(Refusal::NoPlace);
     }
     let end = node + row.nodes as usize;
-    match hop(notes, end, k, node + 1) {
-        Reached::At { node: first } => {
-            let at = octet(notes, first, end, row.data_end as usize);
-            let around = level(notes, node);
-            Found::Spot {
-                first,
-                count: 0,
-                start: at,
-                end: at,
-                level: around + 1,
-            }
-        }
-        Reached::Past => Found::Unfound { number: 9 },
-    }
+    let Some(first) = hop(notes, end, k, node + 1) else {
+        return Err(Refusal::NoPlace);
+    };
+    let at = octet(notes, first, end, row.data_end as usize);
+    let around = level(notes, node);
+    Ok(Spot {
+        first,
+        count: 0,
+        start: at,
+        end: at,
+        level: around + 1,
+    })
 }
 
 // The place of an element that comes in: row 8 before row 9.
@@ -124,7 +116,7 @@ fn insertion(notes: &[usize], nodes: usize, node: usize, k: usize) -> Found
     ensures { Finds notes.now nodes true (Asked.Insert node k) result }
 {
     if node >= nodes {
-        return Found::Unfound { number: 8 };
+        return Err(Refusal::NoNode);
     }
     slot(notes, nodes, node, k)
 }
@@ -135,7 +127,7 @@ fn removal(notes: &[usize], nodes: usize, node: usize) -> Found
     ensures { Finds notes.now nodes true (Asked.Remove node) result }
 {
     if node == 0 {
-        return Found::Unfound { number: 9 };
+        return Err(Refusal::NoPlace);
     }
     entry(notes, nodes, node)
 }
@@ -160,5 +152,5 @@ pub fn find(notes: &[usize], own: bool, nodes: usize, asked: Asked) -> Found
     if own {
         return spot(notes, nodes, asked);
     }
-    Found::Unfound { number: 7 }
+    Err(Refusal::NotOwn)
 }

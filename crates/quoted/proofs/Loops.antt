@@ -1,7 +1,7 @@
 -- A quoted string in which nothing is escaped.
 use Prim.Native.Nat.{ℕ, ◌+◌, ◌-◌, ◌≤◌, ◌<◌}
 use native.Mathlib.Omega.{arith}
-use mathlib.Core.Path.{◌≡◌, ap, ◌∙◌}
+use mathlib.Core.Path.{◌≡◌, refl, ap, ◌∙◌}
 use mathlib.Core.List.{List, [], append-nil}
 use lib.ListN.{length, take, drop, get_or}
 use Rattle.model.specs.Grammar.{rules}
@@ -15,7 +15,7 @@ module _ (src : List ℕ) (at j : ℕ) (s : Stretch (marked rules 34) src at (ta
   unfolding bind Quotes
   unescaped-whole h e =
       let z : j + 1 - at - 1 ≡ j - at = omega (arith, s.on) in
-      let c : Last (marked rules 34) src j [] (j + 1) = piece-quote src j h e in
+      let c : Last (marked rules 34) src j [] (j + 1) = piece-quote src j h _ refl e in
       record {
         from = omega (arith, s.on);
         within = omega arith;

@@ -17,9 +17,10 @@ use Rattle.scan.specs.Runs.{Reach}
 use Rattle.scan.proofs.Passing.{stretch-none, stretch-on}
 use Rattle.scan.proofs.Places.{one-here, part-more}
 use Rattle.scan.proofs.Reaching.{reach-by}
+use Rattle.std.specs.Prelude.{Option, Some, None}
 use Rattle.quoted.specs.Pieces.{Escapes, Quotes}
 use Rattle.quoted.specs.declared.escapes.Piece.{Piece}
-use Rattle.quoted.specs.declared.escapes.Piece.TheVariants.{One, Gone, Quote, NoPiece}
+use Rattle.quoted.specs.declared.escapes.Piece.TheVariants.{One, Gone, Quote}
 
 printed : (b c : ℕ) → is_printable c ≡ false → is_printable b ≡ true → b ≡ c → ⊥
 printed b c f t e = differ t (ap is_printable e ∙ f)
@@ -40,37 +41,40 @@ not_plain b c k h = k.printable ∙ lt-leb 4 c h
 
 -- ---- a piece
 module _ (src : List ℕ) (at : ℕ) where
-  pub piece-end : length src ≤ at → Quotes src at NoPiece
+  pub piece-end : length src ≤ at → Quotes src at None
   unfolding Quotes marked quoted_by
   piece-end h = ap (marked rules 34) (drop_of_length-le src h)
 
-  module _ (h : at < length src) where
-    pub piece-quote : get_or src at 0 ≡ 34 → Quotes src at (Quote (at + 1))
+  module _ (h : at < length src) (p : ℕ) (is : p ≡ get_or src at 0) where
+    begins : marked rules 34 (drop at src) ≡ marked rules 34 (p ∷ drop (at + 1) src)
+    begins = rw is (ap (marked rules 34) (one-here src at h))
+
+    pub piece-quote : p ≡ 34 → Quotes src at (Some (Quote (at + 1)))
     unfolding Quotes marked
-    piece-quote e = record { on = omega arith; within = omega arith; ends = ap (marked rules 34) (one-here src at h) ∙ quoted-end (get_or src at 0) (drop (at + 1) src) e }
+    piece-quote e = record { on = omega arith; within = omega arith; ends = begins ∙ quoted-end p (drop (at + 1) src) e }
 
-    module _ (n : get_or src at 0 ≡ 34 → ⊥) where
-      chunk : (g : List ℕ) (next : ℕ) → at < next → next ≤ length src → at + length g ≤ next → piece_of rules (get_or src at 0 ∷ drop (at + 1) src) ≡ got g (drop next src) → Chunk (marked rules 34) src at g next
+    module _ (n : p ≡ 34 → ⊥) where
+      chunk : (g : List ℕ) (next : ℕ) → at < next → next ≤ length src → at + length g ≤ next → piece_of rules (p ∷ drop (at + 1) src) ≡ got g (drop next src) → Chunk (marked rules 34) src at g next
       unfolding marked
-      chunk g next i j k e = record { on = i; few = k; within = j; more = ap (marked rules 34) (one-here src at h) ∙ quoted-next (get_or src at 0) (drop (at + 1) src) g (drop next src) n e }
+      chunk g next i j k e = record { on = i; few = k; within = j; more = begins ∙ quoted-next p (drop (at + 1) src) g (drop next src) n e }
 
-      none_here : piece_of rules (get_or src at 0 ∷ drop (at + 1) src) ≡ refused → Quotes src at NoPiece
+      none_here : piece_of rules (p ∷ drop (at + 1) src) ≡ refused → Quotes src at None
       unfolding Quotes marked
-      none_here e = ap (marked rules 34) (one-here src at h) ∙ quoted-none (get_or src at 0) (drop (at + 1) src) n e
+      none_here e = begins ∙ quoted-none p (drop (at + 1) src) n e
 
-      pub piece-escaped : get_or src at 0 ≡ 92 → (r : Piece) → Escapes src (escaped rules (drop (at + 1) src)) (at + 1) r → Quotes src at r
+      pub piece-escaped : p ≡ 92 → (r : Option Piece) → Escapes src (escaped rules (drop (at + 1) src)) (at + 1) r → Quotes src at r
       unfolding Quotes Escapes piece_of
-      piece-escaped e (One o next) p = chunk (o ∷ []) next (omega (arith, p.on)) p.within (omega (arith, p.on)) (picked _ _ (eq-eqb _ _ e) ∙ p.reads)
-      piece-escaped e (Gone next) p = chunk [] next (omega (arith, p.on)) p.within (omega (arith, p.on)) (picked _ _ (eq-eqb _ _ e) ∙ p.reads)
-      piece-escaped e (Quote next) p = absurd p
-      piece-escaped e NoPiece p = none_here (picked _ _ (eq-eqb _ _ e) ∙ p)
+      piece-escaped e (Some (One o next)) w = chunk (o ∷ []) next (omega (arith, w.on)) w.within (omega (arith, w.on)) (picked _ _ (eq-eqb _ _ e) ∙ w.reads)
+      piece-escaped e (Some (Gone next)) w = chunk [] next (omega (arith, w.on)) w.within (omega (arith, w.on)) (picked _ _ (eq-eqb _ _ e) ∙ w.reads)
+      piece-escaped e (Some (Quote next)) w = absurd w
+      piece-escaped e None w = none_here (picked _ _ (eq-eqb _ _ e) ∙ w)
 
-      module _ (m : get_or src at 0 ≡ 92 → ⊥) (c : ℕ) (k : Class (get_or src at 0) c) where
-        pub piece-plain : 4 ≤ c → Quotes src at (One (get_or src at 0) (at + 1))
+      module _ (m : p ≡ 92 → ⊥) (c : ℕ) (k : Class p c) where
+        pub piece-plain : 4 ≤ c → Quotes src at (Some (One p (at + 1)))
         unfolding Quotes piece_of
-        piece-plain l = chunk (get_or src at 0 ∷ []) (at + 1) (omega arith) (omega arith) (omega arith) (unpicked _ _ (ne_eqb _ _ m) ∙ picked _ _ (plain _ c k l))
+        piece-plain l = chunk (p ∷ []) (at + 1) (omega arith) (omega arith) (omega arith) (unpicked _ _ (ne_eqb _ _ m) ∙ picked _ _ (plain _ c k l))
 
-        pub piece-none : c < 4 → Quotes src at NoPiece
+        pub piece-none : c < 4 → Quotes src at None
         unfolding piece_of
         piece-none l = none_here (unpicked _ _ (ne_eqb _ _ m) ∙ unpicked _ _ (not_plain _ c k l))
 
@@ -83,7 +87,7 @@ one_plain : (src : List ℕ) (i c : ℕ) → i < length src → Class (get_or sr
 unfolding piece_of
 one_plain src i c h k l =
     let q : is_printable (get_or src i 0) ≡ true = plain _ c k l in
-    chunk src i h (not-quote _ q) (get_or src i 0 ∷ []) (i + 1) (omega arith) (omega arith) (omega arith) (unpicked _ _ (ne_eqb _ _ (not-backslash _ q)) ∙ picked _ _ q)
+    chunk src i h _ refl (not-quote _ q) (get_or src i 0 ∷ []) (i + 1) (omega arith) (omega arith) (omega arith) (unpicked _ _ (ne_eqb _ _ (not-backslash _ q)) ∙ picked _ _ q)
 
 plain_more : (src : List ℕ) (at i c : ℕ) → Stretch (marked rules 34) src at (take (i - at) (drop at src)) i → i < length src → Class (get_or src i 0) c → 4 ≤ c → Stretch (marked rules 34) src at (take (i + 1 - at) (drop at src)) (i + 1)
 plain_more src at i c t h k l =

@@ -4,7 +4,6 @@
 ghost use Rattle.std.specs.Prelude.{◌-◌, ◌≤◌, length, take, drop};
 ghost use Rattle.model.specs.Grammar.{rules};
 ghost use Rattle.model.specs.Strings.{marked};
-ghost use Rattle.octets.specs.Classes.{Classed};
 ghost use Rattle.scan.specs.Marks.{Stretch};
 ghost use Rattle.quoted.specs.Pieces.{Quotes, Unescaped};
 
@@ -15,46 +14,40 @@ use scan::class_end;
 pub mod escapes; // escapes.rt: what stands after a backslash
 
 // A piece of the string, or its end.
-pub fn piece_at(classes: &[u8; 256], src: &[u8], at: usize) -> Piece
-    requires classed { Classed classes.now }
-    requires at_in_bounds { at ≤ length src.now }
+pub fn piece_at(src: &[u8], at: usize) -> Option<Piece>
+    requires { at ≤ length src.now }
     ensures { Quotes src.now at result }
 {
-    if at >= src.len() {
-        return Piece::NoPiece;
-    }
-    let b = src[at];
+    let b = *src.get(at)?;
     if b == b'"' {
-        return Piece::Quote { next: at + 1 };
+        return Some(Piece::Quote { next: at + 1 });
     }
     if b == b'\\' {
-        return escape_at(classes, src, at + 1);
+        return escape_at(src, at + 1);
     }
-    if class_of(classes, b) < octets::SPACE {
-        return Piece::NoPiece;
+    if class_of(b) < octets::SPACE {
+        return None;
     }
-    Piece::One {
+    Some(Piece::One {
         octet: b,
         next: at + 1,
-    }
+    })
 }
 
 // The end of a run of octets that stand for themselves.
-pub fn plain_end(classes: &[u8; 256], src: &[u8], at: usize) -> usize
-    requires classed { Classed classes.now }
-    requires at_in_bounds { at ≤ length src.now }
+pub fn plain_end(src: &[u8], at: usize) -> usize
+    requires { at ≤ length src.now }
     ensures { Stretch (marked rules 34) src.now at (take (result - at) (drop at src.now)) result }
 {
-    class_end(classes, src, at, src.len(), octets::SPACE)
+    class_end(src, at, src.len(), octets::SPACE)
 }
 
 // The place after the closing mark of a string in which nothing is escaped; `at` itself where it is another.
-pub fn unescaped_end(classes: &[u8; 256], src: &[u8], at: usize) -> usize
-    requires classed { Classed classes.now }
-    requires at_in_bounds { at ≤ length src.now }
+pub fn unescaped_end(src: &[u8], at: usize) -> usize
+    requires { at ≤ length src.now }
     ensures { Unescaped src.now at result }
 {
-    let end = plain_end(classes, src, at);
+    let end = plain_end(src, at);
     if end < src.len() {
         if src[end] == b'"' {
             return end + 1;

@@ -4,7 +4,6 @@ ghost use Rattle.model.specs.Octets.{letter, leftover};
 ghost use Rattle.model.specs.Grammar.{rules};
 ghost use Rattle.model.specs.Strings.{unbase};
 ghost use Rattle.model.proofs.Streams.{between};
-ghost use Rattle.octets.specs.Classes.{Classed, Lettered};
 ghost use Rattle.radix64.specs.declared.steps.Group.TheVariants.{Rest};
 ghost use Rattle.radix64.specs.Steps.{Closing, Letters, Groups, allowed};
 
@@ -13,16 +12,15 @@ use octets::letter_of;
 use scan::skip_at;
 
 // A letter, a pad or the closing mark.
-#[derive(Clone, Copy)]
+#[derive(Clone, Copy, Debug, PartialEq, Eq)]
 pub enum Letter {
     Char { octet: u8, next: usize },
     Pad { next: usize },
     End { next: usize },
-    NoLetter,
 }
 
 // The values of four letters; or, before the closing mark, the values of the letters of `len` octets.
-#[derive(Clone, Copy)]
+#[derive(Clone, Copy, Debug, PartialEq, Eq)]
 pub enum Group {
     Four {
         a: u8,
@@ -38,190 +36,138 @@ pub enum Group {
         c: u8,
         next: usize,
     },
-    NoGroup,
 }
 
 // The next letter, pad or mark.
-pub fn letter_at(
-    classes: &[u8; 256],
-    letters: &[u8; 256],
-    src: &[u8],
-    at: usize,
-    mark: u8,
-) -> Letter
-    requires classed { Classed classes.now }
-    requires lettered { Lettered letters.now }
-    requires at_in_bounds { (at ≤ length src.now) × Closing mark }
+pub fn letter_at(src: &[u8], at: usize, mark: u8) -> Option<Letter>
+    requires { (at ≤ length src.now) × Closing mark }
     ensures { Letters mark src.now at result }
 {
-    let i = skip_at(classes, src, at);
-    if i >= src.len() {
-        return Letter::NoLetter;
-    }
-    let x = src[i];
+    let i = skip_at(src, at);
+    let x = *src.get(i)?;
     if x == mark {
-        return Letter::End { next: i + 1 };
+        return Some(Letter::End { next: i + 1 });
     }
     if x == b'=' {
-        return Letter::Pad { next: i + 1 };
+        return Some(Letter::Pad { next: i + 1 });
     }
-    if letter_of(letters, x) >= 64 {
-        return Letter::NoLetter;
+    if letter_of(x) >= 64 {
+        return None;
     }
-    Letter::Char {
+    Some(Letter::Char {
         octet: x,
         next: i + 1,
-    }
+    })
 }
 
 // Two letters at the end.
-fn last_two(a: u8, b: u8, next: usize) -> Group
+fn last_two(a: u8, b: u8, next: usize) -> Option<Group>
     ensures { result ≡ allowed (leftover (b % 16)) (Rest 1 a b 0 next) }
 {
     if bits::leftover(b % 16) {
-        return Group::Rest {
+        return Some(Group::Rest {
             len: 1,
             a,
             b,
             c: 0,
             next,
-        };
+        });
     }
-    Group::NoGroup
+    None
 }
 
 // Three letters at the end.
-fn last_three(a: u8, b: u8, c: u8, next: usize) -> Group
+fn last_three(a: u8, b: u8, c: u8, next: usize) -> Option<Group>
     ensures { result ≡ allowed (leftover (c % 4)) (Rest 2 a b c next) }
 {
     if bits::leftover(c % 4) {
-        return Group::Rest {
+        return Some(Group::Rest {
             len: 2,
             a,
             b,
             c,
             next,
-        };
+        });
     }
-    Group::NoGroup
+    None
 }
 
 // After three letters.
-fn group_4(
-    classes: &[u8; 256],
-    letters: &[u8; 256],
-    src: &[u8],
-    at: usize,
-    mark: u8,
-    x: u8,
-    y: u8,
-    z: u8,
-) -> Group
-    requires classed { Classed classes.now }
-    requires lettered { Lettered letters.now }
-    requires at_in_bounds { (at ≤ length src.now) × Closing mark × (letter x < 64) × (letter y < 64) × (letter z < 64) }
+fn group_4(src: &[u8], at: usize, mark: u8, x: u8, y: u8, z: u8) -> Option<Group>
+    requires { (at ≤ length src.now) × Closing mark × (letter x < 64) × (letter y < 64) × (letter z < 64) }
     ensures { Groups mark src.now (between mark (unbase rules) (x ∷ y ∷ z ∷ []) (drop at src.now)) 3 at result }
 {
-    let a = letter_of(letters, x);
-    let b = letter_of(letters, y);
-    let c = letter_of(letters, z);
-    match letter_at(classes, letters, src, at, mark) {
-        Letter::Char { octet, next } => Group::Four {
+    let a = letter_of(x);
+    let b = letter_of(y);
+    let c = letter_of(z);
+    match letter_at(src, at, mark)? {
+        Letter::Char { octet, next } => Some(Group::Four {
             a,
             b,
             c,
-            e: letter_of(letters, octet),
+            e: letter_of(octet),
             next,
-        },
+        }),
         Letter::End { next } => last_three(a, b, c, next),
-        Letter::Pad { next } => match letter_at(classes, letters, src, next, mark) {
+        Letter::Pad { next } => match letter_at(src, next, mark)? {
             Letter::End { next: last } => last_three(a, b, c, last),
-            Letter::Char { .. } => Group::NoGroup,
-            Letter::Pad { .. } => Group::NoGroup,
-            Letter::NoLetter => Group::NoGroup,
+            Letter::Char { .. } => None,
+            Letter::Pad { .. } => None,
         },
-        Letter::NoLetter => Group::NoGroup,
     }
 }
 
 // After two letters and a pad.
-fn padded(
-    classes: &[u8; 256],
-    letters: &[u8; 256],
-    src: &[u8],
-    at: usize,
-    mark: u8,
-    x: u8,
-    y: u8,
-) -> Group
-    requires classed { Classed classes.now }
-    requires lettered { Lettered letters.now }
-    requires at_in_bounds { (at ≤ length src.now) × Closing mark × (letter x < 64) × (letter y < 64) }
+fn padded(src: &[u8], at: usize, mark: u8, x: u8, y: u8) -> Option<Group>
+    requires { (at ≤ length src.now) × Closing mark × (letter x < 64) × (letter y < 64) }
     ensures { Groups mark src.now (between mark (unbase rules) (x ∷ y ∷ 61 ∷ []) (drop at src.now)) 3 at result }
 {
-    let a = letter_of(letters, x);
-    let b = letter_of(letters, y);
-    match letter_at(classes, letters, src, at, mark) {
+    let a = letter_of(x);
+    let b = letter_of(y);
+    match letter_at(src, at, mark)? {
         Letter::End { next } => last_two(a, b, next),
-        Letter::Pad { next } => match letter_at(classes, letters, src, next, mark) {
+        Letter::Pad { next } => match letter_at(src, next, mark)? {
             Letter::End { next: last } => last_two(a, b, last),
-            Letter::Char { .. } => Group::NoGroup,
-            Letter::Pad { .. } => Group::NoGroup,
-            Letter::NoLetter => Group::NoGroup,
+            Letter::Char { .. } => None,
+            Letter::Pad { .. } => None,
         },
-        Letter::Char { .. } => Group::NoGroup,
-        Letter::NoLetter => Group::NoGroup,
+        Letter::Char { .. } => None,
     }
 }
 
 // After two letters.
-fn group_3(
-    classes: &[u8; 256],
-    letters: &[u8; 256],
-    src: &[u8],
-    at: usize,
-    mark: u8,
-    x: u8,
-    y: u8,
-) -> Group
-    requires classed { Classed classes.now }
-    requires lettered { Lettered letters.now }
-    requires at_in_bounds { (at ≤ length src.now) × Closing mark × (letter x < 64) × (letter y < 64) }
+fn group_3(src: &[u8], at: usize, mark: u8, x: u8, y: u8) -> Option<Group>
+    requires { (at ≤ length src.now) × Closing mark × (letter x < 64) × (letter y < 64) }
     ensures { Groups mark src.now (between mark (unbase rules) (x ∷ y ∷ []) (drop at src.now)) 2 at result }
 {
-    match letter_at(classes, letters, src, at, mark) {
-        Letter::Char { octet, next } => group_4(classes, letters, src, next, mark, x, y, octet),
-        Letter::End { next } => last_two(letter_of(letters, x), letter_of(letters, y), next),
-        Letter::Pad { next } => padded(classes, letters, src, next, mark, x, y),
-        Letter::NoLetter => Group::NoGroup,
+    match letter_at(src, at, mark)? {
+        Letter::Char { octet, next } => group_4(src, next, mark, x, y, octet),
+        Letter::End { next } => last_two(letter_of(x), letter_of(y), next),
+        Letter::Pad { next } => padded(src, next, mark, x, y),
     }
 }
 
 // A group, or what comes last.
-pub fn group_at(classes: &[u8; 256], letters: &[u8; 256], src: &[u8], at: usize, mark: u8) -> Group
-    requires classed { Classed classes.now }
-    requires lettered { Lettered letters.now }
-    requires at_in_bounds { (at ≤ length src.now) × Closing mark }
+pub fn group_at(src: &[u8], at: usize, mark: u8) -> Option<Group>
+    requires { (at ≤ length src.now) × Closing mark }
     ensures { Groups mark src.now (between mark (unbase rules) [] (drop at src.now)) 0 at result }
 {
-    match letter_at(classes, letters, src, at, mark) {
-        Letter::Char { octet: x, next } => match letter_at(classes, letters, src, next, mark) {
+    match letter_at(src, at, mark)? {
+        Letter::Char { octet: x, next } => match letter_at(src, next, mark)? {
             Letter::Char {
                 octet: y,
                 next: last,
-            } => group_3(classes, letters, src, last, mark, x, y),
-            Letter::End { .. } => Group::NoGroup,
-            Letter::Pad { .. } => Group::NoGroup,
-            Letter::NoLetter => Group::NoGroup,
+            } => group_3(src, last, mark, x, y),
+            Letter::End { .. } => None,
+            Letter::Pad { .. } => None,
         },
-        Letter::End { next } => Group::Rest {
+        Letter::End { next } => Some(Group::Rest {
             len: 0,
             a: 0,
             b: 0,
             c: 0,
             next,
-        },
-        Letter::Pad { .. } => Group::NoGroup,
-        Letter::NoLetter => Group::NoGroup,
+        }),
+        Letter::Pad { .. } => None,
     }
 }

@@ -1,7 +1,7 @@
 -- The entry: rows 1 and 2, and then what the text's tree gives, in local space of one of several sizes.
 use Prim.Native.Nat.{ℕ, ◌+◌, ◌*◌, ◌≤◌, ◌<◌}
 use native.Mathlib.Omega.{arith}
-use mathlib.Core.Path.{◌≡◌, sym, ap, ◌∙◌}
+use mathlib.Core.Path.{◌≡◌, refl, sym, ap, ◌∙◌}
 use mathlib.Core.Bool.{Bool, true}
 use mathlib.Core.List.{List}
 use lib.ListN.{length}
@@ -16,17 +16,15 @@ use Rattle.texts.specs.Texts.{text_verdict, Formed, Literal, Bare}
 use Rattle.model.proofs.Telling.{telling-same}
 use Rattle.texts.proofs.Rows.{row_other, text-refused, text-taken}
 use Rattle.texts.proofs.Sizes.{small-takes, long-takes}
-use Rattle.answers.specs.Cases.{outcome, Refuses}
-use Rattle.answers.specs.declared.Reading.{Reading}
-use Rattle.answers.specs.declared.Reading.TheVariants as answer
+use Rattle.answers.specs.Cases.{Reading, Judging, Judges, outcome, Refuses}
+use Rattle.answers.specs.declared.refusal.Refusal.{Refusal}
+use Rattle.answers.proofs.Judged.{judged-refuses, judged-row}
+use Rattle.std.specs.Prelude.{Ok, Err, ⊤}
 use Rattle.model.specs.Table.{table_of}
 use Rattle.reader.specs.Stored.{read_tree, Noteable, halved, most, Spaced, Puts}
 use Rattle.reader.proofs.Storing.{puts-refused}
 
 -- ---- local space
-
-pub formed-less : (form n : ℕ) → Formed form n max_source → (bound : ℕ) → n ≤ bound → Formed form n bound
-formed-less form n f bound l = record { low = f.low; high = f.high; short = l }
 
 module _ (form n s m : ℕ) where
   pub small-spaced : (bound : ℕ) → Formed form n bound → bound ≤ max_source → 3 * bound + 64 ≤ s → s < shift → 3 * bound ≤ 2 * m → Spaced form n s m
@@ -59,32 +57,36 @@ module _ (form : ℕ) (source : List ℕ) (b : Bool) (g : Bare form source b) (e
       f ∙ sym (rw ((g.bared e).is, z, (g.bared e).told))
 
 -- ---- rows 1 and 2
-module _ (form : ℕ) (source canonical table : List ℕ) (n : ℕ) (v : n ≡ text_verdict form (length source)) where
-  pub read-refused : 0 < n → (a : Reading) → Refuses n a → outcome a canonical table ≡ reading form source canonical table
+module _ (form : ℕ) (source canonical table : List ℕ) (r : Judging) (j : Judges (text_verdict form (length source)) r) where
+  pub read-refused : (f : Refusal) → r ≡ Err f → outcome (Err f) canonical table ≡ reading form source canonical table
   unfolding reading reading_checks
-  read-refused h a f =
-      f.is canonical table
-      ∙ sym (ap (telling (place_of form source)) (text-refused form source _ _ (λ (k : ℕ). unchanged k canonical table) n v h)
-      ∙ telling-same (place_of form source) (unchanged n canonical table) (row_other form (length source) n v))
+  read-refused f e =
+      let n : ℕ = text_verdict form (length source) in
+      (judged-refuses n r j f e).is canonical table
+      ∙ sym (ap (telling (place_of form source)) (text-refused form source _ _ (λ (k : ℕ). unchanged k canonical table) n refl (judged-row n r j f e))
+      ∙ telling-same (place_of form source) (unchanged n canonical table) (row_other form (length source) n refl))
 
-  pub read_taken : n ≤ 0 → (canonical' table' : List ℕ) (a : Reading) → outcome a canonical' table' ≡ read_tree (decode form source) (place_of form source) canonical table → outcome a canonical' table' ≡ reading form source canonical table
+  pub read_taken : (u : ⊤) → r ≡ Ok u → (canonical' table' : List ℕ) (a : Reading) → outcome a canonical' table' ≡ read_tree (decode form source) (place_of form source) canonical table → outcome a canonical' table' ≡ reading form source canonical table
   unfolding reading reading_checks read_tree
-  read_taken h canonical' table' a f = f ∙ sym (ap (telling (place_of form source)) (text-taken form source _ _ (λ (k : ℕ). unchanged k canonical table) n v h))
+  read_taken u e canonical' table' a f =
+      f ∙ sym (ap (telling (place_of form source)) (text-taken form source _ _ (λ (k : ℕ). unchanged k canonical table) (text_verdict form (length source)) refl (omega (arith, j.passes u e))))
 
 -- ---- the same, of an answer whose table is told by notes
-module _ (form : ℕ) (source canonical notes : List ℕ) (k n : ℕ) (v : n ≡ text_verdict form (length source)) where
-  pub notes-refused : 0 < n → (a : Reading) → Refuses n a → Puts (reading form source canonical) canonical k notes a
-  notes-refused h a f = puts-refused (reading form source canonical) canonical notes k n h 0 a f (λ table z. read-refused form source canonical table n v h a f)
+module _ (form : ℕ) (source canonical notes : List ℕ) (k : ℕ) (r : Judging) (j : Judges (text_verdict form (length source)) r) where
+  pub notes-refused : (f : Refusal) → r ≡ Err f → Puts (reading form source canonical) canonical k notes (Err f)
+  notes-refused f e =
+      puts-refused (reading form source canonical) canonical notes k _ (judged-row _ r j f e) 0 (Err f) (judged-refuses _ r j f e)
+      (λ table z. read-refused form source canonical table r j f e)
 
-  module _ (canonical' : List ℕ) (h : n ≤ 0) where
+  module _ (canonical' : List ℕ) (u : ⊤) (e : r ≡ Ok u) where
     pub notes-taken : (a : Reading) → Puts (read_tree (decode form source) (place_of form source) canonical) canonical' k notes a → Puts (reading form source canonical) canonical' k notes a
     unfolding Puts
-    notes-taken (answer.Accepted len count) p =
+    notes-taken (Ok s) p =
         record {
           tree = p.tree;
           held = p.held;
           recorded = p.recorded;
           few = p.few;
-          is = λ table z. read_taken form source canonical table n v h canonical' (sets table 0 (table_of p.tree)) (answer.Accepted len count) (p.is table z);
+          is = λ table z. read_taken form source canonical table r j u e canonical' (sets table 0 (table_of p.tree)) (Ok s) (p.is table z);
         }
-    notes-taken (answer.Refused f) p = λ table z. read_taken form source canonical table n v h canonical' table (answer.Refused f) (p table z)
+    notes-taken (Err f) p = λ table z. read_taken form source canonical table r j u e canonical' table (Err f) (p table z)

@@ -1,5 +1,5 @@
 -- Reading by steps: what a text's tree, if it has one, gives.
-use Rattle.std.specs.Prelude.{ℕ, ◌*◌, ◌≤◌, ◌≡◌, List, ◌∷◌}
+use Rattle.std.specs.Prelude.{ℕ, ◌*◌, ◌≤◌, ◌≡◌, List, ◌∷◌, Ok, Err}
 use Rattle.std.proofs.Math.Option.{Option}
 use Rattle.std.proofs.lemmas.List.Edits.{sets}
 use Rattle.base.specs.Choice.{is_none}
@@ -7,9 +7,7 @@ use Rattle.model.specs.Tree.{Tree}
 use Rattle.model.specs.Table.{records, table_of}
 use Rattle.model.specs.Limits.{most_nodes, refusal_syntax}
 use Rattle.model.specs.Answers.{Outcome, when, judged, the, room_checks, filled, unchanged, telling}
-use Rattle.answers.specs.declared.Reading.{Reading}
-use Rattle.answers.specs.declared.Reading.TheVariants as reading
-use Rattle.answers.specs.Cases.{outcome}
+use Rattle.answers.specs.Cases.{Reading, accepted, outcome}
 use Rattle.tables.specs.Told.{Holds}
 use Rattle.texts.specs.Texts.{Takeable}
 
@@ -37,9 +35,9 @@ pub record Accepting (answer : List ℕ → Outcome) (canonical : List ℕ) (n :
   pub held : Holds notes count tree
   pub recorded : count ≤ n
   pub few : count ≤ most_nodes
-  pub is : (table : List ℕ) → records table ≡ n → outcome (reading.Accepted len count) canonical (sets table 0 (table_of tree)) ≡ answer table
+  pub is : (table : List ℕ) → records table ≡ n → outcome (accepted len count) canonical (sets table 0 (table_of tree)) ≡ answer table
 
 -- the answer for every table of n records, filled from notes where the answer is an acceptance
 unfoldable pub Puts : (List ℕ → Outcome) → List ℕ → ℕ → List ℕ → Reading → Type 0
-Puts answer canonical n notes (reading.Accepted len count) = Accepting answer canonical n notes len count
-Puts answer canonical n notes (reading.Refused f) = (table : List ℕ) → records table ≡ n → outcome (reading.Refused f) canonical table ≡ answer table
+Puts answer canonical n notes (Ok s) = Accepting answer canonical n notes s.length s.nodes
+Puts answer canonical n notes (Err f) = (table : List ℕ) → records table ≡ n → outcome (Err f) canonical table ≡ answer table

@@ -11,8 +11,8 @@ ghost use Rattle.answers.specs.Cases.{outcome};
 ghost use Rattle.texts.specs.Texts.{Literal};
 ghost use Rattle.reader.specs.Stored.{read_tree, Noteable, Spaced, Puts};
 
-use answers::{Reading, refused, refused_at};
-use walk::Extent;
+use answers::{Reading, Sizes};
+use tiers::{put_sized, read_literal, read_sized};
 
 // All but the table, for which so many records are lent: the text judged and its octets put. The notes tell the table.
 pub fn put(
@@ -26,17 +26,13 @@ pub fn put(
     requires { Spaced form (length source.now) (length scratch.old) (length notes.old) }
     ensures { Puts (read_tree (decode form source.now) (place_of form source.now) canonical.old) canonical.new records notes.new result }
 {
-    match texts::take(form, source, scratch, notes) {
-        Extent::Whole { len, nodes, depth } => {
-            let row = rooms::room(len, nodes, depth, canonical.len(), records);
-            if row > 0 {
-                return refused(row);
-            }
-            scan::copy(scratch, 0, len, canonical, 0);
-            Reading::Accepted { length: len, nodes }
-        }
-        Extent::Refused { place } => refused_at(3, place),
-    }
+    let sizes = texts::take(form, source, scratch, notes)?;
+    rooms::room(sizes, canonical.len(), records)?;
+    scan::copy(scratch, 0, sizes.len, canonical, 0);
+    Ok(Sizes {
+        length: sizes.len,
+        nodes: sizes.nodes,
+    })
 }
 
 // The same of canonical text, whose octets are its own: no scratch is asked for.
@@ -51,17 +47,13 @@ pub fn put_literal(
     requires noteable { Noteable (length source.now) (length notes.old) }
     ensures { Puts (read_tree (decode form source.now) (place_of form source.now) canonical.old) canonical.new records notes.new result }
 {
-    match texts::take_literal(form, source, notes) {
-        Extent::Whole { len, nodes, depth } => {
-            let row = rooms::room(len, nodes, depth, canonical.len(), records);
-            if row > 0 {
-                return refused(row);
-            }
-            scan::copy(source, 0, len, canonical, 0);
-            Reading::Accepted { nodes, length: len }
-        }
-        Extent::Refused { place } => refused_at(3, place),
-    }
+    let sizes = texts::take_literal(form, source, notes)?;
+    rooms::room(sizes, canonical.len(), records)?;
+    scan::copy(source, 0, sizes.len, canonical, 0);
+    Ok(Sizes {
+        nodes: sizes.nodes,
+        length: sizes.len,
+    })
 }
 
 // A text that rows 1 and 2 don't apply to, in the local space lent.
@@ -77,13 +69,9 @@ fn read_in(
     ensures { outcome result canonical.new table.new ≡ read_tree (decode form source.now) (place_of form source.now) canonical.old table.old }
 {
     let records = table.len() / limits::WIDTH;
-    match put(form, source, canonical, records, scratch, notes) {
-        Reading::Accepted { length, nodes } => {
-            tables::fill(notes, nodes, table);
-            Reading::Accepted { length, nodes }
-        }
-        Reading::Refused { refusal } => Reading::Refused { refusal },
-    }
+    let sizes = put(form, source, canonical, records, scratch, notes)?;
+    tables::fill(notes, sizes.nodes, table);
+    Ok(sizes)
 }
 
 // A text of the form named (1 canonical, 2 basic, 3 advanced, 4 advanced with trees in braces) into canonical octets and the node
@@ -94,25 +82,30 @@ pub fn read(form: u32, source: &[u8], canonical: &mut [u8], table: &mut [u32]) -
 {
     // Lent again, a slice goes on in registers.
     let source = &*source;
-    let row = texts::row(form, source.len());
-    if row > 0 {
-        return refused(row);
-    }
-    // Besides, a function that calls itself does not take the local space of every size into its own frame, which each short call
-    // would pay for.
+    texts::row(form, source.len())?;
+    // Basic text outside braces is canonical text.
     if texts::bare(form, source) {
         return read(1, source, canonical, table);
     }
     if source.len() <= tiers::BRIEF {
-        return tiers::read_brief(form, source, canonical, table);
+        return read_sized::<{ tiers::BRIEF_SCRATCH }, { tiers::BRIEF_NOTES }>(
+            form, source, canonical, table,
+        );
     }
     if source.len() <= limits::SHORT {
-        return tiers::read_short(form, source, canonical, table);
+        return read_sized::<{ limits::SHORT_SCRATCH }, { limits::SHORT_NOTES }>(
+            form, source, canonical, table,
+        );
     }
     if source.len() <= limits::MIDDLE {
-        return tiers::read_middle(form, source, canonical, table);
+        return read_sized::<{ limits::MIDDLE_SCRATCH }, { limits::MIDDLE_NOTES }>(
+            form, source, canonical, table,
+        );
     }
-    tiers::read_long(form, source, canonical, table)
+    if texts::literal(form) {
+        return read_literal(form, source, canonical, table);
+    }
+    read_sized::<{ limits::LONG_SCRATCH }, { limits::NODES }>(form, source, canonical, table)
 }
 
 // The same but for the table, for which so many records are lent: the notes tell it.
@@ -126,16 +119,16 @@ pub fn read_notes(
     requires { Noteable (length source.now) (length notes.old) }
     ensures { Puts (reading form source.now canonical.old) canonical.new records notes.new result }
 {
-    let row = texts::row(form, source.len());
-    if row > 0 {
-        return refused(row);
+    texts::row(form, source.len())?;
+    if source.len() <= limits::SHORT {
+        let mut scratch: [u8; limits::SHORT_SCRATCH] = [0; limits::SHORT_SCRATCH];
+        return put(form, source, canonical, records, &mut scratch, notes);
     }
-    // A function that is called at two places keeps a frame of its own; else each short call would pay for the largest.
-    if source.len() > limits::MIDDLE {
-        return tiers::put_more(form, source, canonical, records, notes);
+    if source.len() <= limits::MIDDLE {
+        return put_sized::<{ limits::MIDDLE_SCRATCH }>(form, source, canonical, records, notes);
     }
-    if source.len() > limits::SHORT {
-        return tiers::put_more(form, source, canonical, records, notes);
+    if texts::literal(form) {
+        return put_literal(form, source, canonical, records, notes);
     }
-    tiers::put_short(form, source, canonical, records, notes)
+    put_sized::<{ limits::LONG_SCRATCH }>(form, source, canonical, records, notes)
 }

@@ -6,7 +6,7 @@ use Rattle.model.specs.Answers.{own_tree}
 use Rattle.lookup.specs.Noted.{Owned}
 use Rattle.lookup.proofs.Noting.{owned-held}
 use Rattle.reader.specs.Stored.{Puts}
-use Rattle.answers.specs.declared.Reading.{Reading}
+use Rattle.answers.specs.Cases.{Reading}
 use Rattle.extracts.specs.Extracting.{extracting_own}
 use Rattle.extracts.proofs.Answered.{own-sheet}
 use Rattle.extract.specs.Given.{Judges, Judged, Gives}

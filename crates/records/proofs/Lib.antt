@@ -1,4 +1,3 @@
-pub mod Sizes
 pub mod Tables
 pub mod Tabling
 pub mod Owning

@@ -10,8 +10,9 @@ use Rattle.std.specs.Borrow.{Bor}
 use Rattle.model.specs.Answers.{Part, octets_at, hint_part, data_part, hint_shown, data_shown, shown_or}
 use Rattle.answers.specs.Cases.{placed}
 use Rattle.answers.specs.Shown.{Shows, shown_at}
-use Rattle.answers.specs.declared.Place.{Place}
-use Rattle.answers.specs.declared.Place.TheVariants as place
+use Rattle.answers.specs.Cases.{Place}
+use Rattle.answers.specs.declared.Part as told
+use Rattle.std.specs.Prelude.{Some, None}
 use Rattle.lookup.proofs.Shown.{hint-ordered, hint-ended, data-ordered, data-ended}
 use Rattle.records.specs.declared.Record.{Record}
 use Rattle.records.specs.Numbers.{numbers, part_of}
@@ -28,35 +29,35 @@ place-noted c len ys count node h notes own p o s = s.is c len (numbers ys) o
 
 module _ (p : Place) (c : List ℕ) (len : ℕ) (t : List ℕ) (count node : ℕ) where
   pub hint-in : placed p ≡ hint_part c len t count node → Inside p (length c)
-  hint-in w = record { ordered = λ s e q. hint-ordered c len t count node p w s e q; ended = λ s e q. hint-ended c len t count node p w s e q }
+  hint-in w = record { ordered = λ x q. hint-ordered c len t count node p w x q; ended = λ x q. hint-ended c len t count node p w x q }
 
   pub data-in : placed p ≡ data_part c len t count node → Inside p (length c)
-  data-in w = record { ordered = λ s e q. data-ordered c len t count node p w s e q; ended = λ s e q. data-ended c len t count node p w s e q }
+  data-in w = record { ordered = λ x q. data-ordered c len t count node p w x q; ended = λ x q. data-ended c len t count node p w x q }
 
-module _ (p : Place) (s e : ℕ) (q : p ≡ place.Part s e) where
-  pub place-ordered : (n : ℕ) → Inside p n → s ≤ e
-  place-ordered n i = i.ordered s e q
+module _ (p : Place) (found : told.Part) (q : p ≡ Some found) where
+  pub place-ordered : (n : ℕ) → Inside p n → found.start ≤ found.end
+  place-ordered n i = i.ordered found q
 
-  pub place-ended : (n : ℕ) → Inside p n → e ≤ n
-  place-ended n i = i.ended s e q
+  pub place-ended : (n : ℕ) → Inside p n → found.end ≤ n
+  place-ended n i = i.ended found q
 
-  pub place-shown : (c d : List ℕ) → take (e - s) (drop s c) ≡ shown_or (placed p) c d
+  pub place-shown : (c d : List ℕ) → take (found.end - found.start) (drop found.start c) ≡ shown_or (placed p) c d
   unfolding placed shown_or octets_at
   place-shown c d = sym (ap (λ (x : Place). shown_or (placed x) c d) q)
 
-  pub place_at : (x y : ℕ × ℕ) → (x.0, s + x.1) ≡ shown_at (placed p) x y
+  pub place_at : (x y : ℕ × ℕ) → (x.0, found.start + x.1) ≡ shown_at (placed p) x y
   unfolding placed shown_at
   place_at x y = sym (ap (λ (p : Place). shown_at (placed p) x y) q)
 
-pub place_none : (p : Place) (c d : List ℕ) → p ≡ place.NoPart → d ≡ shown_or (placed p) c d
+pub place_none : (p : Place) (c d : List ℕ) → p ≡ None → d ≡ shown_or (placed p) c d
 unfolding placed shown_or
 place_none p c d q = sym (ap (λ (x : Place). shown_or (placed x) c d) q)
 
-pub place-none-at : (p : Place) (x y : ℕ × ℕ) → p ≡ place.NoPart → y ≡ shown_at (placed p) x y
+pub place-none-at : (p : Place) (x y : ℕ × ℕ) → p ≡ None → y ≡ shown_at (placed p) x y
 unfolding placed shown_at
 place-none-at p x y q = sym (ap (λ (p : Place). shown_at (placed p) x y) q)
 
-pub place-front-at : (p : Place) (x : ℕ × ℕ) → p ≡ place.NoPart → (x.0, 0 + x.1) ≡ shown_at (placed p) x x
+pub place-front-at : (p : Place) (x : ℕ × ℕ) → p ≡ None → (x.0, 0 + x.1) ≡ shown_at (placed p) x x
 place-front-at p x q = let e : 0 + x.1 ≡ x.1 = omega arith in (λ i. (x.0, e i)) ∙ place-none-at p x x q
 
 -- ---- what a place shows

@@ -1,5 +1,5 @@
 -- The records that notes tell are those of the table whose notes they are, and zeros past it.
-use mathlib.Core.Path.{◌≡◌, refl, sym, ◌∙◌, ap, ap₂}
+use mathlib.Core.Path.{◌≡◌, refl, sym, ◌∙◌, ap, ap₂, subst}
 use mathlib.Core.List.{List, [], ◌∷◌, ◌++◌, append_assoc, head-eq_of_cons-eq, tail-eq_of_cons-eq}
 use Prim.Native.Nat.{ℕ, zero, suc, ◌+◌, ◌*◌, ◌-◌, ◌<◌, ◌≤◌, max}
 use native.Mathlib.Nat.{add-zero, add-suc}
@@ -17,16 +17,17 @@ use Rattle.tables.specs.Rows.{record_list, RowIs}
 use Rattle.tables.specs.Told.{row_at, Readable, Holds}
 use Rattle.tables.specs.declared.rows.Row as coded
 use Rattle.tables.proofs.Telling.{holds_row, holds-parent, holds-readable}
-use Rattle.reader.specs.Stored.{Puts}
+use Rattle.reader.specs.Stored.{Accepting, Puts}
 use Rattle.reader.proofs.Judged.{settled-front}
-use Rattle.editor.specs.Given.{Gives}
+use Rattle.editor.specs.Given.{Giving, Gives}
 use Rattle.answers.specs.Cases.{outcome}
-use Rattle.answers.specs.declared.Reading.{Reading}
-use Rattle.answers.specs.declared.Reading.TheVariants.{Accepted, Refused}
-use Rattle.answers.specs.declared.Refusal.{Refusal}
+use Rattle.answers.specs.Cases.{Reading}
+use Rattle.answers.specs.declared.refusal.Refusal.{Refusal}
+use Rattle.answers.specs.declared.Sizes.{Sizes}
+use Rattle.std.specs.Prelude.{Ok, Err}
 use Rattle.records.specs.declared.Record.{Record}
 use Rattle.records.specs.Numbers.{nine, numbers}
-use Rattle.records.specs.Told.{nil, touched, record_of, parent_at, count_of, told_at, told_records, Tellable, Tells}
+use Rattle.records.specs.Told.{nil, record_of, parent_at, told_at, told_records, Tellable, Tells}
 use Rattle.records.proofs.Tables.{length-numbers, numbers-set, nine-more, next-nine}
 
 -- ---- one record
@@ -63,24 +64,15 @@ module _ (notes : List ℕ) (count i : ℕ) where
   unfolding told_at
   told-past h = unpicked _ _ (le-ltb i count h)
 
-module _ (notes : List ℕ) (r : Reading) (i : ℕ) where
-  module _ (len count : ℕ) (e : r ≡ Accepted len count) where
-    count-is : count_of r ≡ count
-    unfolding count_of
-    count-is = ap count_of e
+module _ (notes : List ℕ) (count i : ℕ) where
+  pub told-readable : Tellable notes count i → i < count → Readable notes i
+  told-readable g h = g.read h
 
-    pub told-readable : Tellable notes r i → i < count → Readable notes i
-    told-readable g h = g.read (omega (arith, count-is))
+  pub told-row : i < count → (row : coded.Row) → RowIs row (row_at notes i) → (up : ℕ) → up ≡ parent_at notes i → (z : Record) → nine z ≡ record_list row up → z ≡ told_at notes count i
+  told-row h row is up u z f = nine-one z (record_of (row_at notes i) (parent_at notes i)) (f ∙ ap₂ (λ (l : List ℕ) (p : ℕ). l ++ (p ∷ [])) is u) ∙ sym (told-inside notes count i h)
 
-    pub told-row : i < count → (row : coded.Row) → RowIs row (row_at notes i) → (up : ℕ) → up ≡ parent_at notes i → (z : Record) → nine z ≡ record_list row up → z ≡ told_at notes (count_of r) i
-    told-row h row is up u z f = nine-one z (record_of (row_at notes i) (parent_at notes i)) (f ∙ ap₂ (λ (l : List ℕ) (p : ℕ). l ++ (p ∷ [])) is u) ∙ sym (told-inside notes (count_of r) i (omega (arith, count-is)))
-
-    pub told-zero : count ≤ i → (z : Record) → z ≡ nil → z ≡ told_at notes (count_of r) i
-    told-zero h z f = f ∙ sym (told-past notes (count_of r) i (omega (arith, count-is)))
-
-  pub told-refused : (f : Refusal) → r ≡ Refused f → (z : Record) → z ≡ nil → z ≡ told_at notes (count_of r) i
-  unfolding count_of
-  told-refused f e z k = let c : count_of r ≡ 0 = ap count_of e in k ∙ sym (told-past notes (count_of r) i (omega (arith, c)))
+  pub told-zero : count ≤ i → (z : Record) → z ≡ nil → z ≡ told_at notes count i
+  told-zero h z f = f ∙ sym (told-past notes count i h)
 
 -- ---- n of them
 
@@ -162,33 +154,51 @@ module _ (answer : List ℕ → Outcome) (c : List ℕ) (ys : List Record) (note
   records-are : table.records (numbers ys) ≡ length ys
   records-are = omega (arith, length-numbers ys)
 
-  pub put-tells : (r : Reading) → Puts answer c (length ys) notes r → Tells notes r 0 (length ys)
-  unfolding Puts count_of touched
-  put-tells (Accepted len count) p = record { lent = omega (arith, p.recorded); read = λ i h. holds-readable notes count p.tree p.held i h }
-  put-tells (Refused f) p = record { lent = omega arith; read = λ i h. absurd (omega arith) }
+  module _ (r : Reading) (p : Puts answer c (length ys) notes r) where
+    module _ (s : Sizes) (e : r ≡ Ok s) where
+      accepting : Accepting answer c (length ys) notes s.length s.nodes
+      unfolding Puts
+      accepting = subst (Puts answer c (length ys) notes) e p
 
-  pub put-told : (r : Reading) → Puts answer c (length ys) notes r → outcome r c (numbers (told_records notes (count_of r) (touched r 0) ys)) ≡ answer (numbers ys)
-  unfolding Puts count_of touched told_records
-  put-told (Accepted len count) p =
-      ap (outcome (Accepted len count) c) (
-      told-settled notes count p.tree p.held 0 ys (omega (arith, p.recorded))
-      ∙ settled-front (numbers ys) (table_of p.tree) (omega (arith, table-length p.tree, p.held.counted, p.recorded, length-numbers ys)))
-      ∙ p.is (numbers ys) records-are
-  put-told (Refused f) p = p (numbers ys) records-are
+      pub put-tells : Tells notes s.nodes 0 (length ys)
+      put-tells = record { lent = omega (arith, accepting.recorded); read = λ i h. holds-readable notes s.nodes accepting.tree accepting.held i h }
+
+      pub put-told : (zs : List Record) → zs ≡ told_records notes s.nodes (max 0 s.nodes) ys → outcome (Ok s) c (numbers zs) ≡ answer (numbers ys)
+      put-told zs z =
+          let a = accepting in
+          ap (outcome (Ok s) c) (
+          ap numbers z
+          ∙ told-settled notes s.nodes a.tree a.held 0 ys (omega (arith, a.recorded))
+          ∙ settled-front (numbers ys) (table_of a.tree) (omega (arith, table-length a.tree, a.held.counted, a.recorded, length-numbers ys)))
+          ∙ a.is (numbers ys) records-are
+
+    pub put-refused : (f : Refusal) → r ≡ Err f → outcome (Err f) c (numbers ys) ≡ answer (numbers ys)
+    unfolding Puts
+    put-refused f e =
+        let g : (t : List ℕ) → table.records t ≡ length ys → outcome (Err f) c t ≡ answer t = subst (Puts answer c (length ys) notes) e p in
+        g (numbers ys) records-are
 
 -- ---- the same where old records were in use
 
-module _ (Lent : List ℕ → Type 0) (answer : List ℕ → Outcome) (c : List ℕ) (ys : List Record) (notes : List ℕ) (old : ℕ) where
-  pub give-tells : (r : Reading) → Gives Lent answer c (length ys) notes old r → Tells notes r old (length ys)
-  unfolding Gives count_of touched
-  give-tells (Accepted len count) p = record { lent = omega (arith, p.recorded.0, p.recorded.1); read = λ i h. holds-readable notes count p.tree p.held i h }
-  give-tells (Refused f) p = record { lent = omega arith; read = λ i h. absurd (omega arith) }
+module _ (Lent : List ℕ → Type 0) (answer : List ℕ → Outcome) (c : List ℕ) (ys : List Record) (notes : List ℕ) (old : ℕ) (r : Reading) (p : Gives Lent answer c (length ys) notes old r) where
+  module _ (s : Sizes) (e : r ≡ Ok s) where
+    giving : Giving Lent answer c (length ys) notes old s.length s.nodes
+    unfolding Gives
+    giving = subst (Gives Lent answer c (length ys) notes old) e p
 
-  pub give-told : Lent (numbers ys) → (r : Reading) → Gives Lent answer c (length ys) notes old r → outcome r c (numbers (told_records notes (count_of r) (touched r old) ys)) ≡ answer (numbers ys)
-  unfolding Gives count_of touched told_records
-  give-told l (Accepted len count) p =
-      ap (outcome (Accepted len count) c) (told-settled notes count p.tree p.held old ys (omega (arith, p.recorded.0, p.recorded.1))) ∙ p.is (numbers ys) l
-  give-told l (Refused f) p = p (numbers ys) l
+    pub give-tells : Tells notes s.nodes old (length ys)
+    give-tells = record { lent = omega (arith, giving.recorded.0, giving.recorded.1); read = λ i h. holds-readable notes s.nodes giving.tree giving.held i h }
+
+    pub give-told : Lent (numbers ys) → (zs : List Record) → zs ≡ told_records notes s.nodes (max old s.nodes) ys → outcome (Ok s) c (numbers zs) ≡ answer (numbers ys)
+    give-told l zs z =
+        ap (outcome (Ok s) c) (ap numbers z ∙ told-settled notes s.nodes giving.tree giving.held old ys (omega (arith, giving.recorded.0, giving.recorded.1)))
+        ∙ giving.is (numbers ys) l
+
+  pub give-refused : Lent (numbers ys) → (f : Refusal) → r ≡ Err f → outcome (Err f) c (numbers ys) ≡ answer (numbers ys)
+  unfolding Gives
+  give-refused l f e =
+      let g : (table : List ℕ) → Lent table → outcome (Err f) c table ≡ answer table = subst (Gives Lent answer c (length ys) notes old) e p in
+      g (numbers ys) l
 
 -- ---- the loop that tells them
 
@@ -196,15 +206,15 @@ one_more : (i : ℕ) → i + 1 ≡ suc i
 one_more i = add-suc i zero ∙ ap suc (add-zero i)
 
 -- i of n records are told
-pub record Telling (notes : List ℕ) (r : Reading) (before : List Record) (n i : ℕ) (now : List Record) : Type 0 where
+pub record Telling (notes : List ℕ) (count : ℕ) (before : List Record) (n i : ℕ) (now : List Record) : Type 0 where
   pub few : i ≤ n
-  pub told : now ≡ told_records notes (count_of r) i before
+  pub told : now ≡ told_records notes count i before
 
-pub telling-none : (notes : List ℕ) (r : Reading) (before : List Record) (n : ℕ) → Telling notes r before n 0 before
+pub telling-none : (notes : List ℕ) (count : ℕ) (before : List Record) (n : ℕ) → Telling notes count before n 0 before
 unfolding told_records
-telling-none notes r before n = record { few = omega arith; told = refl }
+telling-none notes count before n = record { few = omega arith; told = refl }
 
-pub telling-on : (notes : List ℕ) (r : Reading) (before : List Record) (n i : ℕ) (now : List Record) → Telling notes r before n i now → i < n → (z : Record) → z ≡ told_at notes (count_of r) i
-    → Telling notes r before n (i + 1) (set now i z)
+pub telling-on : (notes : List ℕ) (count : ℕ) (before : List Record) (n i : ℕ) (now : List Record) → Telling notes count before n i now → i < n → (z : Record) → z ≡ told_at notes count i
+    → Telling notes count before n (i + 1) (set now i z)
 unfolding told_records
-telling-on notes r before n i now g h z k = record { few = omega arith; told = rw (g.told, k, one_more i) refl }
+telling-on notes count before n i now g h z k = record { few = omega arith; told = rw (g.told, k, one_more i) refl }

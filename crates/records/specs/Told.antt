@@ -3,8 +3,6 @@ use Rattle.std.specs.Prelude.{ℕ, zero, suc, ◌≤◌, ◌<◌, max, List, get
 use Rattle.base.specs.Choice.{pick}
 use Rattle.model.specs.Table.{Row}
 use Rattle.tables.specs.Told.{row_at, parent_part, Readable}
-use Rattle.answers.specs.declared.Reading.{Reading}
-use Rattle.answers.specs.declared.Reading.TheVariants as reading
 use Rattle.records.specs.declared.Record.{Record}
 
 -- a record of zeros
@@ -30,17 +28,6 @@ record_of r up =
 abbrev pub parent_at : List ℕ → ℕ → ℕ
 parent_at notes i = parent_part (get_or notes i 0)
 
--- how many nodes an answer gives; S 7.2: 0 in a refusal
-unfoldable pub count_of : Reading → ℕ
-count_of (reading.Accepted len count) = count
-count_of (reading.Refused f) = 0
-
--- how many records an answer may change, where `old` were in use. S 8.3: past the new and a larger old count nothing changes; S 7.2: in a
--- refusal nothing does
-unfoldable pub touched : Reading → ℕ → ℕ
-touched (reading.Accepted len count) old = max old count
-touched (reading.Refused f) old = 0
-
 -- record i of count nodes: the one that its note tells, and zeros past the count
 unfoldable pub told_at : List ℕ → ℕ → ℕ → Record
 told_at notes count i = pick (ltb i count) (record_of (row_at notes i) (parent_at notes i)) nil
@@ -51,10 +38,10 @@ told_records notes count zero xs = xs
 told_records notes count (suc n) xs = set (told_records notes count n xs) n (told_at notes count n)
 
 -- the note of a node can be read
-pub record Tellable (notes : List ℕ) (r : Reading) (i : ℕ) : Type 0 where
-  pub read : i < count_of r → Readable notes i
+pub record Tellable (notes : List ℕ) (count i : ℕ) : Type 0 where
+  pub read : i < count → Readable notes i
 
--- the records that an answer touches are lent, and the notes of its nodes can be read
-pub record Tells (notes : List ℕ) (r : Reading) (old room : ℕ) : Type 0 where
-  pub lent : touched r old ≤ room
-  pub read : (i : ℕ) → i < count_of r → Readable notes i
+-- the records of a sheet and of the one before it are lent, and the notes of its nodes can be read
+pub record Tells (notes : List ℕ) (count old room : ℕ) : Type 0 where
+  pub lent : max old count ≤ room
+  pub read : (i : ℕ) → i < count → Readable notes i

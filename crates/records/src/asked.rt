@@ -1,6 +1,7 @@
 // A sheet changed as asked: its records compared with it, its octets changed, and the records told by the new notes. These stand in
 // local space, in three sizes by the sheet's node count and the text's length.
-ghost use Rattle.std.specs.Prelude.{◌≡◌, ◌*◌, length};
+ghost use Rattle.std.specs.Prelude.{◌≡◌, ◌≤◌, ◌*◌, length};
+ghost use Rattle.model.specs.Limits.{most_nodes};
 ghost use Rattle.answers.specs.Cases.{outcome};
 ghost use Rattle.plan.specs.Asked.{changing};
 ghost use Rattle.plan.specs.declared.Asked.TheVariants.{Replace, Insert, Remove};
@@ -8,7 +9,7 @@ ghost use Rattle.editor.specs.Given.{Noteable};
 ghost use Rattle.records.specs.Numbers.{numbers};
 
 use crate::own::own_by;
-use crate::{Record, tell_by};
+use crate::{Record, tell};
 use answers::Reading;
 use plan::Asked;
 
@@ -39,8 +40,8 @@ pub fn remove_node(node: usize) -> Asked
     Asked::Remove { node }
 }
 
-// In the local space lent.
-pub fn change_in(
+// By the notes lent.
+fn change_in(
     form: u32,
     text: &[u8],
     canonical: &mut [u8],
@@ -54,7 +55,7 @@ pub fn change_in(
     ensures { outcome result canonical.new (numbers records.new) ≡ changing asked form text.now canonical.old (numbers records.old) old held }
 {
     let own = own_by(canonical, old, records, held, notes);
-    let r = editor::change_by(
+    let sizes = editor::change_by(
         form,
         text,
         canonical,
@@ -64,13 +65,14 @@ pub fn change_in(
         old,
         held,
         asked,
-    );
-    tell_by(records, notes, r, held);
-    r
+    )?;
+    tell(records, notes, sizes.nodes, held);
+    Ok(sizes)
 }
 
-// A sheet and a text of any length.
-pub fn change_long(
+// The same, by notes in a frame of its own, as in `read_sized`.
+#[inline(never)]
+fn change_sized<const NOTES: usize>(
     form: u32,
     text: &[u8],
     canonical: &mut [u8],
@@ -79,35 +81,15 @@ pub fn change_long(
     held: usize,
     asked: Asked,
 ) -> Reading
+    requires noteable { Noteable held (2 * length text.now) NOTES }
+    requires bounded { NOTES ≤ most_nodes }
     ensures { outcome result canonical.new (numbers records.new) ≡ changing asked form text.now canonical.old (numbers records.old) old held }
 {
-    let mut notes: [usize; limits::NODES] = [0; limits::NODES];
+    let mut notes: [usize; NOTES] = [0; NOTES];
     change_in(form, text, canonical, records, old, held, asked, &mut notes)
 }
 
-// The same, in less space where both are no longer than middle.
-pub fn change_middle(
-    form: u32,
-    text: &[u8],
-    canonical: &mut [u8],
-    records: &mut [Record],
-    old: usize,
-    held: usize,
-    asked: Asked,
-) -> Reading
-    ensures { outcome result canonical.new (numbers records.new) ≡ changing asked form text.now canonical.old (numbers records.old) old held }
-{
-    if held > MIDDLE {
-        return change_long(form, text, canonical, records, old, held, asked);
-    }
-    if text.len() > MIDDLE {
-        return change_long(form, text, canonical, records, old, held, asked);
-    }
-    let mut notes: [usize; limits::MIDDLE_NOTES] = [0; limits::MIDDLE_NOTES];
-    change_in(form, text, canonical, records, old, held, asked, &mut notes)
-}
-
-// The same, in the least space where both are short.
+// By both lengths.
 pub fn change(
     form: u32,
     text: &[u8],
@@ -119,12 +101,18 @@ pub fn change(
 ) -> Reading
     ensures { outcome result canonical.new (numbers records.new) ≡ changing asked form text.now canonical.old (numbers records.old) old held }
 {
-    if held > SHORT {
-        return change_middle(form, text, canonical, records, old, held, asked);
+    if held <= SHORT {
+        if text.len() <= SHORT {
+            let mut notes: [usize; limits::SHORT_NOTES] = [0; limits::SHORT_NOTES];
+            return change_in(form, text, canonical, records, old, held, asked, &mut notes);
+        }
     }
-    if text.len() > SHORT {
-        return change_middle(form, text, canonical, records, old, held, asked);
+    if held <= MIDDLE {
+        if text.len() <= MIDDLE {
+            return change_sized::<{ limits::MIDDLE_NOTES }>(
+                form, text, canonical, records, old, held, asked,
+            );
+        }
     }
-    let mut notes: [usize; limits::SHORT_NOTES] = [0; limits::SHORT_NOTES];
-    change_in(form, text, canonical, records, old, held, asked, &mut notes)
+    change_sized::<{ limits::NODES }>(form, text, canonical, records, old, held, asked)
 }

@@ -9,7 +9,8 @@ pub mod own; // own.rt: whether records are a sheet's own
 mod piecing; // piecing.rt: texts in pieces
 mod told; // told.rt: the record that a note tells, and one handed on to be judged
 
-ghost use Rattle.std.specs.Prelude.{◌≡◌, length as size, []};
+ghost use Rattle.std.specs.Prelude.{◌≡◌, ◌≤◌, length as size, [], max};
+ghost use Rattle.model.specs.Limits.{most_nodes};
 ghost use Rattle.model.specs.Answers.{reading, replacing, hint_part, data_part, hint_shown, data_shown, shown_or};
 ghost use Rattle.answers.specs.Cases.{outcome, placed};
 ghost use Rattle.answers.specs.Shown.{Shows, shown_at};
@@ -17,9 +18,9 @@ ghost use Rattle.lookup.specs.Noted.{Notes};
 ghost use Rattle.reader.specs.Stored.{Noteable};
 ghost use Rattle.records.specs.Numbers.{numbers, part_of};
 ghost use Rattle.records.specs.Places.{Inside};
-ghost use Rattle.records.specs.Told.{count_of, touched, told_records, Tells};
+ghost use Rattle.records.specs.Told.{told_records, Tells};
 
-use answers::{Place, Reading};
+use answers::{Part, Reading};
 use asked::change;
 pub use corrections::{insert, remove};
 pub use foremen::{extract, extract_own};
@@ -41,35 +42,17 @@ pub struct Record {
     pub parent: u32,
 }
 
-// The records that an answer touches become those that notes tell.
-fn tell(records: &mut [Record], notes: &[usize; limits::NODES], r: Reading, old: usize)
-    requires { Tells notes.now r old (size records.old) }
-    ensures { records.new ≡ told_records notes.now (count_of r) (touched r old) records.old }
+// The records of so many nodes become those that notes tell, and those past them, where `old` were in use, zeros.
+fn tell(records: &mut [Record], notes: &[usize], nodes: usize, old: usize)
+    requires { Tells notes.now nodes old (size records.old) }
+    ensures { records.new ≡ told_records notes.now nodes (max old nodes) records.old }
 {
-    let n = told::touched_by(r, old);
-    let mut i: usize = 0;
-    while i < n {
-        let z = told::record_of(notes, r, i);
-        records[i] = z;
-        i += 1;
+    for i in 0..walk::larger(old, nodes) {
+        records[i] = told::record_by(notes, nodes, i);
     }
 }
 
-// The records that an answer touches become those that notes of any number tell.
-fn tell_by(records: &mut [Record], notes: &[usize], r: Reading, old: usize)
-    requires { Tells notes.now r old (size records.old) }
-    ensures { records.new ≡ told_records notes.now (count_of r) (touched r old) records.old }
-{
-    let n = told::touched_by(r, old);
-    let mut i: usize = 0;
-    while i < n {
-        let z = told::record_by(notes, r, i);
-        records[i] = z;
-        i += 1;
-    }
-}
-
-// A text read in the local space lent.
+// A text read by the notes lent.
 fn read_in(
     form: u32,
     source: &[u8],
@@ -80,30 +63,24 @@ fn read_in(
     requires { Noteable (size source.now) (size notes.old) }
     ensures { outcome result canonical.new (numbers records.new) ≡ reading form source.now canonical.old (numbers records.old) }
 {
-    let r = reader::read_notes(form, source, canonical, notes, records.len());
-    tell_by(records, notes, r, 0);
-    r
+    let sizes = reader::read_notes(form, source, canonical, notes, records.len())?;
+    tell(records, notes, sizes.nodes, 0);
+    Ok(sizes)
 }
 
-// A text of any length.
-fn read_long(form: u32, source: &[u8], canonical: &mut [u8], records: &mut [Record]) -> Reading
+// The same, by notes in local space of a frame of its own, for which short calls don't pay.
+#[inline(never)]
+fn read_sized<const NOTES: usize>(
+    form: u32,
+    source: &[u8],
+    canonical: &mut [u8],
+    records: &mut [Record],
+) -> Reading
+    requires noteable { Noteable (size source.now) NOTES }
+    requires bounded { NOTES ≤ most_nodes }
     ensures { outcome result canonical.new (numbers records.new) ≡ reading form source.now canonical.old (numbers records.old) }
 {
-    let mut notes: [usize; limits::NODES] = [0; limits::NODES];
-    read_in(form, source, canonical, records, &mut notes)
-}
-
-// A text of any length, in less space where it is no longer than middle.
-fn read_middle(form: u32, source: &[u8], canonical: &mut [u8], records: &mut [Record]) -> Reading
-    ensures { outcome result canonical.new (numbers records.new) ≡ reading form source.now canonical.old (numbers records.old) }
-{
-    if source.len() > limits::SOURCE {
-        return read_long(form, source, canonical, records);
-    }
-    if source.len() > limits::MIDDLE {
-        return read_long(form, source, canonical, records);
-    }
-    let mut notes: [usize; limits::MIDDLE_NOTES] = [0; limits::MIDDLE_NOTES];
+    let mut notes: [usize; NOTES] = [0; NOTES];
     read_in(form, source, canonical, records, &mut notes)
 }
 
@@ -112,15 +89,14 @@ fn read_middle(form: u32, source: &[u8], canonical: &mut [u8], records: &mut [Re
 pub fn read(form: u32, source: &[u8], canonical: &mut [u8], records: &mut [Record]) -> Reading
     ensures { outcome result canonical.new (numbers records.new) ≡ reading form source.now canonical.old (numbers records.old) }
 {
-    // A function that is called at two places keeps a frame of its own; else each short call would pay for the largest.
-    if source.len() > limits::MIDDLE {
-        return read_middle(form, source, canonical, records);
+    if source.len() <= limits::SHORT {
+        let mut notes: [usize; limits::SHORT_NOTES] = [0; limits::SHORT_NOTES];
+        return read_in(form, source, canonical, records, &mut notes);
     }
-    if source.len() > limits::SHORT {
-        return read_middle(form, source, canonical, records);
+    if source.len() <= limits::MIDDLE {
+        return read_sized::<{ limits::MIDDLE_NOTES }>(form, source, canonical, records);
     }
-    let mut notes: [usize; limits::SHORT_NOTES] = [0; limits::SHORT_NOTES];
-    read_in(form, source, canonical, records, &mut notes)
+    read_sized::<{ limits::NODES }>(form, source, canonical, records)
 }
 
 // A node of the sheet with this length, node count and records gives way to the tree of a text of the form named. In a
@@ -141,56 +117,38 @@ pub fn replace(
     change(form, text, canonical, records, length, nodes, asked)
 }
 
-// Where a node's hint or data stands, by notes in the local space lent.
+// Where a node's hint or data stands, by the notes lent.
 fn place_in(
     canonical: &[u8],
-    len: usize,
+    length: usize,
     records: &[Record],
     nodes: usize,
     node: usize,
     hinted: bool,
     notes: &mut [usize],
-) -> Place
+) -> Option<Part>
     requires { Notes nodes (size notes.old) }
-    ensures { placed result ≡ part_of hinted canonical.now len (numbers records.now) nodes node }
+    ensures { placed result ≡ part_of hinted canonical.now length (numbers records.now) nodes node }
 {
-    let own = own_by(canonical, len, records, nodes, notes);
+    let own = own_by(canonical, length, records, nodes, notes);
     lookup::place_by(notes, nodes, node, own, hinted)
 }
 
-// In a sheet of any node count.
-fn place_long(
+// The same, by notes in a frame of its own, as in `read_sized`.
+#[inline(never)]
+fn place_sized<const NOTES: usize>(
     canonical: &[u8],
     length: usize,
     records: &[Record],
     nodes: usize,
     node: usize,
     hinted: bool,
-) -> Place
+) -> Option<Part>
+    requires enough { Notes nodes NOTES }
+    requires bounded { NOTES ≤ most_nodes }
     ensures { placed result ≡ part_of hinted canonical.now length (numbers records.now) nodes node }
 {
-    let mut notes: [usize; limits::NODES] = [0; limits::NODES];
-    place_in(canonical, length, records, nodes, node, hinted, &mut notes)
-}
-
-// The same, in less space where there are no more nodes than middle.
-fn place_middle(
-    canonical: &[u8],
-    length: usize,
-    records: &[Record],
-    nodes: usize,
-    node: usize,
-    hinted: bool,
-) -> Place
-    ensures { placed result ≡ part_of hinted canonical.now length (numbers records.now) nodes node }
-{
-    if nodes > limits::NODES {
-        return place_long(canonical, length, records, nodes, node, hinted);
-    }
-    if nodes > limits::MIDDLE_NOTES {
-        return place_long(canonical, length, records, nodes, node, hinted);
-    }
-    let mut notes: [usize; limits::MIDDLE_NOTES] = [0; limits::MIDDLE_NOTES];
+    let mut notes: [usize; NOTES] = [0; NOTES];
     place_in(canonical, length, records, nodes, node, hinted, &mut notes)
 }
 
@@ -202,39 +160,40 @@ pub fn place(
     nodes: usize,
     node: usize,
     hinted: bool,
-) -> Place
+) -> Option<Part>
     ensures { placed result ≡ part_of hinted canonical.now length (numbers records.now) nodes node }
 {
-    // At two places, as in `read`.
-    if nodes > limits::MIDDLE_NOTES {
-        return place_middle(canonical, length, records, nodes, node, hinted);
+    if nodes <= limits::SHORT_NOTES {
+        let mut notes: [usize; limits::SHORT_NOTES] = [0; limits::SHORT_NOTES];
+        return place_in(canonical, length, records, nodes, node, hinted, &mut notes);
     }
-    if nodes > limits::SHORT_NOTES {
-        return place_middle(canonical, length, records, nodes, node, hinted);
+    if nodes <= limits::MIDDLE_NOTES {
+        return place_sized::<{ limits::MIDDLE_NOTES }>(
+            canonical, length, records, nodes, node, hinted,
+        );
     }
-    let mut notes: [usize; limits::SHORT_NOTES] = [0; limits::SHORT_NOTES];
-    place_in(canonical, length, records, nodes, node, hinted, &mut notes)
+    place_sized::<{ limits::NODES }>(canonical, length, records, nodes, node, hinted)
 }
 
 // The part of the sheet at a place, else what is given.
-fn shown_or<'a>(canonical: &'a [u8], p: Place, other: &'a [u8]) -> &'a [u8]
+fn shown_or<'a>(canonical: &'a [u8], p: Option<Part>, other: &'a [u8]) -> &'a [u8]
     requires { Inside p (size canonical.now) }
     ensures { Shows result (shown_or (placed p) canonical.now other.now) (shown_at (placed p) canonical.entry.ref_ptr other.entry.ref_ptr) }
 {
     match p {
-        Place::Part { start, end } => &canonical[start..end],
-        Place::NoPart => other,
+        Some(part) => &canonical[part.start..part.end],
+        None => other,
     }
 }
 
 // The part of the sheet at a place, else an empty part at its front.
-fn shown<'a>(canonical: &'a [u8], p: Place) -> &'a [u8]
+fn shown<'a>(canonical: &'a [u8], p: Option<Part>) -> &'a [u8]
     requires { Inside p (size canonical.now) }
     ensures { Shows result (shown_or (placed p) canonical.now []) (shown_at (placed p) canonical.entry.ref_ptr canonical.entry.ref_ptr) }
 {
     match p {
-        Place::Part { start, end } => &canonical[start..end],
-        Place::NoPart => &canonical[0..0],
+        Some(part) => &canonical[part.start..part.end],
+        None => &canonical[0..0],
     }
 }
 

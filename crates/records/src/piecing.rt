@@ -13,7 +13,7 @@ pub fn pieces_end(state: &[usize; 10], canonical: &[u8], records: &mut [Record])
     ensures { End (state_in state.now) canonical.now (length records.old) (numbers records.old) (numbers records.new) result }
 {
     let mut notes: [usize; limits::NODES] = [0; limits::NODES];
-    let r = pieces::end_coded(state, canonical, &mut notes, records.len());
-    tell(records, &notes, r, 0);
-    r
+    let sizes = pieces::end_coded(state, canonical, &mut notes, records.len())?;
+    tell(records, &notes, sizes.nodes, 0);
+    Ok(sizes)
 }

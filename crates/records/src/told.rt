@@ -3,10 +3,9 @@ ghost use Rattle.std.specs.Prelude.{◌≡◌};
 ghost use Rattle.lookup.specs.Pacing.{Turnable, Turned};
 ghost use Rattle.tables.specs.Rows.{record_list};
 ghost use Rattle.records.specs.Numbers.{nine};
-ghost use Rattle.records.specs.Told.{nil, touched, count_of, told_at, Tellable};
+ghost use Rattle.records.specs.Told.{nil, told_at, Tellable};
 
 use crate::Record;
-use answers::Reading;
 
 // A record with the numbers of a row, and of the list around its node.
 fn record_with(row: tables::Row, up: u32) -> Record
@@ -42,38 +41,15 @@ fn zero_record() -> Record
     }
 }
 
-// Record i after an answer, with room for every note.
-pub fn record_of(notes: &[usize; limits::NODES], r: Reading, i: usize) -> Record
-    requires { Tellable notes.now r i }
-    ensures { result ≡ told_at notes.now (count_of r) i }
+// Record i of a sheet of so many nodes: the one that its note tells, and zeros past the nodes.
+pub fn record_by(notes: &[usize], nodes: usize, i: usize) -> Record
+    requires { Tellable notes.now nodes i }
+    ensures { result ≡ told_at notes.now nodes i }
 {
-    record_by(notes, r, i)
-}
-
-// Record i after an answer: the one that its note tells, and zeros past the nodes.
-pub fn record_by(notes: &[usize], r: Reading, i: usize) -> Record
-    requires { Tellable notes.now r i }
-    ensures { result ≡ told_at notes.now (count_of r) i }
-{
-    match r {
-        Reading::Accepted { length: _, nodes } => {
-            if i < nodes {
-                return record_with(tables::row_of(notes, i), tables::parent_of(notes, i));
-            }
-            zero_record()
-        }
-        Reading::Refused { refusal: _ } => zero_record(),
+    if i < nodes {
+        return record_with(tables::row_of(notes, i), tables::parent_of(notes, i));
     }
-}
-
-// How many records may differ after an answer, where `old` were in use.
-pub fn touched_by(r: Reading, old: usize) -> usize
-    ensures { result ≡ touched r old }
-{
-    match r {
-        Reading::Accepted { length: _, nodes } => { if nodes < old { old } else { nodes } }
-        Reading::Refused { refusal: _ } => 0,
-    }
+    zero_record()
 }
 
 // The next record of a table: its note is kept, and after the last the octets are asked.

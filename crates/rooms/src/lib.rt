@@ -1,24 +1,27 @@
 // Whether a tree has room, judged by sizes alone.
 #![tactic(auto)]
 
-ghost use Rattle.std.specs.Prelude.{◌≡◌};
+ghost use Rattle.answers.specs.Cases.{Judges};
 ghost use Rattle.rooms.specs.Rooms.{room_verdict};
 
-// The first of rows 4 to 6 that applies to a tree of these sizes, in room for so many octets and records; 0 where none does.
-pub fn room(len: usize, nodes: usize, depth: usize, octets: usize, records: usize) -> u32
-    ensures { result ≡ room_verdict depth nodes len octets records }
+use answers::{Judging, Refusal};
+use walk::Extent;
+
+// The first of rows 4 to 6 that applies to a tree of these sizes, in room for so many octets and records.
+pub fn room(sizes: Extent, octets: usize, records: usize) -> Judging
+    ensures { Judges (room_verdict sizes.depth sizes.nodes sizes.len octets records) result }
 {
-    if depth > limits::DEPTH {
-        return 4;
+    if sizes.depth > limits::DEPTH {
+        return Err(Refusal::Depth);
     }
-    if nodes > records {
-        return 5;
+    if sizes.nodes > records {
+        return Err(Refusal::Nodes);
     }
-    if len > limits::CANONICAL {
-        return 6;
+    if sizes.len > limits::CANONICAL {
+        return Err(Refusal::Size);
     }
-    if len > octets {
-        return 6;
+    if sizes.len > octets {
+        return Err(Refusal::Size);
     }
-    0
+    Ok(())
 }

@@ -2,7 +2,8 @@
 // node looked at by its notes. Notes stand in local space, in three sizes by the node count.
 #![tactic(auto)]
 
-ghost use Rattle.std.specs.Prelude.{◌≡◌, length as size};
+ghost use Rattle.std.specs.Prelude.{◌≡◌, ◌≤◌, length as size};
+ghost use Rattle.model.specs.Limits.{most_nodes};
 ghost use Rattle.typed.specs.Cases.{valued, lined, summed};
 ghost use Rattle.typed.specs.Asked.{valuing, lining, summing};
 ghost use Rattle.lookup.specs.Noted.{Notes};
@@ -11,53 +12,36 @@ ghost use Rattle.records.specs.Numbers.{numbers};
 use records::Record;
 use typed::{Lining, Summing, Valuing};
 
-// A node's value, by notes in the local space lent.
+// A node's value, by the notes lent.
 fn value_in(
     canonical: &[u8],
-    len: usize,
+    length: usize,
     records: &[Record],
     nodes: usize,
     node: usize,
     notes: &mut [usize],
 ) -> Valuing
     requires { Notes nodes (size notes.old) }
-    ensures { valued result ≡ valuing canonical.now len (numbers records.now) nodes node }
+    ensures { valued result ≡ valuing canonical.now length (numbers records.now) nodes node }
 {
-    let own = records::own_by(canonical, len, records, nodes, notes);
+    let own = records::own_by(canonical, length, records, nodes, notes);
     shifts::value_by(canonical, notes, nodes, node, own)
 }
 
-// In a sheet of any node count.
-fn value_long(
+// The same, by notes in local space of a frame of its own, for which short calls don't pay.
+#[inline(never)]
+fn value_sized<const NOTES: usize>(
     canonical: &[u8],
     length: usize,
     records: &[Record],
     nodes: usize,
     node: usize,
 ) -> Valuing
+    requires enough { Notes nodes NOTES }
+    requires bounded { NOTES ≤ most_nodes }
     ensures { valued result ≡ valuing canonical.now length (numbers records.now) nodes node }
 {
-    let mut notes: [usize; limits::NODES] = [0; limits::NODES];
-    value_in(canonical, length, records, nodes, node, &mut notes)
-}
-
-// The same, in less space where there are no more nodes than middle.
-fn value_middle(
-    canonical: &[u8],
-    length: usize,
-    records: &[Record],
-    nodes: usize,
-    node: usize,
-) -> Valuing
-    ensures { valued result ≡ valuing canonical.now length (numbers records.now) nodes node }
-{
-    if nodes > limits::NODES {
-        return value_long(canonical, length, records, nodes, node);
-    }
-    if nodes > limits::MIDDLE_NOTES {
-        return value_long(canonical, length, records, nodes, node);
-    }
-    let mut notes: [usize; limits::MIDDLE_NOTES] = [0; limits::MIDDLE_NOTES];
+    let mut notes: [usize; NOTES] = [0; NOTES];
     value_in(canonical, length, records, nodes, node, &mut notes)
 }
 
@@ -71,64 +55,46 @@ pub fn value(
 ) -> Valuing
     ensures { valued result ≡ valuing canonical.now length (numbers records.now) nodes node }
 {
-    // Handed on at two places, as in `records::read`, so that a short call does not pay for the largest frame.
-    if nodes > limits::MIDDLE_NOTES {
-        return value_middle(canonical, length, records, nodes, node);
+    if nodes <= limits::SHORT_NOTES {
+        let mut notes: [usize; limits::SHORT_NOTES] = [0; limits::SHORT_NOTES];
+        return value_in(canonical, length, records, nodes, node, &mut notes);
     }
-    if nodes > limits::SHORT_NOTES {
-        return value_middle(canonical, length, records, nodes, node);
+    if nodes <= limits::MIDDLE_NOTES {
+        return value_sized::<{ limits::MIDDLE_NOTES }>(canonical, length, records, nodes, node);
     }
-    let mut notes: [usize; limits::SHORT_NOTES] = [0; limits::SHORT_NOTES];
-    value_in(canonical, length, records, nodes, node, &mut notes)
+    value_sized::<{ limits::NODES }>(canonical, length, records, nodes, node)
 }
 
-// A node's line with its total, by notes in the local space lent.
+// A node's line with its total, by the notes lent.
 fn line_in(
     canonical: &[u8],
-    len: usize,
+    length: usize,
     records: &[Record],
     nodes: usize,
     node: usize,
     notes: &mut [usize],
 ) -> Lining
     requires { Notes nodes (size notes.old) }
-    ensures { lined result ≡ lining canonical.now len (numbers records.now) nodes node }
+    ensures { lined result ≡ lining canonical.now length (numbers records.now) nodes node }
 {
-    let own = records::own_by(canonical, len, records, nodes, notes);
+    let own = records::own_by(canonical, length, records, nodes, notes);
     shifts::line_by(canonical, notes, nodes, node, own)
 }
 
-// In a sheet of any node count.
-fn line_long(
+// The same, by notes in a frame of its own.
+#[inline(never)]
+fn line_sized<const NOTES: usize>(
     canonical: &[u8],
     length: usize,
     records: &[Record],
     nodes: usize,
     node: usize,
 ) -> Lining
+    requires enough { Notes nodes NOTES }
+    requires bounded { NOTES ≤ most_nodes }
     ensures { lined result ≡ lining canonical.now length (numbers records.now) nodes node }
 {
-    let mut notes: [usize; limits::NODES] = [0; limits::NODES];
-    line_in(canonical, length, records, nodes, node, &mut notes)
-}
-
-// The same, in less space where there are no more nodes than middle.
-fn line_middle(
-    canonical: &[u8],
-    length: usize,
-    records: &[Record],
-    nodes: usize,
-    node: usize,
-) -> Lining
-    ensures { lined result ≡ lining canonical.now length (numbers records.now) nodes node }
-{
-    if nodes > limits::NODES {
-        return line_long(canonical, length, records, nodes, node);
-    }
-    if nodes > limits::MIDDLE_NOTES {
-        return line_long(canonical, length, records, nodes, node);
-    }
-    let mut notes: [usize; limits::MIDDLE_NOTES] = [0; limits::MIDDLE_NOTES];
+    let mut notes: [usize; NOTES] = [0; NOTES];
     line_in(canonical, length, records, nodes, node, &mut notes)
 }
 
@@ -142,64 +108,46 @@ pub fn line(
 ) -> Lining
     ensures { lined result ≡ lining canonical.now length (numbers records.now) nodes node }
 {
-    // Handed on at two places, as in `records::read`, so that a short call does not pay for the largest frame.
-    if nodes > limits::MIDDLE_NOTES {
-        return line_middle(canonical, length, records, nodes, node);
+    if nodes <= limits::SHORT_NOTES {
+        let mut notes: [usize; limits::SHORT_NOTES] = [0; limits::SHORT_NOTES];
+        return line_in(canonical, length, records, nodes, node, &mut notes);
     }
-    if nodes > limits::SHORT_NOTES {
-        return line_middle(canonical, length, records, nodes, node);
+    if nodes <= limits::MIDDLE_NOTES {
+        return line_sized::<{ limits::MIDDLE_NOTES }>(canonical, length, records, nodes, node);
     }
-    let mut notes: [usize; limits::SHORT_NOTES] = [0; limits::SHORT_NOTES];
-    line_in(canonical, length, records, nodes, node, &mut notes)
+    line_sized::<{ limits::NODES }>(canonical, length, records, nodes, node)
 }
 
-// The sum of a list of lines, by notes in the local space lent.
+// The sum of a list of lines, by the notes lent.
 fn week_in(
     canonical: &[u8],
-    len: usize,
+    length: usize,
     records: &[Record],
     nodes: usize,
     node: usize,
     notes: &mut [usize],
 ) -> Summing
     requires { Notes nodes (size notes.old) }
-    ensures { summed result ≡ summing canonical.now len (numbers records.now) nodes node }
+    ensures { summed result ≡ summing canonical.now length (numbers records.now) nodes node }
 {
-    let own = records::own_by(canonical, len, records, nodes, notes);
+    let own = records::own_by(canonical, length, records, nodes, notes);
     shifts::week_by(canonical, notes, nodes, node, own)
 }
 
-// In a sheet of any node count.
-fn week_long(
+// The same, by notes in a frame of its own.
+#[inline(never)]
+fn week_sized<const NOTES: usize>(
     canonical: &[u8],
     length: usize,
     records: &[Record],
     nodes: usize,
     node: usize,
 ) -> Summing
+    requires enough { Notes nodes NOTES }
+    requires bounded { NOTES ≤ most_nodes }
     ensures { summed result ≡ summing canonical.now length (numbers records.now) nodes node }
 {
-    let mut notes: [usize; limits::NODES] = [0; limits::NODES];
-    week_in(canonical, length, records, nodes, node, &mut notes)
-}
-
-// The same, in less space where there are no more nodes than middle.
-fn week_middle(
-    canonical: &[u8],
-    length: usize,
-    records: &[Record],
-    nodes: usize,
-    node: usize,
-) -> Summing
-    ensures { summed result ≡ summing canonical.now length (numbers records.now) nodes node }
-{
-    if nodes > limits::NODES {
-        return week_long(canonical, length, records, nodes, node);
-    }
-    if nodes > limits::MIDDLE_NOTES {
-        return week_long(canonical, length, records, nodes, node);
-    }
-    let mut notes: [usize; limits::MIDDLE_NOTES] = [0; limits::MIDDLE_NOTES];
+    let mut notes: [usize; NOTES] = [0; NOTES];
     week_in(canonical, length, records, nodes, node, &mut notes)
 }
 
@@ -213,13 +161,12 @@ pub fn week(
 ) -> Summing
     ensures { summed result ≡ summing canonical.now length (numbers records.now) nodes node }
 {
-    // Handed on at two places, as in `records::read`, so that a short call does not pay for the largest frame.
-    if nodes > limits::MIDDLE_NOTES {
-        return week_middle(canonical, length, records, nodes, node);
+    if nodes <= limits::SHORT_NOTES {
+        let mut notes: [usize; limits::SHORT_NOTES] = [0; limits::SHORT_NOTES];
+        return week_in(canonical, length, records, nodes, node, &mut notes);
     }
-    if nodes > limits::SHORT_NOTES {
-        return week_middle(canonical, length, records, nodes, node);
+    if nodes <= limits::MIDDLE_NOTES {
+        return week_sized::<{ limits::MIDDLE_NOTES }>(canonical, length, records, nodes, node);
     }
-    let mut notes: [usize; limits::SHORT_NOTES] = [0; limits::SHORT_NOTES];
-    week_in(canonical, length, records, nodes, node, &mut notes)
+    week_sized::<{ limits::NODES }>(canonical, length, records, nodes, node)
 }

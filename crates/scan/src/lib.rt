@@ -2,21 +2,19 @@
 #![tactic(auto)]
 
 ghost use Rattle.std.specs.Prelude.{◌+◌, ◌≤◌, length, take, drop};
-ghost use Rattle.octets.specs.Classes.{Classed};
 ghost use Rattle.scan.specs.Runs.{Skipped, Ran, Reach};
 ghost use Rattle.scan.specs.Writes.{Wrote};
 
 use octets::class_of;
 
 // The place after whitespace.
-pub fn skip_at(classes: &[u8; 256], src: &[u8], at: usize) -> usize
-    requires classed { Classed classes.now }
-    requires at_in_bounds { at ≤ length src.now }
+pub fn skip_at(src: &[u8], at: usize) -> usize
+    requires { at ≤ length src.now }
     ensures { Skipped src.now at result }
 {
     let mut i = at;
     while i < src.len() {
-        let c = class_of(classes, src[i]);
+        let c = class_of(src[i]);
         if c < octets::BLANK {
             return i;
         }
@@ -29,14 +27,13 @@ pub fn skip_at(classes: &[u8; 256], src: &[u8], at: usize) -> usize
 }
 
 // The end of octets of the class `low` and above, from `at` on and before `end`: one by one.
-fn class_rest(classes: &[u8; 256], src: &[u8], at: usize, end: usize, low: u8) -> usize
-    requires classed { Classed classes.now }
-    requires at_le_end { (at ≤ end) × (end ≤ length src.now) }
+fn class_rest(src: &[u8], at: usize, end: usize, low: u8) -> usize
+    requires { (at ≤ end) × (end ≤ length src.now) }
     ensures { Reach src.now at end low result }
 {
     let mut i = at;
     while i < end {
-        if class_of(classes, src[i]) < low {
+        if class_of(src[i]) < low {
             return i;
         }
         i += 1;
@@ -45,37 +42,35 @@ fn class_rest(classes: &[u8; 256], src: &[u8], at: usize, end: usize, low: u8) -
 }
 
 // The same, by fours, and then what is left.
-pub fn class_end(classes: &[u8; 256], src: &[u8], at: usize, end: usize, low: u8) -> usize
-    requires classed { Classed classes.now }
-    requires at_le_end { (at ≤ end) × (end ≤ length src.now) }
+pub fn class_end(src: &[u8], at: usize, end: usize, low: u8) -> usize
+    requires { (at ≤ end) × (end ≤ length src.now) }
     ensures { Reach src.now at end low result }
 {
     let mut i = at;
     while end - i >= 4 {
-        if class_of(classes, src[i]) < low {
+        if class_of(src[i]) < low {
             return i;
         }
-        if class_of(classes, src[i + 1]) < low {
+        if class_of(src[i + 1]) < low {
             return i + 1;
         }
-        if class_of(classes, src[i + 2]) < low {
+        if class_of(src[i + 2]) < low {
             return i + 2;
         }
-        if class_of(classes, src[i + 3]) < low {
+        if class_of(src[i + 3]) < low {
             return i + 3;
         }
         i += 4;
     }
-    class_rest(classes, src, i, end, low)
+    class_rest(src, i, end, low)
 }
 
 // The end of the longest run of token octets from `at` on.
-pub fn run_end(classes: &[u8; 256], src: &[u8], at: usize) -> usize
-    requires classed { Classed classes.now }
-    requires at_in_bounds { at ≤ length src.now }
+pub fn run_end(src: &[u8], at: usize) -> usize
+    requires { at ≤ length src.now }
     ensures { Ran src.now at result }
 {
-    class_end(classes, src, at, src.len(), octets::TOKEN)
+    class_end(src, at, src.len(), octets::TOKEN)
 }
 
 // A run of octets, as they stand; the place after them.

@@ -6,17 +6,19 @@ use mathlib.Core.List.{List, [], ◌∷◌}
 use mir.Syntax.{w32, w64}
 use mir.Val.{Fits}
 use borrow.Author.Tests.{eq-eqb, ne_eqb, lt-ltb, le-ltb}
+use Rattle.std.specs.Prelude.{Some, None, Ok, Err}
+use Rattle.answers.specs.declared.refusal.Refusal.TheVariants.{NotLine}
 use Rattle.base.proofs.Cases.{picked, unpicked}
 use Rattle.model.specs.Table.{Row, row_of}
 use Rattle.model.specs.Tree.{Tree}
 use Rattle.tables.specs.Rows.{RowIs}
 use Rattle.tables.specs.Told.{row_at, Holds}
 use Rattle.tables.specs.declared.rows.Row as coded
+use Rattle.typed.specs.Quarters.{Count}
 use Rattle.typed.specs.Lines.{line_count, elements_up_to, elements, Sum, lines, bad, added, added_by, sum_of, sum_at}
-use Rattle.typed.specs.declared.Count.{Count}
-use Rattle.typed.specs.declared.Count.TheVariants.{Quarters, NoCount}
-use Rattle.shifts.specs.declared.lines.Added.TheVariants.{Lines, Bad}
-use Rattle.shifts.specs.Known.{Known, KnownAt, CountAt, sum_for, SumAt}
+use Rattle.typed.specs.declared.Misfit.{Misfit}
+use Rattle.shifts.specs.declared.lines.Added.{Added}
+use Rattle.shifts.specs.Known.{Known, KnownAt, CountAt, Adding as Answer, all_lines, no_line, sum_for, SumAt}
 use Rattle.shifts.proofs.Inside.{row_is, row-counted}
 use Rattle.shifts.proofs.Lining.{line-few, line-four}
 
@@ -35,6 +37,14 @@ joined-more n q m (bad k) = refl
 
 joined_end : (n q : ℕ) → joined n q (lines 0 0) ≡ lines n q
 joined_end n q = let x : n + 0 ≡ n = omega arith in let y : q + 0 ≡ q = omega arith in ap₂ lines x y
+
+-- ---- the row that is refused
+
+row-of : {k : ℕ} (m : Misfit) → ◌≡◌ {A = Answer} (no_line k) (Err m) → m.refusal ≡ NotLine
+row-of m e = sym (ap (λ (x : Answer). elim x [ Ok s ↦ NotLine | Err n ↦ n.refusal ]) e)
+
+no-row : {G : Type 0} {s : Added} (m : Misfit) → ◌≡◌ {A = Answer} (Ok s) (Err m) → G
+no-row m e = let z : ◌≡◌ {A = ℕ} 0 1 = cc in absurd (omega arith)
 
 -- ---- elements
 
@@ -62,9 +72,9 @@ pub record Adding (c notes : List ℕ) (count node stop at n q : ℕ) : Type 0 w
   pub left : (t : Tree) → Holds notes count t → Left c t node stop at n q
 
 module _ (c notes : List ℕ) (count node : ℕ) (k : KnownAt c notes count node) (row : coded.Row) (is : RowIs row (row_at notes node)) where
-  pub sum-string : (row.kind ≡ 2 → ⊥) → SumAt c notes count node (Bad node)
+  pub sum-string : (row.kind ≡ 2 → ⊥) → SumAt c notes count node (no_line node)
   unfolding sum_for sum_at
-  sum-string n = record { is = λ t h. sym (unpicked _ _ (ne_eqb _ _ (λ e. n (ap (λ (r : Row). r.kind) (row_is c notes count node k row is t h) ∙ e)))) }
+  sum-string n = record { is = λ t h. sym (unpicked _ _ (ne_eqb _ _ (λ e. n (ap (λ (r : Row). r.kind) (row_is c notes count node k row is t h) ∙ e)))); row = λ m e. row-of m e }
 
   pub stop-fits : Fits w64 (node + row.nodes)
   stop-fits = omega (arith, row-counted c notes count node k row is, k.known.many)
@@ -103,7 +113,7 @@ module _ (c notes : List ℕ) (count node stop at n q : ℕ) (inv : Adding c not
     opened t h (suc g) e w = (g, e, ap (λ (l : List ℕ). joined n q (sum_of c t l)) (sym (one_more t g at stop more)) ∙ w)
 
     module _ (r : Count) (v : CountAt c notes count at r) where
-      pub sum-bad : r ≡ NoCount → SumAt c notes count node (Bad at)
+      pub sum-bad : r ≡ None → SumAt c notes count node (no_line at)
       unfolding sum_for
       sum-bad e =
           record {
@@ -111,9 +121,10 @@ module _ (c notes : List ℕ) (count node stop at n q : ℕ) (inv : Adding c not
                 let l : Left c t node stop at n q = inv.left t h in
                 let o = opened t h l.fuel l.enough l.same in
                 sym (ap (λ (x : Count). joined n q (added_by at x (sum_of c t (elements_up_to t o.0 (at + (row_of t at).count) stop)))) (sym (v.is t h) ∙ e)) ∙ o.2;
+            row = λ m i. row-of m i;
           }
 
-      module _ (m : ℕ) (e : r ≡ Quarters m) where
+      module _ (m : ℕ) (e : r ≡ Some m) where
         few : m ≤ 288
         few = line-few c inv.known.tree at m (sym (v.is inv.known.tree inv.known.held) ∙ e)
 
@@ -137,7 +148,7 @@ module _ (c notes : List ℕ) (count node stop at n q : ℕ) (inv : Adding c not
               left = λ t h.
                   let l : Left c t node stop at n q = inv.left t h in
                   let o = opened t h l.fuel l.enough l.same in
-                  let d : line_count c t at ≡ Quarters m = sym (v.is t h) ∙ e in
+                  let d : line_count c t at ≡ Some m = sym (v.is t h) ∙ e in
                   let b : (row_of t at).count ≡ 4 = line-four c t at m d in
                   record {
                     fuel = o.0;
@@ -150,13 +161,14 @@ module _ (c notes : List ℕ) (count node stop at n q : ℕ) (inv : Adding c not
                   };
             }
 
-  pub adding-ends : stop ≤ at → SumAt c notes count node (Lines n q)
+  pub adding-ends : stop ≤ at → SumAt c notes count node (all_lines n q)
   unfolding sum_for sum_of
   adding-ends h =
       record {
         is = λ t g.
             let l : Left c t node stop at n q = inv.left t g in
             sym (joined_end n q) ∙ ap (λ (x : List ℕ). joined n q (sum_of c t x)) (sym (no_more t l.fuel at stop h)) ∙ l.same;
+        row = λ m e. no-row m e;
       }
 
 pub adding-less : (stop at : ℕ) → at < stop → stop - (at + 4) < stop - at

@@ -1,44 +1,37 @@
 -- What is answered of a node: rows 7 and 8, and then by its tree.
 use Prim.Native.Nat.{ℕ, ◌≤◌, ◌<◌}
 use native.Mathlib.Omega.{arith}
-use mathlib.Core.Path.{◌≡◌, refl, sym, ap, ◌∙◌}
+use mathlib.Core.Path.{◌≡◌, refl, sym, ap, ◌∙◌, subst}
 use mathlib.Core.Bool.{Bool, true, false}
 use mathlib.Core.Option.{Option, none, some}
 use mathlib.Core.List.{List, [], ◌∷◌}
 use borrow.Author.Tests.{le-leb, lt-leb}
+use Rattle.std.specs.Prelude.{Some, None, Ok, Err, ok_or}
 use Rattle.base.specs.Choice.{is_none}
 use Rattle.model.specs.Limits.{no_refusal}
 use Rattle.model.specs.Answers.{Check, when, verdict, judged, the, own_tree}
 use Rattle.model.specs.Table.{records, row_of}
 use Rattle.model.specs.Tree.{Tree}
+use Rattle.answers.specs.Refusals.{number_of, place_in}
+use Rattle.answers.specs.declared.refusal.Refusal.{Refusal}
+use Rattle.answers.specs.declared.refusal.Refusal.TheVariants.{NotOwn, NoNode, NotTyped, NotLine}
 use Rattle.tables.specs.Told.{Holds}
 use Rattle.lookup.specs.Noted.{Sheet, Owned, Owning}
 use Rattle.lookup.proofs.Noting.{owned-held}
 use Rattle.lookup.proofs.Sheets.{tree_of, none_of, sheet-of}
 use Rattle.lookup.proofs.Sheets as lookup
 use Rattle.typed.specs.Coding.{refusal_not_typed, refusal_not_line}
-use Rattle.typed.specs.Quarters.{quarters_of, total_by, total_for}
+use Rattle.typed.specs.Typed.{Typing}
+use Rattle.typed.specs.Quarters.{Count, quarters_of, total_by, total_for}
 use Rattle.typed.specs.Lines.{typed_row, hours_at, quarters_in, kept_if, line_at, line_count, Sum, sum_at}
-use Rattle.typed.specs.Cases.{unvalued, valued, unlined, lined, unsummed, summed}
+use Rattle.typed.specs.Cases.{Valuing, unvalued, valued, Lining, unlined, lined, Summing, unsummed_at, summed}
 use Rattle.typed.specs.Asked.{node_checks, value_in, node_value, valuing, node_line, lining, node_sum, summed_by, summing}
 use Rattle.typed.specs.declared.Value.{Value}
 use Rattle.typed.specs.declared.Line.{Line}
 use Rattle.typed.specs.declared.Total.{Total}
-use Rattle.typed.specs.declared.Typing.{Typing}
-use Rattle.typed.specs.declared.Typing.TheVariants.{Is, Untyped}
-use Rattle.typed.specs.declared.Count.{Count}
-use Rattle.typed.specs.declared.Count.TheVariants.{Quarters, NoCount}
-use Rattle.typed.specs.declared.Valuing.{Valuing}
-use Rattle.typed.specs.declared.Valuing.TheVariants as valuings
-use Rattle.typed.specs.declared.Lining.{Lining}
-use Rattle.typed.specs.declared.Lining.TheVariants as linings
-use Rattle.typed.specs.declared.Summing.{Summing}
-use Rattle.typed.specs.declared.Summing.TheVariants as summings
-use Rattle.shifts.specs.declared.lines.Found.{Found}
-use Rattle.shifts.specs.declared.lines.Found.TheVariants.{Hours, NoHours}
+use Rattle.typed.specs.declared.Misfit.{Misfit}
 use Rattle.shifts.specs.declared.lines.Added.{Added}
-use Rattle.shifts.specs.declared.lines.Added.TheVariants.{Lines, Bad}
-use Rattle.shifts.specs.Known.{KnownAt, KnownIf, TypedAt, hours_of, HoursAt, sum_for, SumAt, Values, HasLine, Sums}
+use Rattle.shifts.specs.Known.{KnownAt, KnownIf, TypedAt, Found, hours_of, HoursAt, Adding, sum_for, SumAt, Values, HasLine, Sums}
 
 pub in-sheet : (c notes : List ℕ) (count node : ℕ) (own : Bool) → KnownIf c notes count own → own ≡ true → node < count → KnownAt c notes count node
 in-sheet c notes count node own k y h = record { known = k.known y; inside = h }
@@ -61,7 +54,7 @@ module _ {A : Type 0} (c : List ℕ) (len : ℕ) (table : List ℕ) (count node 
 
 -- ---- row 11 or 12, by what there is
 
-pub value-some : (o : Option Value) (x : Value) → o ≡ some x → judged (when refusal_not_typed (is_none o) ∷ []) (record { accepted = true; number = no_refusal; place = 0; value = o }) (λ n. unvalued n) ≡ valued (valuings.Accepted x)
+pub value-some : (o : Option Value) (x : Value) → o ≡ some x → judged (when refusal_not_typed (is_none o) ∷ []) (record { accepted = true; number = no_refusal; place = 0; value = o }) (λ n. unvalued n) ≡ valued (Ok x)
 unfolding judged verdict is_none valued
 value-some o x e = rw e
 
@@ -69,7 +62,7 @@ pub value_none : (o : Option Value) → o ≡ none → judged (when refusal_not_
 unfolding judged verdict is_none
 value_none o e = rw e
 
-pub line-some : (o : Option Line) (s : Option Total) (l : Line) (u : Total) → o ≡ some l → s ≡ some u → judged (when refusal_not_line (is_none o) ∷ []) (record { accepted = true; number = no_refusal; place = 0; line = o; total = s }) (λ n. unlined n) ≡ lined (linings.Accepted l u)
+pub line-some : (o : Option Line) (s : Option Total) (l : Line) (u : Total) → o ≡ some l → s ≡ some u → judged (when refusal_not_line (is_none o) ∷ []) (record { accepted = true; number = no_refusal; place = 0; line = o; total = s }) (λ n. unlined n) ≡ lined (Ok (record { line = l; total = u }))
 unfolding judged verdict is_none lined
 line-some o s l u e f = rw (e, f)
 
@@ -91,21 +84,21 @@ module _ (c notes : List ℕ) (count node : ℕ) (own : Bool) where
 
   -- ---- a value
 
-  pub value-unowned : own ≡ false → (r : Valuing) → valued r ≡ unvalued 7 → Values c notes count node own r
-  unfolding valuing
-  value-unowned y r w = record { is = λ len table o. w ∙ sym (not_own c len table count node _ _ _ (no-tree y len table o)) }
+  pub value-unowned : own ≡ false → Values c notes count node own (Err NotOwn)
+  unfolding valuing valued
+  value-unowned y = record { is = λ len table o. sym (not_own c len table count node _ _ _ (no-tree y len table o)) }
 
   module _ (y : own ≡ true) where
-    pub value-beyond : count ≤ node → (r : Valuing) → valued r ≡ unvalued 8 → Values c notes count node own r
-    unfolding valuing
-    value-beyond h r w = record { is = λ len table o. w ∙ the-tree y len table o (λ t e g. sym (no_node c len table count node _ _ _ t e h)) }
+    pub value-beyond : count ≤ node → Values c notes count node own (Err NoNode)
+    unfolding valuing valued
+    value-beyond h = record { is = λ len table o. the-tree y len table o (λ t e g. sym (no_node c len table count node _ _ _ t e h)) }
 
     module _ (h : node < count) (r : Typing) (v : TypedAt c notes count node r) where
       value-is : (len : ℕ) (table : List ℕ) (t : Tree) → own_tree c len table count ≡ some t → Holds notes count t → node_value c len table count node ≡ value_in r
       unfolding node_value the
       value-is len table t e g = ap (λ (x : Option Tree). value_in (typed_row c (row_of (the x) node))) e ∙ ap value_in (sym (v.is t g))
 
-      pub value-given : (x : Value) → r ≡ Is x → Values c notes count node own (valuings.Accepted x)
+      value-given : (x : Value) → r ≡ Some x → Values c notes count node own (Ok x)
       unfolding valuing
       value-given x q =
           record {
@@ -113,24 +106,31 @@ module _ (c notes : List ℕ) (count node : ℕ) (own : Bool) where
                 the-tree y len table o (λ t e g. sym (a-node c len table count node _ _ _ t e h ∙ value-some (node_value c len table count node) x (value-is len table t e g ∙ ap value_in q)));
           }
 
-      pub value-refused : r ≡ Untyped → (a : Valuing) → valued a ≡ unvalued 11 → Values c notes count node own a
-      unfolding valuing
-      value-refused q a w =
+      value-refused : r ≡ None → Values c notes count node own (Err NotTyped)
+      unfolding valuing valued
+      value-refused q =
           record {
             is = λ len table o.
-                the-tree y len table o (λ t e g. w ∙ sym (a-node c len table count node _ _ _ t e h ∙ value_none (node_value c len table count node) (value-is len table t e g ∙ ap value_in q)));
+                the-tree y len table o (λ t e g. sym (a-node c len table count node _ _ _ t e h ∙ value_none (node_value c len table count node) (value-is len table t e g ∙ ap value_in q)));
           }
+
+      pub value-found : (a : Valuing) → a ≡ ok_or r NotTyped → Values c notes count node own a
+      value-found a e = subst (Values c notes count node own) (sym e) (by r refl)
+        where
+          by : (u : Typing) → r ≡ u → Values c notes count node own (ok_or u NotTyped)
+          by (Some x) q = value-given x q
+          by None q = value-refused q
 
   -- ---- a line
 
-  pub line-unowned : own ≡ false → (r : Lining) → lined r ≡ unlined 7 → HasLine c notes count node own r
-  unfolding lining
-  line-unowned y r w = record { is = λ len table o. w ∙ sym (not_own c len table count node _ _ _ (no-tree y len table o)) }
+  pub line-unowned : own ≡ false → HasLine c notes count node own (Err NotOwn)
+  unfolding lining lined
+  line-unowned y = record { is = λ len table o. sym (not_own c len table count node _ _ _ (no-tree y len table o)) }
 
   module _ (y : own ≡ true) where
-    pub line-beyond : count ≤ node → (r : Lining) → lined r ≡ unlined 8 → HasLine c notes count node own r
-    unfolding lining
-    line-beyond h r w = record { is = λ len table o. w ∙ the-tree y len table o (λ t e g. sym (no_node c len table count node _ _ _ t e h)) }
+    pub line-beyond : count ≤ node → HasLine c notes count node own (Err NoNode)
+    unfolding lining lined
+    line-beyond h = record { is = λ len table o. the-tree y len table o (λ t e g. sym (no_node c len table count node _ _ _ t e h)) }
 
     module _ (h : node < count) (r : Found) (v : HoursAt c notes count node r) where
       line-is : (len : ℕ) (table : List ℕ) (t : Tree) → own_tree c len table count ≡ some t → node_line c len table count node ≡ line_at c t node
@@ -141,56 +141,56 @@ module _ (c notes : List ℕ) (count node : ℕ) (own : Bool) where
       unfolding the
       tree_is len table t e = ap the e
 
-      none-line : (t : Tree) → quarters_in (hours_at c t node) ≡ NoCount → line_at c t node ≡ none
+      none-line : (t : Tree) → quarters_in (hours_at c t node) ≡ None → line_at c t node ≡ none
       unfolding line_at line_count
       none-line t e = ap (kept_if (hours_at c t node)) e
 
-      some-line : (t : Tree) (l : Line) (n : ℕ) → hours_at c t node ≡ some l → quarters_of l ≡ Quarters n → line_at c t node ≡ some l
+      some-line : (t : Tree) (l : Line) (n : ℕ) → hours_at c t node ≡ some l → quarters_of l ≡ Some n → line_at c t node ≡ some l
       unfolding line_at line_count
       some-line t l n e z = ap (kept_if (hours_at c t node)) (ap quarters_in e ∙ z) ∙ e
 
-      refused-by : ((t : Tree) → Holds notes count t → quarters_in (hours_at c t node) ≡ NoCount) → (a : Lining) → lined a ≡ unlined 12 → HasLine c notes count node own a
-      unfolding lining
-      refused-by f a w =
+      refused-by : ((t : Tree) → Holds notes count t → quarters_in (hours_at c t node) ≡ None) → HasLine c notes count node own (Err NotLine)
+      unfolding lining lined
+      refused-by f =
           record {
             is = λ len table o.
-                the-tree y len table o (λ t e g. w ∙ sym (a-node c len table count node _ _ _ t e h ∙ line-none (node_line c len table count node) _ (line-is len table t e ∙ none-line t (f t g))));
+                the-tree y len table o (λ t e g. sym (a-node c len table count node _ _ _ t e h ∙ line-none (node_line c len table count node) _ (line-is len table t e ∙ none-line t (f t g))));
           }
 
-      pub line-missing : r ≡ NoHours → (a : Lining) → lined a ≡ unlined 12 → HasLine c notes count node own a
+      pub line-missing : r ≡ None → HasLine c notes count node own (Err NotLine)
       unfolding hours_of
-      line-missing q a w = refused-by (λ t g. ap quarters_in (sym (v.is t g) ∙ ap hours_of q)) a w
+      line-missing q = refused-by (λ t g. ap quarters_in (sym (v.is t g) ∙ ap hours_of q))
 
-      module _ (l : Line) (q : r ≡ Hours l) (k : Count) (u : k ≡ quarters_of l) where
-        pub line-uncounted : k ≡ NoCount → (a : Lining) → lined a ≡ unlined 12 → HasLine c notes count node own a
+      module _ (l : Line) (q : r ≡ Some l) (k : Count) (u : k ≡ quarters_of l) where
+        pub line-uncounted : k ≡ None → HasLine c notes count node own (Err NotLine)
         unfolding hours_of
-        line-uncounted z a w = refused-by (λ t g. ap quarters_in (sym (v.is t g) ∙ ap hours_of q) ∙ sym u ∙ z) a w
+        line-uncounted z = refused-by (λ t g. ap quarters_in (sym (v.is t g) ∙ ap hours_of q) ∙ sym u ∙ z)
 
-        pub line-given : (n : ℕ) → k ≡ Quarters n → (s : Total) → s ≡ total_by n → HasLine c notes count node own (linings.Accepted l s)
+        pub line-given : (n : ℕ) → k ≡ Some n → (s : Total) → s ≡ total_by n → HasLine c notes count node own (Ok (record { line = l; total = s }))
         unfolding lining hours_of line_count
         line-given n z s m =
             record {
               is = λ len table o.
                   the-tree y len table o (λ t e g.
-                  let b : quarters_of l ≡ Quarters n = sym u ∙ z in
+                  let b : quarters_of l ≡ Some n = sym u ∙ z in
                   let f : hours_at c t node ≡ some l = sym (v.is t g) ∙ ap hours_of q in
                   let d : node_line c len table count node ≡ some l = line-is len table t e ∙ some-line t l n f b in
-                  let i : quarters_in (hours_at c (the (own_tree c len table count)) node) ≡ Quarters n = ap (λ (x : Tree). quarters_in (hours_at c x node)) (tree_is len table t e) ∙ ap quarters_in f ∙ b in
+                  let i : quarters_in (hours_at c (the (own_tree c len table count)) node) ≡ Some n = ap (λ (x : Tree). quarters_in (hours_at c x node)) (tree_is len table t e) ∙ ap quarters_in f ∙ b in
                   sym (a-node c len table count node _ _ _ t e h ∙ line-some (node_line c len table count node) _ l s d (ap total_for i ∙ ap some (sym m))));
             }
 
   -- ---- a list of lines
 
-  pub sum-unowned : own ≡ false → (r : Summing) → summed r ≡ unsummed 7 0 → Sums c notes count node own r
-  unfolding summing
-  sum-unowned y r w = record { is = λ len table o. w ∙ sym (not_own c len table count node _ _ _ (no-tree y len table o)) }
+  pub sum-unowned : own ≡ false → Sums c notes count node own (Err (record { refusal = NotOwn; node = 0 }))
+  unfolding summing summed
+  sum-unowned y = record { is = λ len table o. sym (not_own c len table count node _ _ _ (no-tree y len table o)) }
 
   module _ (y : own ≡ true) where
-    pub sum-beyond : count ≤ node → (r : Summing) → summed r ≡ unsummed 8 0 → Sums c notes count node own r
-    unfolding summing
-    sum-beyond h r w = record { is = λ len table o. w ∙ the-tree y len table o (λ t e g. sym (no_node c len table count node _ _ _ t e h)) }
+    pub sum-beyond : count ≤ node → Sums c notes count node own (Err (record { refusal = NoNode; node = 0 }))
+    unfolding summing summed
+    sum-beyond h = record { is = λ len table o. the-tree y len table o (λ t e g. sym (no_node c len table count node _ _ _ t e h)) }
 
-    module _ (h : node < count) (r : Added) (v : SumAt c notes count node r) where
+    module _ (h : node < count) (r : Adding) (v : SumAt c notes count node r) where
       node-sum : (len : ℕ) (table : List ℕ) (t : Tree) → own_tree c len table count ≡ some t → node_sum c len table count node ≡ sum_at c t node
       unfolding node_sum the
       node-sum len table t e = ap (λ (x : Option Tree). sum_at c (the x) node) e
@@ -204,13 +204,15 @@ module _ (c notes : List ℕ) (count node : ℕ) (own : Bool) where
                 f (sum_at c t node) (v.is t g) ∙ sym (a-node c len table count node _ _ _ t e h ∙ no-checks _ _ ∙ ap summed_by (node-sum len table t e)));
           }
 
-      pub sum-given : (n q : ℕ) → r ≡ Lines n q → (s : Total) → s ≡ total_by q → Sums c notes count node own (summings.Accepted n s)
+      pub sum-given : (a : Added) → r ≡ Ok a → (s : Total) → s ≡ total_by a.quarters → Sums c notes count node own (Ok (record { lines = a.lines; total = s }))
       unfolding sum_for summed_by summed
-      sum-given n q z s m = sum_is _ (λ u i. ap (λ (x : Total). summed (summings.Accepted n x)) m ∙ ap summed_by (sym (ap sum_for z) ∙ i))
+      sum-given a z s m = sum_is _ (λ u i. ap (λ (x : Total). summed (Ok (record { lines = a.lines; total = x }))) m ∙ ap summed_by (sym (ap sum_for z) ∙ i))
 
-      pub sum-refused : (k : ℕ) → r ≡ Bad k → (a : Summing) → summed a ≡ unsummed 12 k → Sums c notes count node own a
-      unfolding sum_for summed_by
-      sum-refused k z a w = sum_is a (λ u i. w ∙ ap summed_by (sym (ap sum_for z) ∙ i))
+      pub sum-refused : (m : Misfit) → r ≡ Err m → Sums c notes count node own (Err m)
+      unfolding sum_for summed_by summed
+      sum-refused m z =
+          let n : m.refusal ≡ NotLine = v.row m z in
+          sum_is _ (λ u i. ap (λ (f : Refusal). unsummed_at (number_of f) (place_in f) m.node) n ∙ ap summed_by (sym (ap sum_for z) ∙ i))
 
 -- ---- over a table of numbers
 

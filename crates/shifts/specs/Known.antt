@@ -1,27 +1,21 @@
 -- What the code over notes needs, and what it answers for every tree of which they are the notes.
-use Rattle.std.specs.Prelude.{ℕ, ◌≤◌, ◌<◌, ◌≡◌, Bool, true, List, length, Float}
+use Rattle.std.specs.Prelude.{ℕ, ◌≤◌, ◌<◌, ◌≡◌, Bool, true, List, length, Float, Some, None, Result, Ok, Err}
 use Rattle.std.proofs.Math.Option.{Option, none, some}
 use Rattle.model.specs.Limits.{most_nodes}
 use Rattle.model.specs.Table.{Row, row_of}
 use Rattle.model.specs.Tree.{Tree, canon}
+use Rattle.answers.specs.declared.refusal.Refusal.TheVariants.{NotLine}
 use Rattle.tables.specs.Told.{Holds}
 use Rattle.tables.specs.declared.rows.Row as coded
 use Rattle.lookup.specs.Noted.{Owning}
+use Rattle.typed.specs.Typed.{Typing}
+use Rattle.typed.specs.Quarters.{Count}
 use Rattle.typed.specs.Lines.{typed_row, row_amount, hours_at, line_count, Sum, lines, bad, sum_at}
-use Rattle.typed.specs.Cases.{valued, lined, summed}
+use Rattle.typed.specs.Cases.{Valuing, valued, Lining, lined, Summing, summed}
 use Rattle.typed.specs.Asked.{valuing, lining, summing}
 use Rattle.typed.specs.declared.Line.{Line}
-use Rattle.typed.specs.declared.Typing.{Typing}
-use Rattle.typed.specs.declared.Count.{Count}
-use Rattle.typed.specs.declared.Valuing.{Valuing}
-use Rattle.typed.specs.declared.Lining.{Lining}
-use Rattle.typed.specs.declared.Summing.{Summing}
-use Rattle.shifts.specs.declared.strings.Amount.{Amount}
-use Rattle.shifts.specs.declared.strings.Amount.TheVariants as amount
-use Rattle.shifts.specs.declared.lines.Found.{Found}
-use Rattle.shifts.specs.declared.lines.Found.TheVariants as found
+use Rattle.typed.specs.declared.Misfit.{Misfit}
 use Rattle.shifts.specs.declared.lines.Added.{Added}
-use Rattle.shifts.specs.declared.lines.Added.TheVariants as adding
 
 -- ---- a record
 
@@ -67,16 +61,24 @@ pub record KnownIf (c notes : List ℕ) (count : ℕ) (own : Bool) : Type 0 wher
 pub record TypedAt (c notes : List ℕ) (count node : ℕ) (r : Typing) : Type 0 where
   pub is : (t : Tree) → Holds notes count t → r ≡ typed_row c (row_of t node)
 
+-- the double of a string, if it is one
+abbrev pub Amount : Type 0
+Amount = Rattle.std.specs.Prelude.Option Float
+
 unfoldable pub amount_of : Amount → Option Float
-amount_of (amount.Of x) = some x
-amount_of amount.NoAmount = none
+amount_of (Some x) = some x
+amount_of None = none
 
 pub record AmountAt (c notes : List ℕ) (count node : ℕ) (r : Amount) : Type 0 where
   pub is : (t : Tree) → Holds notes count t → amount_of r ≡ row_amount c t node
 
+-- the hours of a list of three such strings, if it is one
+abbrev pub Found : Type 0
+Found = Rattle.std.specs.Prelude.Option Line
+
 unfoldable pub hours_of : Found → Option Line
-hours_of (found.Hours h) = some h
-hours_of found.NoHours = none
+hours_of (Some h) = some h
+hours_of None = none
 
 pub record HoursAt (c notes : List ℕ) (count node : ℕ) (r : Found) : Type 0 where
   pub is : (t : Tree) → Holds notes count t → hours_of r ≡ hours_at c t node
@@ -84,12 +86,23 @@ pub record HoursAt (c notes : List ℕ) (count node : ℕ) (r : Found) : Type 0 
 pub record CountAt (c notes : List ℕ) (count node : ℕ) (r : Count) : Type 0 where
   pub is : (t : Tree) → Holds notes count t → r ≡ line_count c t node
 
-unfoldable pub sum_for : Added → Sum
-sum_for (adding.Lines n q) = lines n q
-sum_for (adding.Bad k) = bad k
+-- lines added up, or the first node that is none
+abbrev pub Adding : Type 0
+Adding = Result Added Misfit
 
-pub record SumAt (c notes : List ℕ) (count node : ℕ) (r : Added) : Type 0 where
+abbrev pub all_lines : ℕ → ℕ → Adding
+all_lines n q = Ok (record { lines = n; quarters = q })
+
+abbrev pub no_line : ℕ → Adding
+no_line k = Err (record { refusal = NotLine; node = k })
+
+unfoldable pub sum_for : Adding → Sum
+sum_for (Ok s) = lines s.lines s.quarters
+sum_for (Err m) = bad m.node
+
+pub record SumAt (c notes : List ℕ) (count node : ℕ) (r : Adding) : Type 0 where
   pub is : (t : Tree) → Holds notes count t → sum_for r ≡ sum_at c t node
+  pub row : (m : Misfit) → r ≡ Err m → m.refusal ≡ NotLine
 
 -- ---- answers, in every sheet and table of which the truth value tells
 

@@ -4,33 +4,26 @@
 mod lines; // lines.rt: lines, and lists of them
 mod numbers; // numbers.rt: the entries over a table of numbers
 mod strings; // strings.rt: a string's value
-mod tiers; // tiers.rt: notes in local space
 
 ghost use Rattle.std.specs.Prelude.{◌≡◌};
 ghost use Rattle.shifts.specs.Known.{KnownIf, Values, HasLine, Sums};
 
-use lines::{Added, Found};
+use answers::Refusal;
 pub use numbers::{line, value, week};
-use typed::{
-    Count, Lining, Summing, Typing, Valuing, refused_lining, refused_summing, refused_valuing,
-};
+use typed::{Lining, Misfit, Shift, Summing, Valuing, Week};
 
 // A node's value, where notes and table are told to be the sheet's own.
 pub fn value_by(canonical: &[u8], notes: &[usize], nodes: usize, node: usize, own: bool) -> Valuing
     requires { KnownIf canonical.now notes.now nodes own }
     ensures { Values canonical.now notes.now nodes node own result }
 {
-    if own {
-        if node >= nodes {
-            return refused_valuing(8);
-        }
-        match strings::typed_at(canonical, notes, nodes, node) {
-            Typing::Is(v) => Valuing::Accepted { value: v },
-            Typing::Untyped => refused_valuing(11),
-        }
-    } else {
-        refused_valuing(7)
+    if !own {
+        return Err(Refusal::NotOwn);
     }
+    if node >= nodes {
+        return Err(Refusal::NoNode);
+    }
+    strings::typed_at(canonical, notes, nodes, node).ok_or(Refusal::NotTyped)
 }
 
 // A node's line with its total.
@@ -38,23 +31,22 @@ pub fn line_by(canonical: &[u8], notes: &[usize], nodes: usize, node: usize, own
     requires { KnownIf canonical.now notes.now nodes own }
     ensures { HasLine canonical.now notes.now nodes node own result }
 {
-    if own {
-        if node >= nodes {
-            return refused_lining(8);
-        }
-        let Found::Hours(h) = lines::hours_at(canonical, notes, nodes, node) else {
-            return refused_lining(12);
-        };
-        match hours::quarters_of(h) {
-            Count::Quarters(n) => Lining::Accepted {
-                line: h,
-                total: hours::total_by(n),
-            },
-            Count::NoCount => refused_lining(12),
-        }
-    } else {
-        refused_lining(7)
+    if !own {
+        return Err(Refusal::NotOwn);
     }
+    if node >= nodes {
+        return Err(Refusal::NoNode);
+    }
+    let Some(line) = lines::hours_at(canonical, notes, nodes, node) else {
+        return Err(Refusal::NotLine);
+    };
+    let Some(quarters) = hours::quarters_of(line) else {
+        return Err(Refusal::NotLine);
+    };
+    Ok(Shift {
+        line,
+        total: hours::total_by(quarters),
+    })
 }
 
 // The sum of a list of lines.
@@ -62,18 +54,21 @@ pub fn week_by(canonical: &[u8], notes: &[usize], nodes: usize, node: usize, own
     requires { KnownIf canonical.now notes.now nodes own }
     ensures { Sums canonical.now notes.now nodes node own result }
 {
-    if own {
-        if node >= nodes {
-            return refused_summing(8, 0);
-        }
-        match lines::sum_at(canonical, notes, nodes, node) {
-            Added::Lines { count, quarters } => Summing::Accepted {
-                lines: count,
-                total: hours::total_by(quarters),
-            },
-            Added::Bad { node: k } => refused_summing(12, k),
-        }
-    } else {
-        refused_summing(7, 0)
+    if !own {
+        return Err(Misfit {
+            refusal: Refusal::NotOwn,
+            node: 0,
+        });
     }
+    if node >= nodes {
+        return Err(Misfit {
+            refusal: Refusal::NoNode,
+            node: 0,
+        });
+    }
+    let sum = lines::sum_at(canonical, notes, nodes, node)?;
+    Ok(Week {
+        lines: sum.lines,
+        total: hours::total_by(sum.quarters),
+    })
 }

@@ -2,85 +2,74 @@
 ghost use Rattle.std.specs.Prelude.{◌≡◌};
 ghost use Rattle.shifts.specs.Known.{KnownAt, HoursAt, CountAt, SumAt};
 
-use super::strings::{Amount, amount_at};
-use typed::{Count, Line};
+use super::strings::amount_at;
+use answers::Refusal;
+use typed::{Line, Misfit};
 
 // The hours of a list of three `f64` strings, if it is one.
-#[derive(Clone, Copy)]
-pub enum Found {
-    Hours(Line),
-    NoHours,
-}
-
-pub fn hours_at(canonical: &[u8], notes: &[usize], nodes: usize, node: usize) -> Found
+pub fn hours_at(canonical: &[u8], notes: &[usize], nodes: usize, node: usize) -> Option<Line>
     requires { KnownAt canonical.now notes.now nodes node }
     ensures { HoursAt canonical.now notes.now nodes node result }
 {
     let row = tables::row_of(notes, node);
     if row.kind != 2 {
-        return Found::NoHours;
+        return None;
     }
     if row.nodes != 4 {
-        return Found::NoHours;
+        return None;
     }
-    let Amount::Of(x) = amount_at(canonical, notes, nodes, node + 1) else {
-        return Found::NoHours;
-    };
-    let Amount::Of(y) = amount_at(canonical, notes, nodes, node + 2) else {
-        return Found::NoHours;
-    };
-    let Amount::Of(z) = amount_at(canonical, notes, nodes, node + 3) else {
-        return Found::NoHours;
-    };
-    Found::Hours(Line {
-        ordinary: x,
-        night: y,
-        holiday: z,
+    let ordinary = amount_at(canonical, notes, nodes, node + 1)?;
+    let night = amount_at(canonical, notes, nodes, node + 2)?;
+    let holiday = amount_at(canonical, notes, nodes, node + 3)?;
+    Some(Line {
+        ordinary,
+        night,
+        holiday,
     })
 }
 
 // The quarters of a line.
-fn count_at(canonical: &[u8], notes: &[usize], nodes: usize, node: usize) -> Count
+fn count_at(canonical: &[u8], notes: &[usize], nodes: usize, node: usize) -> Option<u32>
     requires { KnownAt canonical.now notes.now nodes node }
     ensures { CountAt canonical.now notes.now nodes node result }
 {
-    match hours_at(canonical, notes, nodes, node) {
-        Found::Hours(h) => hours::quarters_of(h),
-        Found::NoHours => Count::NoCount,
-    }
+    let line = hours_at(canonical, notes, nodes, node)?;
+    hours::quarters_of(line)
 }
 
-// Lines added up, or the first node that is none.
-#[derive(Clone, Copy)]
-pub enum Added {
-    Lines { count: usize, quarters: u32 },
-    Bad { node: usize },
+// Lines added up.
+#[derive(Clone, Copy, Debug, PartialEq, Eq)]
+pub struct Added {
+    pub lines: usize,
+    pub quarters: u32,
 }
 
-// The sum of a list of lines. A line is four nodes, so that the next begins four further on.
-pub fn sum_at(canonical: &[u8], notes: &[usize], nodes: usize, node: usize) -> Added
+// The sum of a list of lines, or the first node that is no line. A line is four nodes, so that the next begins four further on.
+pub fn sum_at(canonical: &[u8], notes: &[usize], nodes: usize, node: usize) -> Result<Added, Misfit>
     requires { KnownAt canonical.now notes.now nodes node }
     ensures { SumAt canonical.now notes.now nodes node result }
 {
     let row = tables::row_of(notes, node);
     if row.kind != 2 {
-        return Added::Bad { node };
+        return Err(Misfit {
+            refusal: Refusal::NotLine,
+            node,
+        });
     }
     let stop = node + row.nodes as usize;
     let mut at = node + 1;
-    let mut count: usize = 0;
+    let mut lines: usize = 0;
     let mut quarters: u32 = 0;
     while at < stop {
-        match count_at(canonical, notes, nodes, at) {
-            Count::Quarters(q) => {
-                count += 1;
-                quarters += q;
-                at += 4;
-            }
-            Count::NoCount => {
-                return Added::Bad { node: at };
-            }
-        }
+        let Some(count) = count_at(canonical, notes, nodes, at) else {
+            return Err(Misfit {
+                refusal: Refusal::NotLine,
+                node: at,
+            });
+        };
+        lines += 1;
+        quarters += count;
+        at += 4;
     }
-    Added::Lines { count, quarters }
+    Ok(Added { lines, quarters })
 }

@@ -5,7 +5,6 @@
 ghost use Rattle.std.specs.Prelude.{◌≡◌, ◌∷◌, [], ◌+◌, ◌≤◌, ◌<◌, length};
 ghost use Rattle.base.specs.Choice.{among, every};
 ghost use Rattle.model.specs.Write.{quote_all, hex_digit, hex_all, shown};
-ghost use Rattle.octets.specs.Classes.{Classed};
 ghost use Rattle.blocks.specs.Fronts.{Front};
 ghost use Rattle.spelling.specs.Spelled.{cut, framed, hex_pair, TokenEnd, Escaping, Quotable};
 
@@ -13,30 +12,28 @@ use octets::class_of;
 use scan::class_end;
 
 // As far as the octets make a token; the start where none begins.
-fn token_end(classes: &[u8; 256], src: &[u8], start: usize, end: usize) -> usize
-    requires classed { Classed classes.now }
-    requires start_lt_end { (start < end) × (end ≤ length src.now) }
+fn token_end(src: &[u8], start: usize, end: usize) -> usize
+    requires { (start < end) × (end ≤ length src.now) }
     ensures { TokenEnd src.now start end result }
 {
-    let c = class_of(classes, src[start]);
+    let c = class_of(src[start]);
     if c < octets::TOKEN {
         return start;
     }
     if c > octets::HEX {
         return start;
     }
-    class_end(classes, src, start + 1, end, octets::TOKEN)
+    class_end(src, start + 1, end, octets::TOKEN)
 }
 
 // Whether all octets are printable.
-fn printable(classes: &[u8; 256], src: &[u8], start: usize, end: usize) -> bool
-    requires classed { Classed classes.now }
-    requires start_le_end { (start ≤ end) × (end ≤ length src.now) }
+fn printable(src: &[u8], start: usize, end: usize) -> bool
+    requires { (start ≤ end) × (end ≤ length src.now) }
     ensures { result ≡ every (among 32 126) (cut src.now start end) }
 {
     let mut i = start;
     while i < end {
-        let c = class_of(classes, src[i]);
+        let c = class_of(src[i]);
         if c == octets::OTHER {
             return false;
         }
@@ -59,15 +56,7 @@ fn put_two(a: u8, b: u8, out: &mut [u8], pos: usize) -> usize
 }
 
 // Octets with a backslash where one is due, as at the first of them; what stands between is copied.
-fn put_escaped(
-    classes: &[u8; 256],
-    src: &[u8],
-    from: usize,
-    end: usize,
-    out: &mut [u8],
-    pos: usize,
-) -> usize
-    requires classed { Classed classes.now }
+fn put_escaped(src: &[u8], from: usize, end: usize, out: &mut [u8], pos: usize) -> usize
     requires escaping { Escaping src.now from end }
     requires end_in_bounds { pos + length (quote_all (cut src.now from end)) + 16 ≤ length out.old }
     ensures { Front (quote_all (cut src.now from end)) pos out.old out.new result }
@@ -77,7 +66,7 @@ fn put_escaped(
     while i < end {
         let p = put_two(b'\\', src[i], out, o);
         let next = i + 1;
-        let stop = class_end(classes, src, next, end, octets::SPACE);
+        let stop = class_end(src, next, end, octets::SPACE);
         o = blocks::copy(src, next, stop - next, out, p);
         i = stop;
     }
@@ -86,7 +75,6 @@ fn put_escaped(
 
 // What stands between quotation marks. Octets up to `from` stand for themselves.
 fn put_octets(
-    classes: &[u8; 256],
     src: &[u8],
     start: usize,
     from: usize,
@@ -94,18 +82,16 @@ fn put_octets(
     out: &mut [u8],
     pos: usize,
 ) -> usize
-    requires classed { Classed classes.now }
     requires quotable { Quotable src.now start from end }
     requires end_in_bounds { pos + length (quote_all (cut src.now start end)) + 16 ≤ length out.old }
     ensures { Front (quote_all (cut src.now start end)) pos out.old out.new result }
 {
     let o = blocks::copy(src, start, from - start, out, pos);
-    put_escaped(classes, src, from, end, out, o)
+    put_escaped(src, from, end, out, o)
 }
 
 // Octets between quotation marks.
 fn put_quoted(
-    classes: &[u8; 256],
     src: &[u8],
     start: usize,
     from: usize,
@@ -113,13 +99,12 @@ fn put_quoted(
     out: &mut [u8],
     pos: usize,
 ) -> usize
-    requires classed { Classed classes.now }
     requires quotable { Quotable src.now start from end }
     requires end_in_bounds { pos + length (quote_all (cut src.now start end)) + 18 ≤ length out.old }
     ensures { Front (framed 34 (quote_all (cut src.now start end))) pos out.old out.new result }
 {
     out[pos] = b'"';
-    let o = put_octets(classes, src, start, from, end, out, pos + 1);
+    let o = put_octets(src, start, from, end, out, pos + 1);
     out[o] = b'"';
     o + 1
 }
@@ -168,15 +153,7 @@ fn put_hexadecimal(src: &[u8], start: usize, end: usize, out: &mut [u8], pos: us
 }
 
 // The spelling; the place after it. Up to 15 octets behind it are overwritten.
-pub fn put_spelled(
-    classes: &[u8; 256],
-    src: &[u8],
-    start: usize,
-    end: usize,
-    out: &mut [u8],
-    pos: usize,
-) -> usize
-    requires classed { Classed classes.now }
+pub fn put_spelled(src: &[u8], start: usize, end: usize, out: &mut [u8], pos: usize) -> usize
     requires start_le_end { (start ≤ end) × (end ≤ length src.now) }
     requires end_in_bounds { pos + length (shown (cut src.now start end)) + 16 ≤ length out.old }
     ensures { Front (shown (cut src.now start end)) pos out.old out.new result }
@@ -184,13 +161,13 @@ pub fn put_spelled(
     if start >= end {
         return put_two(b'"', b'"', out, pos);
     }
-    let token = token_end(classes, src, start, end);
+    let token = token_end(src, start, end);
     if token >= end {
         return blocks::copy(src, start, end - start, out, pos);
     }
-    let from = class_end(classes, src, token, end, octets::SPACE);
-    if printable(classes, src, from, end) {
-        return put_quoted(classes, src, start, from, end, out, pos);
+    let from = class_end(src, token, end, octets::SPACE);
+    if printable(src, from, end) {
+        return put_quoted(src, start, from, end, out, pos);
     }
     put_hexadecimal(src, start, end, out, pos)
 }

@@ -1,16 +1,18 @@
 -- The functions' needs.
 use Prim.Native.Nat.{ℕ, ◌+◌, ◌*◌, ◌-◌, ◌≤◌, ◌<◌, max}
 use native.Mathlib.Omega.{arith}
-use mathlib.Core.Path.{◌≡◌, refl, ap, ap₂, ◌∙◌}
-use mathlib.Core.List.{List}
-use lib.ListN.{length, take, drop, replicate}
-use lib.Seq.{sets}
+use mathlib.Core.Path.{◌≡◌, refl, sym, ap, ap₂, ◌∙◌}
+use mathlib.Core.List.{List, ◌++◌}
+use lib.ListN.{length, length-replicate, take, drop, replicate}
+use lib.Seq.{sets, sets-eq}
+use borrow.Rule.Slice.PartMut.{put_mid}
+use Rattle.std.proofs.lemmas.List.{take_all}
+use Rattle.std.proofs.lemmas.Slice.{put_mid-paste}
 use Rattle.model.specs.Table.{width, table_of}
 use Rattle.walk.proofs.Tabled.{table-length}
 use Rattle.tables.specs.Told.{Filled}
 use Rattle.splice.specs.Rewritten.{Movable, Ended, Retellable, Retold}
 use Rattle.splice.proofs.Spliced.{zeroed}
-use Rattle.answers.specs.declared.Reading.TheVariants as reading
 
 -- ---- gap
 module _ (c c' : List ℕ) (start end len n : ℕ) (g : Movable (length c) start end len n) where
@@ -20,8 +22,16 @@ module _ (c c' : List ℕ) (start end len n : ℕ) (g : Movable (length c) start
   pub lowered : n ≤ end - start → c' ≡ sets c (end - ((end - start) - n)) (take (len - end) (drop end c)) → c' ≡ sets c (start + n) (take (len - end) (drop end c))
   lowered h e = let z : end - ((end - start) - n) ≡ start + n = omega (arith, g.ordered) in e ∙ ap (λ (m : ℕ). sets c m (take (len - end) (drop end c))) z
 
+-- zeros written to a part, as `fill` leaves them
+pub zeros-put : (l part : List ℕ) (from n : ℕ) → from + n ≤ length l → part ≡ replicate n 0 → put_mid from n l part ≡ sets l from (replicate n 0)
+zeros-put l part from n h e =
+    let k : length (replicate n 0) ≡ n = length-replicate n 0 in
+    put_mid-paste from n l part (replicate n 0) n e refl (sym k)
+    ∙ ap (λ (x : List ℕ). take from l ++ x ++ drop (from + n) l) (take_all n (replicate n 0) (omega (arith, k)))
+    ∙ sym (sets-eq (replicate n 0) l from (omega (arith, h, k)) ∙ ap (λ (m : ℕ). take from l ++ replicate n 0 ++ drop (from + m) l) k)
+
 -- ---- end
-pub ended : (canonical : List ℕ) (old len count m : ℕ) → m ≡ max old len → (canonical' : List ℕ) → canonical' ≡ sets canonical len (replicate (m - len) 0) → Ended canonical old len count canonical' (reading.Accepted len count)
+pub ended : (canonical : List ℕ) (old len count m : ℕ) → m ≡ max old len → (canonical' : List ℕ) → canonical' ≡ sets canonical len (replicate (m - len) 0) → Ended canonical old len count canonical' (record { length = len; nodes = count })
 ended canonical old len count m e canonical' z =
     let a : m - len ≡ old - len = omega arith in
     record { octets = z ∙ ap (λ (n : ℕ). sets canonical len (replicate n 0)) a; tells = refl }

@@ -15,7 +15,7 @@ use Rattle.model.specs.Table.{row_of, parent_of}
 use Rattle.model.specs.Tree.{Tree}
 use Rattle.model.proofs.Exact.{canon-complete}
 use Rattle.model.specs.Decode.{decode₁}
-use Rattle.walk.specs.declared.Extent.{Extent}
+use Rattle.walk.specs.Extent.{Measured}
 use Rattle.sheets.specs.Notes.{note_of, noted, Noted}
 use Rattle.sheets.proofs.Keeping.{noted-length}
 use Rattle.tables.specs.Told.{Holds}
@@ -28,7 +28,7 @@ use Rattle.splice.proofs.Renoting.{note-small, sums, ahead-growing, ahead-is, be
 use Rattle.splice.specs.declared.notes.Growth.{Growth}
 
 -- ---- enter
-module _ (octets notes : List ℕ) (start first up : ℕ) (g : Enterable octets (length notes) start first up) (notes₁ : List ℕ) (x : Extent) (v : Noted octets notes notes₁ x) where
+module _ (octets notes : List ℕ) (start first up : ℕ) (g : Enterable octets (length notes) start first up) (notes₁ : List ℕ) (x : Measured) (v : Noted octets notes notes₁ x) where
   holds_text : (t : Tree) → Coming octets (length notes) t → Holds notes₁ (length notes) t
   holds_text t c =
       subst (λ (n : ℕ). Holds notes₁ n t) (sym c.counted)

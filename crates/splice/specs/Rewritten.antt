@@ -6,8 +6,7 @@ use Rattle.model.specs.Table.{width, table_of}
 use Rattle.model.specs.Limits.{most_nodes}
 use Rattle.model.specs.Answers.{settled}
 use Rattle.tables.specs.Told.{Holds}
-use Rattle.answers.specs.declared.Reading.{Reading}
-use Rattle.answers.specs.declared.Reading.TheVariants as reading
+use Rattle.answers.specs.declared.Sizes.{Sizes}
 
 -- n octets can take the place of those from `start` to `end` of a sheet of len octets
 pub record Movable (room start end len n : ℕ) : Type 0 where
@@ -21,9 +20,9 @@ pub record Ending (room old len : ℕ) : Type 0 where
   pub lent : len ≤ room
   pub old_lent : old ≤ room
 
-pub record Ended (canonical : List ℕ) (old len count : ℕ) (canonical' : List ℕ) (r : Reading) : Type 0 where
+pub record Ended (canonical : List ℕ) (old len count : ℕ) (canonical' : List ℕ) (r : Sizes) : Type 0 where
   pub octets : canonical' ≡ sets canonical len (replicate (old - len) 0)
-  pub tells : r ≡ reading.Accepted len count
+  pub tells : r ≡ record { length = len; nodes = count }
 
 -- ---- the table
 

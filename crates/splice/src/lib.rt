@@ -8,7 +8,7 @@ ghost use Rattle.std.specs.Prelude.{◌≡◌, ◌+◌, ◌-◌, length, take, d
 ghost use Rattle.std.proofs.lemmas.List.Edits.{sets};
 ghost use Rattle.splice.specs.Rewritten.{Movable, Ending, Ended, Retellable, Retold};
 
-use answers::Reading;
+use answers::Sizes;
 pub use notes::{Growth, renote};
 
 // The octets after a spot moved, so that `len` octets have room from `start` on.
@@ -24,13 +24,13 @@ pub fn gap(canonical: &mut [u8], start: usize, end: usize, whole: usize, len: us
     }
 }
 
-// Zeros from the `len` octets that stand there up to a larger old length, and the answer.
-pub fn end(canonical: &mut [u8], old: usize, len: usize, count: usize) -> Reading
+// Zeros from the `len` octets that stand there up to a larger old length, and the new sizes.
+pub fn end(canonical: &mut [u8], old: usize, len: usize, count: usize) -> Sizes
     requires { Ending (length canonical.old) old len }
     ensures { Ended canonical.old old len count canonical.new result }
 {
-    moves::zero(canonical, len, walk::larger(old, len));
-    Reading::Accepted {
+    canonical[len..walk::larger(old, len)].fill(0);
+    Sizes {
         length: len,
         nodes: count,
     }
@@ -42,9 +42,6 @@ pub fn retell(notes: &[usize], table: &mut [u32], held: usize, count: usize)
     ensures { Retold notes.now held count table.old table.new }
 {
     tables::fill(notes, count, table);
-    moves::zero_numbers(
-        table,
-        count * limits::WIDTH,
-        walk::larger(held, count) * limits::WIDTH,
-    );
+    let end = walk::larger(held, count) * limits::WIDTH;
+    table[count * limits::WIDTH..end].fill(0);
 }

@@ -154,7 +154,7 @@ fn enter(octets: &[u8], notes: &mut [usize], start: usize, first: usize, up: usi
     requires { Enterable octets.now (length notes.old) start first up }
     ensures { Entered octets.now (length notes.old) start first up notes.new }
 {
-    sheets::note(octets, notes);
+    let _ = sheets::note(octets, notes);
     put(notes, start, first, up);
 }
 

@@ -7,22 +7,21 @@ use mathlib.Core.List.{List, ◌++◌}
 use lib.ListN.{length, length-append, take}
 use lib.Seq.{length-take-le}
 use Rattle.base.proofs.Cases.{differ}
-use Rattle.spools.specs.Adding.{Start, started, starting, stored, stores, adding}
+use Rattle.spools.specs.Adding.{Start, nowhere, started, starting, stored, stores, adding}
 use Rattle.spools.specs.Groups.{groups}
 use Rattle.spools.specs.Rules.{Addable}
 use Rattle.spools.specs.Spool.{entry}
 use Rattle.spools.proofs.Judged.{sheet-of-lent, sheet-of-small, accepted-0, start-of, start-refused, adding-of, adding-refused}
 use Rattle.spools.proofs.Opened.{spool-sound}
-use Rattle.spool.specs.Cases.{state_of, start_of, added_of}
+use Rattle.spool.specs.Cases.{state_of, Starting, start_of, added_of}
 use Rattle.spool.specs.Whole.{Room}
 use Rattle.spool.specs.declared.Adding.{Adding}
-use Rattle.spool.specs.declared.Added.TheVariants as added
-use Rattle.spool.specs.declared.Starting.{Starting}
-use Rattle.spool.specs.declared.Starting.TheVariants as starting
-use Rattle.answers.specs.declared.Refusal.{Refusal}
+use Rattle.std.specs.Prelude.{⊤, Ok, Err}
+use Rattle.answers.specs.Refusals.{number_of, place_in}
+use Rattle.answers.specs.declared.refusal.Refusal.{Refusal}
 
 module _ (area sheet : List ℕ) (len : ℕ) (r : Starting) (w : start_of r ≡ starting area sheet len) where
-  module _ (s : Adding) (e : r ≡ starting.Accepted s) where
+  module _ (s : Adding) (e : r ≡ Ok s) where
     begun : starting area sheet len ≡ started (state_of s)
     unfolding start_of
     begun = sym w ∙ ap start_of e
@@ -49,24 +48,24 @@ module _ (area sheet : List ℕ) (len : ℕ) (r : Starting) (w : start_of r ≡ 
           room = omega (arith, at-is, a.room, m, ap length o.is, length-append o.octets a.old.rest);
         }
 
-    pub add-whole : (after : List ℕ) → after ≡ stored area (stores (length area) s.at (entry (take len sheet))) → added_of added.Accepted after ≡ adding area sheet len
+    pub add-whole : (u : ⊤) (after : List ℕ) → after ≡ stored area (stores (length area) s.at (entry (take len sheet))) → added_of (Ok u) after ≡ adding area sheet len
     unfolding added_of
-    add-whole after h =
+    add-whole u after h =
         ap (λ (z : List ℕ). record { accepted = true; number = 0; place = 0; area = z }) (h ∙ ap (λ (n : ℕ). stored area (stores (length area) n (entry (take len sheet)))) at-is)
         ∙ sym (adding-of area sheet len addable)
 
-  pub add-refused : (f : Refusal) (s : Adding) → r ≡ starting.Refused f s → added_of (added.Refused f) area ≡ adding area sheet len
+  pub add-refused : (f : Refusal) → r ≡ Err f → added_of (Err f) area ≡ adding area sheet len
   unfolding start_of added_of
-  add-refused f s e = of f.number refl
+  add-refused f e = of (number_of f) refl
     where
-      v : starting area sheet len ≡ record { accepted = false; number = f.number; place = f.place; state = state_of s }
+      v : starting area sheet len ≡ record { accepted = false; number = number_of f; place = place_in f; state = nowhere }
       v = sym w ∙ ap start_of e
 
-      of : (n : ℕ) → f.number ≡ n → record { accepted = false; number = f.number; place = f.place; area = area } ≡ adding area sheet len
+      of : (n : ℕ) → number_of f ≡ n → record { accepted = false; number = number_of f; place = place_in f; area = area } ≡ adding area sheet len
       of zero h =
           let a : Addable area sheet len = (accepted-0 area sheet len).0 (ap (λ (x : Start). x.number) v ∙ h) in
           differ (ap (λ (x : Start). x.accepted) (start-of area sheet len a)) (ap (λ (x : Start). x.accepted) v)
       of (suc n) h =
           let g : (starting area sheet len).number ≡ suc n = ap (λ (x : Start). x.number) v ∙ h in
-          let p : f.place ≡ 0 = ap (λ (x : Start). x.place) (sym v ∙ start-refused area sheet len (suc n) g (omega arith)) in
+          let p : place_in f ≡ 0 = ap (λ (x : Start). x.place) (sym v ∙ start-refused area sheet len (suc n) g (omega arith)) in
           ap₂ (λ (m k : ℕ). record { accepted = false; number = m; place = k; area = area }) h p ∙ sym (adding-refused area sheet len (suc n) g (omega arith))

@@ -13,20 +13,19 @@ use Rattle.model.specs.Limits.{max_canonical}
 use Rattle.model.specs.Tree.{Tree}
 use Rattle.spools.specs.Rules.{Addable, NoRoom}
 use Rattle.spools.specs.Adding.{fresh, started, starting}
-use Rattle.spools.specs.Spool.{entry, spool_of, shows, Opening as Shown, opening}
+use Rattle.spools.specs.Spool.{entry, shows, Opening as Shown, opening}
 use Rattle.spools.proofs.Damaged.{spool-damage}
 use Rattle.spools.proofs.Judged.{none_of, some_of, sheet-of-lent, sheet-of-small, damaged-10, bad-7, room-6, start-of, start-refused, opening_of, opening-none}
 use Rattle.spools.proofs.Placed.{part-octets}
 use Rattle.answers.specs.Shown.{shown_at}
 use Rattle.spool.proofs.Storing.{entry-long}
-use Rattle.spool.specs.Cases.{opened, start_of, RefusesStart}
+use Rattle.spool.specs.Cases.{opened, start_of}
 use Rattle.groups.specs.Octets.{Long}
-use Rattle.spool.specs.Opens.{Found, Surveys}
-use Rattle.spool.specs.declared.Opening.TheVariants as opening
-use Rattle.spool.specs.declared.Starting.{Starting}
-use Rattle.spool.specs.declared.Starting.TheVariants as starting
+use Rattle.spool.specs.Opens.{Found, Unfound, Surveys}
+use Rattle.std.specs.Prelude.{Result, Ok, Err}
+use Rattle.answers.specs.declared.refusal.Refusal.{Refusal}
+use Rattle.answers.specs.declared.refusal.Refusal.TheVariants.{Size, NotOwn}
 use Rattle.spool.specs.declared.Survey.{Survey}
-use Rattle.spool.specs.declared.Survey.TheVariants.{Whole, Damaged}
 
 -- ---- the sheet that is to be added
 module _ (sheet : List ℕ) (len : ℕ) (b : Bool) (t : b ≡ not (is_none (sheet_tree sheet len))) where
@@ -39,12 +38,24 @@ module _ (sheet : List ℕ) (len : ℕ) (b : Bool) (t : b ≡ not (is_none (shee
   pub sheet-small : b ≡ true → len ≤ max_canonical
   sheet-small e = good e (λ u f. sheet-of-small sheet len u f)
 
-module _ (area : List ℕ) (k : ℕ) (r : Survey) (w : Surveys area k r) where
-  damaged : r ≡ Damaged → spool_of area ≡ none
+module _ (area : List ℕ) (k : ℕ) (r : Result Survey Refusal) (w : Surveys area k r) where
+  damaged : (f : Refusal) → r ≡ Err f → Unfound area f
   unfolding Surveys
-  damaged e = subst (Surveys area k) e w
+  damaged f e = subst (Surveys area k) e w
 
-  module _ (count start end rest : ℕ) (e : r ≡ Whole count start end rest) where
+  module _ (survey : Survey) (e : r ≡ Ok survey) where
+    abbrev count : ℕ
+    count = survey.count
+
+    abbrev start : ℕ
+    start = survey.stands.start
+
+    abbrev end : ℕ
+    end = survey.stands.end
+
+    abbrev rest : ℕ
+    rest = survey.rest
+
     found : Found area k count start end rest
     unfolding Surveys
     found = subst (Surveys area k) e w
@@ -69,7 +80,7 @@ module _ (area : List ℕ) (k : ℕ) (r : Survey) (w : Surveys area k r) where
     octets-are =
         ap (octets_at area) (sym found.placed) ∙ part-octets area k found.old found.opened ∙ sym (ap (λ (x : Shown). x.shown) opening-is)
 
-    pub open-whole : opened (opening.Accepted count start end) area ≡ opening area k
+    pub open-whole : opened (Ok (record { count = survey.count; stands = survey.stands })) area ≡ opening area k
     unfolding opened
     open-whole =
         rw found.counted
@@ -87,19 +98,21 @@ module _ (area : List ℕ) (k : ℕ) (r : Survey) (w : Surveys area k r) where
 
     -- ---- a start
     module _ (sheet : List ℕ) (len : ℕ) (b : Bool) (t : b ≡ not (is_none (sheet_tree sheet len))) where
-      pub start-bad : (x : Starting) → b ≡ false → RefusesStart 7 x → start_of x ≡ starting area sheet len
-      start-bad x g y =
-          y.is ∙ sym (start-refused area sheet len 7 ((bad-7 area sheet len).1 (record { old = found.old; opened = found.opened; bad = bad sheet len b t g })) (omega arith))
+      pub start-bad : b ≡ false → start_of (Err NotOwn) ≡ starting area sheet len
+      unfolding start_of
+      start-bad g =
+          sym (start-refused area sheet len 7 ((bad-7 area sheet len).1 (record { old = found.old; opened = found.opened; bad = bad sheet len b t g })) (omega arith))
 
-      pub start-no-room : (x : Starting) (n : ℕ) → b ≡ true → Long len n → length area - rest < n → RefusesStart 6 x → start_of x ≡ starting area sheet len
-      start-no-room x n g l h y =
+      pub start-no-room : (n : ℕ) → b ≡ true → Long len n → length area - rest < n → start_of (Err Size) ≡ starting area sheet len
+      unfolding start_of
+      start-no-room n g l h =
           good sheet len b t g
           (λ u f.
           let z : length (entry (take len sheet)) ≡ n = entry-long sheet len n l (sheet-of-lent sheet len u f) in
           let v : NoRoom area sheet len = record { old = found.old; opened = found.opened; tree = u; good = f; longer = omega (arith, rest-is) } in
-          y.is ∙ sym (start-refused area sheet len 6 ((room-6 area sheet len).1 v) (omega arith)))
+          sym (start-refused area sheet len 6 ((room-6 area sheet len).1 v) (omega arith)))
 
-      pub start-good : (n : ℕ) → b ≡ true → Long len n → n ≤ length area - rest → start_of (starting.Accepted (record { at = rest; octets = len; made = 0; done = false })) ≡ starting area sheet len
+      pub start-good : (n : ℕ) → b ≡ true → Long len n → n ≤ length area - rest → start_of (Ok (record { at = rest; octets = len; made = 0; done = false })) ≡ starting area sheet len
       unfolding start_of
       start-good n g l h =
           good sheet len b t g
@@ -109,16 +122,19 @@ module _ (area : List ℕ) (k : ℕ) (r : Survey) (w : Surveys area k r) where
           let q : length area - length found.old.rest ≡ rest = omega (arith, rest-is, found.within) in
           sym (start-of area sheet len v ∙ ap (λ (m : ℕ). started (fresh m len)) q))
 
-  pub start-damaged : (sheet : List ℕ) (len : ℕ) (x : Starting) → r ≡ Damaged → RefusesStart 10 x → start_of x ≡ starting area sheet len
-  start-damaged sheet len x e y = y.is ∙ sym (start-refused area sheet len 10 ((damaged-10 area sheet len).1 (spool-damage area (damaged e))) (omega arith))
+  pub start-damaged : (sheet : List ℕ) (len : ℕ) (f : Refusal) → r ≡ Err f → start_of (Err f) ≡ starting area sheet len
+  unfolding start_of
+  start-damaged sheet len f e =
+      let d = damaged f e in
+      rw d.row (sym (start-refused area sheet len 10 ((damaged-10 area sheet len).1 (spool-damage area d.none_opened)) (omega arith)))
 
-  pub open-damaged : r ≡ Damaged → opened (opening.Refused (record { number = 10; place = 0 })) area ≡ opening area k
+  pub open-damaged : (f : Refusal) → r ≡ Err f → opened (Err f) area ≡ opening area k
   unfolding opened
-  open-damaged e = sym (opening-none area k (damaged e))
+  open-damaged f e = let d = damaged f e in rw d.row (sym (opening-none area k d.none_opened))
 
-  pub shown-none : r ≡ Damaged → [] ≡ (opening area k).shown
-  shown-none e = sym (ap (λ (x : Shown). x.shown) (opening-none area k (damaged e)))
+  pub shown-none : (f : Refusal) → r ≡ Err f → [] ≡ (opening area k).shown
+  shown-none f e = sym (ap (λ (x : Shown). x.shown) (opening-none area k (damaged f e).none_opened))
 
-  pub shown-none-at : (x y : ℕ × ℕ) → r ≡ Damaged → (x.0, 0 + x.1) ≡ shown_at (some (opening area k).stands) x y
+  pub shown-none-at : (x y : ℕ × ℕ) (f : Refusal) → r ≡ Err f → (x.0, 0 + x.1) ≡ shown_at (some (opening area k).stands) x y
   unfolding shown_at
-  shown-none-at x y e = ap (λ (p : Part). (x.0, p.start + x.1)) (sym (ap (λ (z : Shown). z.stands) (opening-none area k (damaged e))))
+  shown-none-at x y f e = ap (λ (p : Part). (x.0, p.start + x.1)) (sym (ap (λ (z : Shown). z.stands) (opening-none area k (damaged f e).none_opened)))

@@ -20,9 +20,10 @@ use Rattle.spools.proofs.Order.{stores-behind, stores-at-end, lastly-length, las
 use Rattle.spool.specs.Cases.{state_of}
 use Rattle.groups.specs.Octets.{Wide, Long}
 use Rattle.groups.proofs.Octets.{entry-data}
+use Rattle.std.specs.Prelude.{Some, None}
 use Rattle.spool.specs.Stores.{offset_of, stores_of_len, Stores, NextOf}
 use Rattle.spool.specs.declared.Adding.{Adding}
-use Rattle.spool.specs.declared.stores.Next.TheVariants.{Body, Octet, Nothing}
+use Rattle.spool.specs.declared.stores.Next.TheVariants.{Body, Octet}
 
 -- ---- how many stores there are
 
@@ -150,27 +151,27 @@ few-made a area sheet e =
     omega (arith, g.left, g.small, stores-length (length area) a.at (entry d), length-append (groups (length d)) d, groups-three (length d) (omega (arith, g.small)))
 
 module _ (a : Adding) (area sheet : List ℕ) where
-  never : (Goes a area sheet → ⊥) → NextOf a area sheet Nothing
+  never : (Goes a area sheet → ⊥) → NextOf a area sheet None
   unfolding NextOf
   never f = by_bool (going (state_of a) area sheet) (λ e. absurd (f (goes a area sheet e))) (λ e. e)
 
-  pub stop-done : a.done ≡ true → NextOf a area sheet Nothing
+  pub stop-done : a.done ≡ true → NextOf a area sheet None
   stop-done e = never (λ g. differ e g.going_on)
 
-  pub stop-lent : length sheet < a.octets → NextOf a area sheet Nothing
+  pub stop-lent : length sheet < a.octets → NextOf a area sheet None
   stop-lent e = never (λ g. omega (arith, g.lent))
 
-  pub stop-large : max_canonical < a.octets → NextOf a area sheet Nothing
+  pub stop-large : max_canonical < a.octets → NextOf a area sheet None
   stop-large e = never (λ g. omega (arith, g.small))
 
-  pub stop-beyond : length area < a.at → NextOf a area sheet Nothing
+  pub stop-beyond : length area < a.at → NextOf a area sheet None
   stop-beyond e = never (λ g. omega (arith, g.room))
 
-  pub stop-room : (n : ℕ) → Wide a.octets n → a.at ≤ length area → length area - a.at < n + a.octets → NextOf a area sheet Nothing
+  pub stop-room : (n : ℕ) → Wide a.octets n → a.at ≤ length area → length area - a.at < n + a.octets → NextOf a area sheet None
   stop-room n w k e = never (λ g. omega (arith, g.room, entry-long sheet a.octets (n + a.octets) (long_of w) g.lent))
 
   pub stop-made : (n total : ℕ) → Wide a.octets n → a.at ≤ length area → total ≡ stores_of_len (ltb (n + a.octets) (length area - a.at)) (n + a.octets) → total ≤ a.made
-      → NextOf a area sheet Nothing
+      → NextOf a area sheet None
   stop-made n total x k t e =
       never
       (λ g.
@@ -219,7 +220,7 @@ module _ (a : Adding) (area sheet : List ℕ) (g total i : ℕ) where
         let b : behind ≡ ltb (a.at + len) (length area) = same-behind a.at len (length area) p in
         stores_at d o m x (omega arith) (omega arith) (t ∙ ap (λ (y : Bool). stores_of_len y len) b) k (e ∙ ap (λ (y : Bool). offset_of y len a.made) b)
 
-    pub stores-on : total ≡ stores_of_len behind len → a.made < total → i ≡ offset_of behind len a.made → NextOf a area sheet (Octet i g (leb total (a.made + 1)))
+    pub stores-on : total ≡ stores_of_len behind len → a.made < total → i ≡ offset_of behind len a.made → NextOf a area sheet (Some (Octet i g (leb total (a.made + 1))))
     unfolding NextOf
     stores-on t k e = by-room t k e
 
@@ -258,7 +259,7 @@ module _ (a : Adding) (area sheet : List ℕ) (g f : ℕ) where
   after = ltb whole (length area - a.at)
 
   pub copies-on : a.done ≡ false → a.octets ≤ length sheet → a.octets ≤ max_canonical → Wide a.octets g → a.at ≤ length area → whole ≤ length area - a.at
-      → f ≡ pick after g (g - 1) → f ≤ a.made → a.made - f < a.octets → NextOf a area sheet (Body (a.made - f) (a.at + g + (a.made - f)))
+      → f ≡ pick after g (g - 1) → f ≤ a.made → a.made - f < a.octets → NextOf a area sheet (Some (Body (a.made - f) (a.at + g + (a.made - f))))
   unfolding NextOf
   copies-on d o m x p n e k l =
       let b : Within after whole a.made (g + (a.made - f)) = subst (λ (z : ℕ). Within after whole a.made (g + (a.made - z))) (sym e)

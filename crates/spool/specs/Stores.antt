@@ -1,5 +1,5 @@
 -- The stores of an addition (S 9.4), by number.
-use Rattle.std.specs.Prelude.{ℕ, ◌+◌, ◌<◌, ◌≡◌, Bool, true, false, List, length, get_or, take, leb, ltb, eqb}
+use Rattle.std.specs.Prelude.{ℕ, ◌+◌, ◌<◌, ◌≡◌, Bool, true, false, List, length, get_or, take, leb, ltb, eqb, Option, Some, None}
 use Rattle.base.specs.Choice.{pick}
 use Rattle.spools.specs.Adding.{Store, store, stores_of, going}
 use Rattle.spools.specs.Spool.{entry}
@@ -7,7 +7,7 @@ use Rattle.spool.specs.Cases.{state_of}
 use Rattle.groups.specs.Octets.{Entried}
 use Rattle.spool.specs.declared.Adding.{Adding}
 use Rattle.spool.specs.declared.stores.Next.{Next}
-use Rattle.spool.specs.declared.stores.Next.TheVariants.{Body, Octet, Nothing}
+use Rattle.spool.specs.declared.stores.Next.TheVariants.{Body, Octet}
 
 -- which octet of an entry of so many octets is stored after so many stores
 unfoldable pub offset_of : Bool → ℕ → ℕ → ℕ
@@ -44,7 +44,7 @@ pub record Copies (a : Adding) (area sheet : List ℕ) (from to : ℕ) : Type 0 
   pub lent : from < length sheet
   pub few : a.made < 16388
 
-unfoldable pub NextOf : Adding → List ℕ → List ℕ → Next → Type 0
-NextOf a area sheet (Body from to) = Copies a area sheet from to
-NextOf a area sheet (Octet offset groups last) = Stores a area sheet offset groups last
-NextOf a area sheet Nothing = going (state_of a) area sheet ≡ false
+unfoldable pub NextOf : Adding → List ℕ → List ℕ → Option Next → Type 0
+NextOf a area sheet (Some (Body from to)) = Copies a area sheet from to
+NextOf a area sheet (Some (Octet offset groups last)) = Stores a area sheet offset groups last
+NextOf a area sheet None = going (state_of a) area sheet ≡ false

@@ -7,8 +7,8 @@ use crate::Adding;
 use groups::groups_len;
 
 // The next store: an octet of the sheet, from a place in it to one in the area, which is never the last store; or the octet of the entry at
-// an offset, how many groups its length has, and whether it is the last store; or none. The octet past the entry is 0.
-#[derive(Clone, Copy)]
+// an offset, how many groups its length has, and whether it is the last store. The octet past the entry is 0.
+#[derive(Clone, Copy, Debug, PartialEq, Eq)]
 pub enum Next {
     Body {
         from: usize,
@@ -19,7 +19,6 @@ pub enum Next {
         groups: usize,
         last: bool,
     },
-    Nothing,
 }
 
 // Which octet of an entry is stored: the one behind it first, if the area has one, and the entry's first one last.
@@ -68,49 +67,49 @@ fn sheet_first(behind: bool, groups: usize) -> usize
 }
 
 // The next store of an addition, the common case first. A state that no start and no step handed back may have none.
-pub fn next_store(adding: Adding, area: &[u8], sheet: &[u8]) -> Next
+pub fn next_store(adding: Adding, area: &[u8], sheet: &[u8]) -> Option<Next>
     ensures { NextOf adding area.now sheet.now result }
 {
     let at = adding.at;
     let octets = adding.octets;
     let made = adding.made;
     if adding.done {
-        return Next::Nothing;
+        return None;
     }
     if octets > sheet.len() {
-        return Next::Nothing;
+        return None;
     }
     if octets > limits::CANONICAL {
-        return Next::Nothing;
+        return None;
     }
     if at > area.len() {
-        return Next::Nothing;
+        return None;
     }
     let groups = groups_len(octets);
     let len = groups + octets;
     let room = area.len() - at;
     if len > room {
-        return Next::Nothing;
+        return None;
     }
     let behind = len < room;
     let first = sheet_first(behind, groups);
     if made >= first {
         let k = made - first;
         if k < octets {
-            return Next::Body {
+            return Some(Next::Body {
                 from: k,
                 to: at + groups + k,
-            };
+            });
         }
     }
     let total = stores_len(behind, len);
     if made >= total {
-        return Next::Nothing;
+        return None;
     }
     let i = offset(behind, len, made);
-    Next::Octet {
+    Some(Next::Octet {
         offset: i,
         groups,
         last: made + 1 >= total,
-    }
+    })
 }

@@ -9,12 +9,12 @@ use Rattle.base.proofs.Stores.{sets-all}
 use Rattle.model.specs.Limits.{max_source}
 use Rattle.model.specs.Tree.{nodes}
 use Rattle.model.proofs.Exact.{canon-sound}
-use Rattle.walk.specs.declared.Extent.{Extent}
+use Rattle.walk.specs.Extent.{Measured}
 use Rattle.sheets.specs.Notes.{noted, Notable, Noted}
 use Rattle.tables.specs.Told.{Holds}
 use Rattle.sheets.proofs.Keeping.{noted-length}
 
-pub note-holds : (src before after : List ℕ) (r : Extent) → Noted src before after r → length src ≤ max_source → (g : Notable src (length before)) → Holds after (nodes g.tree) g.tree
+pub note-holds : (src before after : List ℕ) (r : Measured) → Noted src before after r → length src ≤ max_source → (g : Notable src (length before)) → Holds after (nodes g.tree) g.tree
 note-holds src before after r v short g =
     record {
       counted = refl;

@@ -17,7 +17,11 @@ use Rattle.model.proofs.Streams.{between}
 use Rattle.scan.proofs.Places.{one-here}
 use Rattle.marks.specs.Decoded.{Spacious, Decoded, Decodes}
 use Rattle.walk.specs.declared.Extent.{Extent}
-use Rattle.walk.specs.declared.Extent.TheVariants.{Whole, Refused}
+use Rattle.walk.specs.declared.Broken.{Broken}
+use Rattle.walk.proofs.Extents.{place-equal}
+use Rattle.std.specs.Prelude.{Ok, Err}
+use Rattle.walk.specs.Extent.{Measured}
+use Rattle.walk.specs.Extent.{Whole, Refused}
 use Rattle.walk.specs.Extent.{Measures}
 use Rattle.model.specs.Tree.{Tree}
 use Rattle.sheets.proofs.Noting.{whole-refused}
@@ -118,19 +122,19 @@ module _ (text scratch : List ℕ) (g : Braced text × Lent (length text) (lengt
       pub brace-short : length (take len scratch') ≤ max_source
       brace-short = omega (arith, brace-part, len_is, braces-short (drop 1 text) told.octets (drop next text) told.reads, length-drop 1 text, g.1.short)
 
-      module _ (h : length text ≤ next) (notes notes' : List ℕ) (r : Extent) (v : Noted (take len scratch') notes notes' r) where
+      module _ (h : length text ≤ next) (notes notes' : List ℕ) (r : Measured) (v : Noted (take len scratch') notes notes' r) where
         meant : decode₂ rules text ≡ decode₁ (take len scratch')
         meant = ap (decode₂ rules) text-is ∙ braces-whole (drop 1 text) told.octets (drop next text) told.reads (drop_of_length-le text h) ∙ ap decode₁ (sym part-is)
 
-        taken_as : (r' : Extent) → Measures (decode₂ rules text) r' → ((q : ℕ) → r' ≡ Refused q → q ≡ 0) → Taken (decode₂ rules text) 0 scratch' notes notes' r'
+        taken_as : (r' : Measured) → Measures (decode₂ rules text) r' → ((q : ℕ) → r' ≡ Refused q → q ≡ 0) → Taken (decode₂ rules text) 0 scratch' notes notes' r'
         taken_as r' m f = through (decode₂ rules text) (take len scratch') scratch' notes notes' r v brace-short meant 0 r' m f (λ _. rw (← brace-part))
 
-        measured : (r' : Extent) → r ≡ r' → Measures (decode₂ rules text) r'
+        measured : (r' : Measured) → r ≡ r' → Measures (decode₂ rules text) r'
         measured r' e = subst (Measures (decode₂ rules text)) e (subst (λ (y : Option Tree). Measures y r) (sym meant) v.measures)
 
-        pub brace-whole : (l n d : ℕ) → r ≡ Whole l n d → Taken (decode₂ rules text) 0 scratch' notes notes' (Whole l n d)
-        brace-whole l n d e = taken_as (Whole l n d) (measured (Whole l n d) e) (λ q f. whole-refused f)
+        pub brace-whole : (s : Extent) → r ≡ Ok s → Taken (decode₂ rules text) 0 scratch' notes notes' (Ok s)
+        brace-whole s e = taken_as (Ok s) (measured (Ok s) e) (λ q f. whole-refused f)
 
-        pub brace-refused : (q : ℕ) → r ≡ Refused q → Taken (decode₂ rules text) 0 scratch' notes notes' (Refused 0)
+        pub brace-refused : (q : Broken) → r ≡ Err q → Taken (decode₂ rules text) 0 scratch' notes notes' (Refused 0)
         unfolding Measures
-        brace-refused q e = taken_as (Refused 0) (measured (Refused q) e) (λ p f. let z : 0 ≡ p = cc in sym z)
+        brace-refused q e = taken_as (Refused 0) (measured (Err q) e) (λ p f. sym (place-equal f))

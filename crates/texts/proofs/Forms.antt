@@ -16,7 +16,7 @@ use Rattle.model.specs.Automaton.{place}
 use Rattle.model.specs.Decode.{nestings, only_tree, only_in, nest, decode₁, decode₂, decode₃, decode}
 use Rattle.model.specs.Lexemes.{lexemes_by, strict_lexemes}
 use Rattle.model.specs.Tree.{Tree}
-use Rattle.walk.specs.declared.Extent.{Extent}
+use Rattle.walk.specs.Extent.{Measured}
 use Rattle.texts.specs.Texts.{Takeable, Braced, Enclosed, Coded, Opens, Bare, Taken}
 
 -- ---- form 2 with a brace, or another text
@@ -88,7 +88,7 @@ module _ (form : ℕ) (text : List ℕ) where
 
 -- ---- each form, told as the form's
 module _ (form : ℕ) (text : List ℕ) (room : ℕ) (g : Takeable form (length text) room) where
-  module _ (scratch notes notes' : List ℕ) (r : Extent) where
+  module _ (scratch notes notes' : List ℕ) (r : Measured) where
     as-form : (y : Option Tree) (p : ℕ) → decode form text ≡ y → place_of form text ≡ p → Taken y p scratch notes notes' r → Taken (decode form text) (place_of form text) scratch notes notes' r
     as-form y p e f t = rw (e, f) t
 
@@ -106,10 +106,10 @@ module _ (form : ℕ) (text : List ℕ) (room : ℕ) (g : Takeable form (length 
     pub form-brace : Braced text
     form-brace = enclosed.braced
 
-    pub form-braced : (scratch notes notes' : List ℕ) (r : Extent) → Taken (decode₂ rules text) 0 scratch notes notes' r → Taken (decode form text) (place_of form text) scratch notes notes' r
+    pub form-braced : (scratch notes notes' : List ℕ) (r : Measured) → Taken (decode₂ rules text) 0 scratch notes notes' r → Taken (decode form text) (place_of form text) scratch notes notes' r
     form-braced scratch notes notes' r t = as-form scratch notes notes' r (decode₂ rules text) 0 enclosed.is enclosed.told t
 
-  module _ (n : form < 3) (b : Bool) (o : Opens form text b) (scratch notes notes' : List ℕ) (r : Extent) where
+  module _ (n : form < 3) (b : Bool) (o : Opens form text b) (scratch notes notes' : List ℕ) (r : Measured) where
     pub form-canonical : b ≡ false → Taken (decode₁ text) (place text) scratch notes notes' r → Taken (decode form text) (place_of form text) scratch notes notes' r
     unfolding Opens
     form-canonical e t =

@@ -1,7 +1,7 @@
 -- How large the tree is that a text means.
 use Prim.Native.Nat.{ℕ, ◌+◌, ◌*◌, ◌≤◌, ◌<◌}
 use native.Mathlib.Omega.{arith}
-use mathlib.Core.Path.{◌≡◌}
+use mathlib.Core.Path.{◌≡◌, refl}
 use mathlib.Core.Option.{some}
 use mathlib.Core.List.{List}
 use lib.ListN.{length}
@@ -11,7 +11,9 @@ use Rattle.model.specs.Tree.{Tree, canon}
 use Rattle.sheets.specs.Places.{shift}
 use Rattle.advanced.specs.Converted.{thrice, largest}
 use Rattle.texts.specs.Texts.{text_verdict, Takeable, Formed}
-use Rattle.texts.proofs.Rows.{taken}
+use Rattle.texts.proofs.Rows.{Taken, taken}
+use Rattle.answers.specs.Cases.{Judging, Judges}
+use Rattle.std.specs.Prelude.{Ok, ⊤}
 use Rattle.model.proofs.Laws.{decode-exact, canonical-within-3n}
 
 -- at most three octets for one
@@ -28,9 +30,12 @@ module _ (form n : ℕ) (s : ℕ) where
   long-takes f h l = record { low = f.low; high = f.high; lent = record { short = f.short; enough = largest (omega (arith, f.short)); small = l } }
 
 -- ---- a text that rows 1 and 2 don't apply to
-module _ (form len n : ℕ) (v : n ≡ text_verdict form len) (h : n ≤ 0) where
+module _ (form len : ℕ) (r : Judging) (j : Judges (text_verdict form len) r) (u : ⊤) (e : r ≡ Ok u) where
+  good : Taken form len
+  good = taken form len (text_verdict form len) refl (omega (arith, j.passes u e))
+
   pub formed : (bound : ℕ) → len ≤ bound → Formed form len bound
-  formed bound l = let t = taken form len n v h in record { low = t.low; high = t.high; short = l }
+  formed bound l = record { low = good.low; high = good.high; short = l }
 
   pub formed-long : Formed form len max_source
-  formed-long = formed max_source (taken form len n v h).short
+  formed-long = formed max_source good.short

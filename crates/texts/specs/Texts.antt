@@ -10,8 +10,8 @@ use Rattle.model.specs.Limits.{max_source, max_canonical, max_depth, no_refusal,
 use Rattle.model.specs.Automaton.{place}
 use Rattle.model.specs.Answers.{no_form, place_of}
 use Rattle.walk.specs.Extent.{Measures}
-use Rattle.walk.specs.declared.Extent.{Extent}
-use Rattle.walk.specs.declared.Extent.TheVariants.{Refused}
+use Rattle.walk.specs.Extent.{Measured}
+use Rattle.walk.specs.Extent.{Refused}
 use Rattle.tables.specs.Told.{Holds}
 use Rattle.advanced.specs.Converted.{Lent}
 
@@ -70,7 +70,7 @@ pub record Bare (form : ℕ) (text : List ℕ) (r : Bool) : Type 0 where
 
 -- the sizes of the tree o that a text means, if it means one, else the place p that is told; where the tree's canonical form is no longer than a sheet, it stands
 -- at the front of scratch; and where the tree fits besides and the notes have room, they are the tree's
-pub record Taken (o : Option Tree) (p : ℕ) (scratch notes notes' : List ℕ) (r : Extent) : Type 0 where
+pub record Taken (o : Option Tree) (p : ℕ) (scratch notes notes' : List ℕ) (r : Measured) : Type 0 where
   pub measures : Measures o r
   pub fails : (q : ℕ) → r ≡ Refused q → q ≡ p
   pub octets : (t : Tree) → o ≡ some t → length (canon t) ≤ max_canonical → take (length (canon t)) scratch ≡ canon t

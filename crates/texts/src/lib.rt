@@ -7,26 +7,27 @@ ghost use Rattle.model.specs.Grammar.{rules};
 ghost use Rattle.model.specs.Answers.{place_of};
 ghost use Rattle.model.specs.Automaton.{place};
 ghost use Rattle.model.specs.Decode.{decode₁, decode₂, decode₃, decode};
-ghost use Rattle.octets.specs.Classes.{Classed, Lettered};
 ghost use Rattle.advanced.specs.Converted.{Lent};
+ghost use Rattle.answers.specs.Cases.{Judges};
 ghost use Rattle.texts.specs.Texts.{text_verdict, Takeable, Literal, Braced, Coded, Opens, Bare, Taken};
 
-use walk::Extent;
+use answers::{Judging, Refusal};
+use walk::{Broken, Extent, Measured};
 
-// Row 1 or 2, of a form and a text's length; 0 where neither applies.
-pub fn row(form: u32, len: usize) -> u32
-    ensures { result ≡ text_verdict form len }
+// Row 1 or 2, of a form and a text's length.
+pub fn row(form: u32, len: usize) -> Judging
+    ensures { Judges (text_verdict form len) result }
 {
     if form < 1 {
-        return 1;
+        return Err(Refusal::Form);
     }
     if form > 4 {
-        return 1;
+        return Err(Refusal::Form);
     }
     if len > limits::SOURCE {
-        return 2;
+        return Err(Refusal::SourceSize);
     }
-    0
+    Ok(())
 }
 
 // Whether a text is base-64 in braces, by its form and its first octet.
@@ -66,7 +67,7 @@ pub fn literal(form: u32) -> bool
 }
 
 // Such a text: its octets stand for those in scratch, and nothing is copied.
-pub fn take_literal(form: u32, text: &[u8], notes: &mut [usize]) -> Extent
+pub fn take_literal(form: u32, text: &[u8], notes: &mut [usize]) -> Measured
     requires { Literal form (length text.now) }
     ensures { Taken (decode form text.now) (place_of form text.now) text.now notes.old notes.new result }
 {
@@ -74,7 +75,7 @@ pub fn take_literal(form: u32, text: &[u8], notes: &mut [usize]) -> Extent
 }
 
 // Canonical text is its own octets.
-fn take_canonical(text: &[u8], scratch: &mut [u8], notes: &mut [usize]) -> Extent
+fn take_canonical(text: &[u8], scratch: &mut [u8], notes: &mut [usize]) -> Measured
     requires { Lent (length text.now) (length scratch.old) }
     ensures { Taken (decode₁ text.now) (place text.now) scratch.new notes.old notes.new result }
 {
@@ -85,107 +86,74 @@ fn take_canonical(text: &[u8], scratch: &mut [u8], notes: &mut [usize]) -> Exten
     scan::copy(text, 0, len, scratch, 0);
     // Taken apart, so that what `note` stored by single numbers is not loaded by pairs, for which the processor would wait.
     match sheets::note(text, notes) {
-        Extent::Whole {
+        Ok(
+            Extent {
+                len: octets,
+                nodes,
+                depth,
+            },
+        ) => Ok(Extent {
             len: octets,
             nodes,
             depth,
-        } => Extent::Whole {
-            len: octets,
-            nodes,
-            depth,
-        },
-        Extent::Refused { place } => Extent::Refused { place },
+        }),
+        Err(Broken { place }) => Err(Broken { place }),
     }
 }
 
 // Base-64 in braces: what it decodes to is canonical text. No place is told of it.
-fn take_braced(
-    classes: &[u8; 256],
-    letters: &[u8; 256],
-    text: &[u8],
-    scratch: &mut [u8],
-    notes: &mut [usize],
-) -> Extent
-    requires classed { Classed classes.now }
-    requires lettered { Lettered letters.now }
-    requires braced { Braced text.now × Lent (length text.now) (length scratch.old) }
+fn take_braced(text: &[u8], scratch: &mut [u8], notes: &mut [usize]) -> Measured
+    requires { Braced text.now × Lent (length text.now) (length scratch.old) }
     ensures { Taken (decode₂ rules text.now) 0 scratch.new notes.old notes.new result }
 {
     let mut len: usize = 0;
-    let next = marks::base(classes, letters, text, 1, b'}', scratch, 0, &mut len);
+    let next = marks::base(text, 1, b'}', scratch, 0, &mut len);
     if next == 0 {
-        return Extent::Refused { place: 0 };
+        return Err(Broken { place: 0 });
     }
     if next < text.len() {
-        return Extent::Refused { place: 0 };
+        return Err(Broken { place: 0 });
     }
     let part = &scratch[..len];
     match sheets::note(part, notes) {
-        Extent::Whole {
-            len: octets,
-            nodes,
-            depth,
-        } => Extent::Whole {
-            len: octets,
-            nodes,
-            depth,
-        },
-        Extent::Refused { place: _ } => Extent::Refused { place: 0 },
+        Ok(sizes) => Ok(sizes),
+        Err(_) => Err(Broken { place: 0 }),
     }
 }
 
 // Text of form 3, or with braces of form 4: what is in braces has octets of its own, so that the notes are then those of the canonical
 // octets that the text becomes.
-fn take_advanced(
-    classes: &[u8; 256],
-    letters: &[u8; 256],
-    braces: bool,
-    text: &[u8],
-    scratch: &mut [u8],
-    notes: &mut [usize],
-) -> Extent
-    requires classed { Classed classes.now }
-    requires lettered { Lettered letters.now }
-    requires lent { Lent (length text.now) (length scratch.old) }
+fn take_advanced(braces: bool, text: &[u8], scratch: &mut [u8], notes: &mut [usize]) -> Measured
+    requires { Lent (length text.now) (length scratch.old) }
     ensures { Taken (decode₃ rules braces text.now) 0 scratch.new notes.old notes.new result }
 {
-    match advanced::convert(classes, letters, braces, text, scratch, notes) {
-        Extent::Whole { len, nodes, depth } => {
-            if braces {
-                if len <= limits::CANONICAL {
-                    let part = &scratch[..len];
-                    sheets::note(part, notes);
-                }
-            }
-            Extent::Whole {
-                len: len,
-                nodes: nodes,
-                depth: depth,
-            }
+    let sizes = advanced::convert(braces, text, scratch, notes)?;
+    if braces {
+        if sizes.len <= limits::CANONICAL {
+            let part = &scratch[..sizes.len];
+            let _ = sheets::note(part, notes);
         }
-        Extent::Refused { place: _ } => Extent::Refused { place: 0 },
     }
+    Ok(sizes)
 }
 
-// Text whose octets are spelled: advanced text, and base-64 in braces. It alone asks for the lists of classes and letters.
-fn take_coded(form: u32, text: &[u8], scratch: &mut [u8], notes: &mut [usize]) -> Extent
+// Text whose octets are spelled: advanced text, and base-64 in braces.
+fn take_coded(form: u32, text: &[u8], scratch: &mut [u8], notes: &mut [usize]) -> Measured
     requires takeable { Takeable form (length text.now) (length scratch.old) }
     requires coded { Coded form text.now }
     ensures { Taken (decode form text.now) (place_of form text.now) scratch.new notes.old notes.new result }
 {
     // Lent again, a slice goes on in registers.
     let text = &*text;
-    let classes = octets::classes();
-    let letters = octets::letters();
     if form >= 3 {
-        return take_advanced(&classes, &letters, form == 4, text, scratch, notes);
+        return take_advanced(form == 4, text, scratch, notes);
     }
-    take_braced(&classes, &letters, text, scratch, notes)
+    take_braced(text, scratch, notes)
 }
 
 // The canonical octets of a text at the front of scratch, the sizes of the tree that it means, and the tree's notes as far as they
 // have room. No limit of depth, nodes or octets decides whether the text is one.
-pub fn take(form: u32, text: &[u8], scratch: &mut [u8], notes: &mut [usize]) -> Extent
+pub fn take(form: u32, text: &[u8], scratch: &mut [u8], notes: &mut [usize]) -> Measured
     requires { Takeable form (length text.now) (length scratch.old) }
     ensures { Taken (decode form text.now) (place_of form text.now) scratch.new notes.old notes.new result }
 {

@@ -10,26 +10,25 @@ use Rattle.typed.specs.Octets.{signed, shortest, be, octs}
 use Rattle.typed.specs.Coding.{more_up_to, more, whole_octets}
 use Rattle.typed.specs.Quarters.{units, count_of, doublings, bits_by, quarter_bits}
 use Rattle.typed.specs.declared.Value.TheVariants.{Single, Double, Whole}
-use Rattle.typed.specs.declared.Typing.{Typing}
-use Rattle.typed.specs.declared.Typing.TheVariants.{Is, Untyped}
-use Rattle.typed.specs.declared.Count.TheVariants.{Quarters, NoCount}
+use Rattle.typed.specs.Typed.{Typing}
+use Rattle.std.specs.Prelude.{Some, None}
 use Rattle.base.specs.Choice.{equal}
 
 -- octets, and the whole number that they are
 abbrev wholes : List (List ℕ × Typing)
 wholes =
-    ([], Is (Whole (pos 0)))
-    ∷ (0 ∷ [], Untyped)
-    ∷ (127 ∷ [], Is (Whole (pos 127)))
-    ∷ (0 ∷ 127 ∷ [], Untyped)
-    ∷ (0 ∷ 128 ∷ [], Is (Whole (pos 128)))
-    ∷ (255 ∷ [], Is (Whole (negsuc 0)))
-    ∷ (255 ∷ 255 ∷ [], Untyped)
-    ∷ (0x80 ∷ [], Is (Whole (negsuc 127)))
-    ∷ (0xff ∷ 0x80 ∷ [], Untyped)
-    ∷ (0xff ∷ 0x7f ∷ [], Is (Whole (negsuc 128)))
-    ∷ (0x80 ∷ 0 ∷ 0 ∷ 0 ∷ 0 ∷ 0 ∷ 0 ∷ 0 ∷ [], Is (Whole (negsuc 0x7fff_ffff_ffff_ffff)))
-    ∷ (0 ∷ 0x80 ∷ 0 ∷ 0 ∷ 0 ∷ 0 ∷ 0 ∷ 0 ∷ 0 ∷ [], Untyped)
+    ([], Some (Whole (pos 0)))
+    ∷ (0 ∷ [], None)
+    ∷ (127 ∷ [], Some (Whole (pos 127)))
+    ∷ (0 ∷ 127 ∷ [], None)
+    ∷ (0 ∷ 128 ∷ [], Some (Whole (pos 128)))
+    ∷ (255 ∷ [], Some (Whole (negsuc 0)))
+    ∷ (255 ∷ 255 ∷ [], None)
+    ∷ (0x80 ∷ [], Some (Whole (negsuc 127)))
+    ∷ (0xff ∷ 0x80 ∷ [], None)
+    ∷ (0xff ∷ 0x7f ∷ [], Some (Whole (negsuc 128)))
+    ∷ (0x80 ∷ 0 ∷ 0 ∷ 0 ∷ 0 ∷ 0 ∷ 0 ∷ 0 ∷ [], Some (Whole (negsuc 0x7fff_ffff_ffff_ffff)))
+    ∷ (0 ∷ 0x80 ∷ 0 ∷ 0 ∷ 0 ∷ 0 ∷ 0 ∷ 0 ∷ 0 ∷ [], None)
     ∷ []
 
 pub whole-examples : map (λ (p : List ℕ × Typing). whole_of p.0) wholes ≡ map (λ (p : List ℕ × Typing). p.1) wholes
@@ -43,19 +42,19 @@ whole-octets = refl
 
 abbrev doubles : List (List ℕ × Typing)
 doubles =
-    (0x3f ∷ 0xf8 ∷ 0 ∷ 0 ∷ 0 ∷ 0 ∷ 0 ∷ 0 ∷ [], Is (Double (fin false 3 (negsuc 0))))
-    ∷ (0x80 ∷ 0 ∷ 0 ∷ 0 ∷ 0 ∷ 0 ∷ 0 ∷ 0 ∷ [], Is (Double (fin true 0 (pos 0))))
-    ∷ (0x7f ∷ 0xf0 ∷ 0 ∷ 0 ∷ 0 ∷ 0 ∷ 0 ∷ 0 ∷ [], Untyped)
-    ∷ (0xff ∷ 0xf0 ∷ 0 ∷ 0 ∷ 0 ∷ 0 ∷ 0 ∷ 0 ∷ [], Untyped)
-    ∷ (0x7f ∷ 0xf0 ∷ 0 ∷ 0 ∷ 0 ∷ 0 ∷ 0 ∷ 1 ∷ [], Untyped)
-    ∷ (0x3f ∷ 0xf8 ∷ 0 ∷ 0 ∷ 0 ∷ 0 ∷ 0 ∷ [], Untyped)
+    (0x3f ∷ 0xf8 ∷ 0 ∷ 0 ∷ 0 ∷ 0 ∷ 0 ∷ 0 ∷ [], Some (Double (fin false 3 (negsuc 0))))
+    ∷ (0x80 ∷ 0 ∷ 0 ∷ 0 ∷ 0 ∷ 0 ∷ 0 ∷ 0 ∷ [], Some (Double (fin true 0 (pos 0))))
+    ∷ (0x7f ∷ 0xf0 ∷ 0 ∷ 0 ∷ 0 ∷ 0 ∷ 0 ∷ 0 ∷ [], None)
+    ∷ (0xff ∷ 0xf0 ∷ 0 ∷ 0 ∷ 0 ∷ 0 ∷ 0 ∷ 0 ∷ [], None)
+    ∷ (0x7f ∷ 0xf0 ∷ 0 ∷ 0 ∷ 0 ∷ 0 ∷ 0 ∷ 1 ∷ [], None)
+    ∷ (0x3f ∷ 0xf8 ∷ 0 ∷ 0 ∷ 0 ∷ 0 ∷ 0 ∷ [], None)
     ∷ []
 
 pub double-examples : map (λ (p : List ℕ × Typing). double_of p.0) doubles ≡ map (λ (p : List ℕ × Typing). p.1) doubles
 unfolding float_of finite of_bits be
 double-examples = refl
 
-pub single-examples : map single_of ((0x7f ∷ 0xc0 ∷ 0 ∷ 0 ∷ []) ∷ (0x3f ∷ 0xc0 ∷ 0 ∷ []) ∷ (0x3f ∷ 0xc0 ∷ 0 ∷ 0 ∷ []) ∷ []) ≡ Untyped ∷ Untyped ∷ Is (Single (fin false 3 (negsuc 0))) ∷ []
+pub single-examples : map single_of ((0x7f ∷ 0xc0 ∷ 0 ∷ 0 ∷ []) ∷ (0x3f ∷ 0xc0 ∷ 0 ∷ []) ∷ (0x3f ∷ 0xc0 ∷ 0 ∷ 0 ∷ []) ∷ []) ≡ None ∷ None ∷ Some (Single (fin false 3 (negsuc 0))) ∷ []
 unfolding float_of finite of_bits be
 single-examples = refl
 
@@ -66,7 +65,7 @@ hint-examples = refl
 
 -- 0, minus 0, a quarter, 24, 24.25 and 0.1 hours, the smallest double, the largest, infinity
 pub count-examples : map count_of (0 ∷ 0x8000_0000_0000_0000 ∷ 0x3fd0_0000_0000_0000 ∷ 0x4038_0000_0000_0000 ∷ 0x4038_4000_0000_0000 ∷ 0x3fb9_9999_9999_999a ∷ 1 ∷ 0x7fef_ffff_ffff_ffff ∷ 0x7ff0_0000_0000_0000 ∷ [])
-    ≡ Quarters 0 ∷ NoCount ∷ Quarters 1 ∷ Quarters 96 ∷ NoCount ∷ NoCount ∷ NoCount ∷ NoCount ∷ NoCount ∷ []
+    ≡ Some 0 ∷ None ∷ Some 1 ∷ Some 96 ∷ None ∷ None ∷ None ∷ None ∷ None ∷ []
 unfolding count_of units
 count-examples = refl
 

@@ -16,8 +16,8 @@ use borrow.Author.Tests.{ltb-true, le-ltb, eqb-true}
 use Rattle.typed.specs.Octets.{be, octs, octets}
 use Rattle.typed.specs.Typed.{finite, float_of}
 use Rattle.typed.specs.declared.Value.{Value}
-use Rattle.typed.specs.declared.Typing.{Typing}
-use Rattle.typed.specs.declared.Typing.TheVariants.{Is, Untyped}
+use Rattle.typed.specs.Typed.{Typing}
+use Rattle.std.specs.Prelude.{Some, None}
 use Rattle.typed.proofs.Base.{by_bool, pick_yes, pick_no}
 use Rattle.typed.proofs.Digits.{octets-head, octets-rest, be-lt}
 use Rattle.typed.proofs.Floating.{float-made}
@@ -99,8 +99,8 @@ no-nan-is f n e =
     let h : n % top f < ones f * hid f = finite-is f n e in
     subst (λ (t : Bool). T (not t)) (sym (sym (nan_bits_is f n) ∙ nan_bits_above f n ∙ le-ltb (ones f * hid f) (n % top f) (omega arith))) tt
 
-module _ (f : Format) (k : ℕ) (s : Size f k) (made : Float → Value) (inj : (a b : Float) → ◌≡◌ {A = Typing} (Is (made a)) (Is (made b)) → a ≡ b) where
-  float_says : (x : Float) (o : List ℕ) → float_of f k made o ≡ Is (made x) → Floats f k x o
+module _ (f : Format) (k : ℕ) (s : Size f k) (made : Float → Value) (inj : (a b : Float) → ◌≡◌ {A = Typing} (Some (made a)) (Some (made b)) → a ≡ b) where
+  float_says : (x : Float) (o : List ℕ) → float_of f k made o ≡ Some (made x) → Floats f k x o
   unfolding float_of
   float_says x o e = by_bool (eqb (length o) k && finite f (be 0 o)) yes' no'
     where
@@ -109,7 +109,7 @@ module _ (f : Format) (k : ℕ) (s : Size f k) (made : Float → Value) (inj : (
           (λ (p : eqb (length o) k ≡ true). record {
             long = eqb-true (length o) k p;
             finitely = ap (λ (b : Bool). b && finite f (be 0 o)) (sym p) ∙ t;
-            value = inj (of_bits f (be 0 o)) x (sym (pick_yes (eqb (length o) k && finite f (be 0 o)) (Is (made (of_bits f (be 0 o)))) Untyped t) ∙ e);
+            value = inj (of_bits f (be 0 o)) x (sym (pick_yes (eqb (length o) k && finite f (be 0 o)) (Some (made (of_bits f (be 0 o)))) None t) ∙ e);
           })
           (λ (p : eqb (length o) k ≡ false). absurd (off (ap (λ (b : Bool). b && finite f (be 0 o)) (sym p) ∙ t)))
         where
@@ -117,13 +117,13 @@ module _ (f : Format) (k : ℕ) (s : Size f k) (made : Float → Value) (inj : (
           off w = subst T (sym w) tt
 
       no' : (eqb (length o) k && finite f (be 0 o)) ≡ false → Floats f k x o
-      no' t = absurd (never (sym (pick_no (eqb (length o) k && finite f (be 0 o)) (Is (made (of_bits f (be 0 o)))) Untyped t) ∙ e))
+      no' t = absurd (never (sym (pick_no (eqb (length o) k && finite f (be 0 o)) (Some (made (of_bits f (be 0 o)))) None t) ∙ e))
         where
-          never : Untyped ≡ Is (made x) → ⊥
+          never : None ≡ Some (made x) → ⊥
           never w = let z : ◌≡◌ {A = ℕ} 0 1 = cc in omega arith
 
   -- the bits that the octets of x have are those of x
-  pub float-bits : (x : Float) (o : List ℕ) → T (octets o) → float_of f k made o ≡ Is (made x) → (length o ≡ k) × (be 0 o ≡ to_bits f x) × (finite f (to_bits f x) ≡ true) × T (not (is_nan x))
+  pub float-bits : (x : Float) (o : List ℕ) → T (octets o) → float_of f k made o ≡ Some (made x) → (length o ≡ k) × (be 0 o ≡ to_bits f x) × (finite f (to_bits f x) ≡ true) × T (not (is_nan x))
   float-bits x o t e =
       let w : Floats f k x o = float_says x o e in
       let n : T (not (is_nan (of_bits f (be 0 o)))) = no-nan-is f (be 0 o) w.finitely in
@@ -132,20 +132,20 @@ module _ (f : Format) (k : ℕ) (s : Size f k) (made : Float → Value) (inj : (
       (w.long, b, ap (finite f) (sym b) ∙ w.finitely, subst (λ (y : Float). T (not (is_nan y))) w.value n)
 
   -- two lists of octets that are read as one float are one
-  pub float_one : (x : Float) (o o' : List ℕ) → T (octets o) → T (octets o') → float_of f k made o ≡ Is (made x) → float_of f k made o' ≡ Is (made x) → o ≡ o'
+  pub float_one : (x : Float) (o o' : List ℕ) → T (octets o) → T (octets o') → float_of f k made o ≡ Some (made x) → float_of f k made o' ≡ Some (made x) → o ≡ o'
   float_one x o o' t t' e e' =
       let w = float-bits x o t e in
       let w' = float-bits x o' t' e' in
       be-inj o o' t t' (w.0 ∙ sym w'.0) (w.1 ∙ sym w'.1)
 
   -- the digits of its bits are octets of a finite float
-  pub float-coded : (x : Float) → T (fits f x) → finite f (to_bits f x) ≡ true → float_of f k made (octs k (to_bits f x) []) ≡ Is (made x)
+  pub float-coded : (x : Float) → T (fits f x) → finite f (to_bits f x) ≡ true → float_of f k made (octs k (to_bits f x) []) ≡ Some (made x)
   float-coded x h e =
       let l : to_bits f x < 256 ^ k = subst (λ (y : ℕ). to_bits f x < y) (sym s.wide) (to_bits-lt f x h) in
       let b : be 0 (octs k (to_bits f x) []) ≡ to_bits f x = be-octs k (to_bits f x) l in
       let len : length (octs k (to_bits f x) []) ≡ k = length-octs k (to_bits f x) [] ∙ (let z : k + 0 ≡ k = omega arith in z) in
       sym (float-made f k made (octs k (to_bits f x) []) len (ap (finite f) b ∙ e))
-      ∙ ap (λ (y : Float). Is (made y)) (ap (of_bits f) b ∙ of_bits-to_bits f x h)
+      ∙ ap (λ (y : Float). Some (made y)) (ap (of_bits f) b ∙ of_bits-to_bits f x h)
 
 pub bits_fit : (x : Float) → T (fits binary32 x) → Fits w64 (to_bits binary32 x)
 bits_fit x h = let l : to_bits binary32 x < 2 ^ 32 = to_bits-lt binary32 x h in omega arith

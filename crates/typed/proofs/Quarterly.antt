@@ -10,7 +10,7 @@ use lib.Pow.{pow-add, pow_pos, pow_mono}
 use borrow.Author.Tests.{lt-ltb, le-ltb, le-leb, lt-leb, eq-eqb, ne_eqb}
 use Rattle.base.specs.Choice.{pick}
 use Rattle.typed.specs.Quarters.{units, count_of}
-use Rattle.typed.specs.declared.Count.TheVariants.{Quarters, NoCount}
+use Rattle.std.specs.Prelude.{Some, None}
 use Rattle.typed.proofs.Base.{by_le, by-eq, by_bool, pick_yes, pick_no, and_yes, and-no-l, and-no-r}
 
 -- ---- the count, from its three tests
@@ -29,30 +29,30 @@ unfolding few?
 few-is b t = leb→le (units b / 2 ^ 1072) 96 t
 
 module _ (b : ℕ) where
-  by_tests : count_of b ≡ pick (plain? b && even? b && few? b) (Quarters (units b / 2 ^ 1072)) NoCount
+  by_tests : count_of b ≡ pick (plain? b && even? b && few? b) (Some (units b / 2 ^ 1072)) None
   unfolding count_of plain? even? few?
   by_tests = refl
 
-  no : (plain? b && even? b && few? b) ≡ false → NoCount ≡ count_of b
-  no e = sym (by_tests ∙ pick_no (plain? b && even? b && few? b) (Quarters (units b / 2 ^ 1072)) NoCount e)
+  no : (plain? b && even? b && few? b) ≡ false → None ≡ count_of b
+  no e = sym (by_tests ∙ pick_no (plain? b && even? b && few? b) (Some (units b / 2 ^ 1072)) None e)
 
-  signed_no : 2 ^ 63 ≤ b → NoCount ≡ count_of b
+  signed_no : 2 ^ 63 ≤ b → None ≡ count_of b
   unfolding plain?
   signed_no h = no (and-no-l (plain? b && even? b) (few? b) (and-no-l (plain? b) (even? b) (le-ltb b (2 ^ 63) h)))
 
-  uneven-no : (units b % 2 ^ 1072 ≡ 0 → ⊥) → NoCount ≡ count_of b
+  uneven-no : (units b % 2 ^ 1072 ≡ 0 → ⊥) → None ≡ count_of b
   unfolding even?
   uneven-no h = no (and-no-l (plain? b && even? b) (few? b) (and-no-r (plain? b) (even? b) (ne_eqb (units b % 2 ^ 1072) 0 h)))
 
-  many-no : 96 < units b / 2 ^ 1072 → NoCount ≡ count_of b
+  many-no : 96 < units b / 2 ^ 1072 → None ≡ count_of b
   unfolding few?
   many-no h = no (and-no-r (plain? b && even? b) (few? b) (lt-leb (units b / 2 ^ 1072) 96 h))
 
-  all_yes : (q : ℕ) → b < 2 ^ 63 → units b % 2 ^ 1072 ≡ 0 → q ≤ 96 → units b / 2 ^ 1072 ≡ q → Quarters q ≡ count_of b
+  all_yes : (q : ℕ) → b < 2 ^ 63 → units b % 2 ^ 1072 ≡ 0 → q ≤ 96 → units b / 2 ^ 1072 ≡ q → Some q ≡ count_of b
   unfolding plain? even? few?
   all_yes q h z l e =
-      ap Quarters (sym e)
-      ∙ sym (by_tests ∙ pick_yes (plain? b && even? b && few? b) (Quarters (units b / 2 ^ 1072)) NoCount
+      ap (λ (x : ℕ). Some x) (sym e)
+      ∙ sym (by_tests ∙ pick_yes (plain? b && even? b && few? b) (Some (units b / 2 ^ 1072)) None
       (and_yes (plain? b && even? b) (few? b) (and_yes (plain? b) (even? b) (lt-ltb b (2 ^ 63) h) (eq-eqb (units b % 2 ^ 1072) 0 z)) (le-leb (units b / 2 ^ 1072) 96 (subst (λ (n : ℕ). n ≤ 96) (sym e) l))))
 
   -- ---- the units, by the exponent's field
@@ -67,19 +67,19 @@ module _ (b : ℕ) where
 small : (u : ℕ) {p : ℕ} → 0 < u → u < p → u % p ≡ 0 → ⊥
 small u {p} h l e = let m : u % p ≡ u = mod-eq_of_lt l in omega arith
 
-pub count-zero : (b : ℕ) → b ≡ 0 → Quarters 0 ≡ count_of b
+pub count-zero : (b : ℕ) → b ≡ 0 → Some 0 ≡ count_of b
 unfolding count_of units
 count-zero b e = rw e
 
-pub count_low : (b : ℕ) → (b ≡ 0 → ⊥) → b / 4503599627370496 < 1021 → NoCount ≡ count_of b
+pub count_low : (b : ℕ) → (b ≡ 0 → ⊥) → b / 4503599627370496 < 1021 → None ≡ count_of b
 count_low b z h = by-eq (b / 4503599627370496) 0 none some
   where
-    none : b / 4503599627370496 ≡ 0 → NoCount ≡ count_of b
+    none : b / 4503599627370496 ≡ 0 → None ≡ count_of b
     none e =
         let u : units b ≡ b % 2 ^ 52 = units-low b (omega arith) in
         uneven-no b (small (units b) (omega arith) (lt_of_lt_of_le (subst (λ (n : ℕ). n < 2 ^ 52) (sym u) (mod-lt b (lit< tt))) (lit≤ tt)))
 
-    some : (b / 4503599627370496 ≡ 0 → ⊥) → NoCount ≡ count_of b
+    some : (b / 4503599627370496 ≡ 0 → ⊥) → None ≡ count_of b
     some n =
         let e = b / 4503599627370496 in
         let u : units b ≡ (2 ^ 52 + b % 2 ^ 52) * 2 ^ (e - 1) = units-high b e (omega arith) (omega arith) in
@@ -88,10 +88,10 @@ count_low b z h = by-eq (b / 4503599627370496) 0 none some
         let k : 2 ^ 53 * 2 ^ (e - 1) ≤ 2 ^ 53 * 2 ^ 1019 = mul-le-mul_left (2 ^ 53) (pow_mono f) in
         uneven-no b (small (units b) (subst (λ (n : ℕ). 0 < n) (sym u) (mul-pos (omega arith) (pow_pos (e - 1)))) (subst (λ (n : ℕ). n < 2 ^ 1072) (sym u) (lt_of_lt_of_le l (le_trans k (lit≤ tt)))))
 
-pub count-high : (b : ℕ) → b < 2 ^ 64 → 1027 < b / 4503599627370496 → NoCount ≡ count_of b
+pub count-high : (b : ℕ) → b < 2 ^ 64 → 1027 < b / 4503599627370496 → None ≡ count_of b
 count-high b f h = by_le (2 ^ 63) b (signed_no b) plain
   where
-    plain : b < 2 ^ 63 → NoCount ≡ count_of b
+    plain : b < 2 ^ 63 → None ≡ count_of b
     plain p =
         let e = b / 4503599627370496 in
         let u : units b ≡ (2 ^ 52 + b % 2 ^ 52) * 2 ^ (e - 1) = units-high b e (omega arith) (omega arith) in
@@ -115,7 +115,7 @@ module _ (b e m k : ℕ) (he : e ≡ b / 4503599627370496) (lo : 1021 ≤ e) (hi
   over : units b / 2 ^ 1072 ≡ m / 2 ^ k
   over = ap (λ (n : ℕ). n / 2 ^ 1072) is ∙ ap (λ (n : ℕ). m * 2 ^ (e - 1) / n) quarter ∙ mul-div-mul_right m (2 ^ k) (pow_pos (e - 1))
 
-  pub count-many : 96 < m / 2 ^ k → NoCount ≡ count_of b
+  pub count-many : 96 < m / 2 ^ k → None ≡ count_of b
   count-many h = many-no b (subst (λ (n : ℕ). 96 < n) (sym over) h)
 
   shifted : m / 2 ^ k * 2 ^ k % 2 ^ 64 ≡ m / 2 ^ k * 2 ^ k
@@ -128,13 +128,13 @@ module _ (b e m k : ℕ) (he : e ≡ b / 4503599627370496) (lo : 1021 ≤ e) (hi
   regrouped : m / 2 ^ k * 2 ^ 1072 ≡ m / 2 ^ k * 2 ^ k * 2 ^ (e - 1)
   regrouped = ap (λ (n : ℕ). m / 2 ^ k * n) quarter ∙ sym (mul_assoc (m / 2 ^ k) (2 ^ k) (2 ^ (e - 1)))
 
-  pub count-uneven : (m / 2 ^ k * 2 ^ k % 2 ^ 64 ≡ m → ⊥) → NoCount ≡ count_of b
+  pub count-uneven : (m / 2 ^ k * 2 ^ k % 2 ^ 64 ≡ m → ⊥) → None ≡ count_of b
   count-uneven h = uneven-no b (λ z. h (shifted ∙ eq_of_mul-eq-mul_right (2 ^ (e - 1)) (pow_pos (e - 1)) (m / 2 ^ k * 2 ^ k) m (sym regrouped ∙ whole (m / 2 ^ k * 2 ^ 1072) (units b % 2 ^ 1072) (units b) z parts ∙ is)))
     where
       whole : (a r u : ℕ) → r ≡ 0 → a + r ≡ u → a ≡ u
       whole a r u z e = omega arith
 
-  pub count-even : m / 2 ^ k ≤ 96 → m / 2 ^ k * 2 ^ k % 2 ^ 64 ≡ m → Quarters (m / 2 ^ k) ≡ count_of b
+  pub count-even : m / 2 ^ k ≤ 96 → m / 2 ^ k * 2 ^ k % 2 ^ 64 ≡ m → Some (m / 2 ^ k) ≡ count_of b
   count-even l s = all_yes b (m / 2 ^ k) plain (none (m / 2 ^ k * 2 ^ 1072) (units b % 2 ^ 1072) (units b) parts (regrouped ∙ ap (λ (n : ℕ). n * 2 ^ (e - 1)) (sym shifted ∙ s) ∙ sym is)) l over
     where
       none : (a r u : ℕ) → a + r ≡ u → a ≡ u → r ≡ 0
@@ -142,25 +142,25 @@ module _ (b e m k : ℕ) (he : e ≡ b / 4503599627370496) (lo : 1021 ≤ e) (hi
 
 -- ---- a count is at most 96
 
-pub count-few : (b q : ℕ) → count_of b ≡ Quarters q → q ≤ 96
+pub count-few : (b q : ℕ) → count_of b ≡ Some q → q ≤ 96
 count-few b q e = by_bool (plain? b && even? b && few? b) yes' no'
   where
     yes' : (plain? b && even? b && few? b) ≡ true → q ≤ 96
     yes' t =
-        let c : Quarters (units b / 2 ^ 1072) ≡ Quarters q = sym (pick_yes (plain? b && even? b && few? b) (Quarters (units b / 2 ^ 1072)) NoCount t) ∙ sym (by_tests b) ∙ e in
+        let c : Some (units b / 2 ^ 1072) ≡ Some q = sym (pick_yes (plain? b && even? b && few? b) (Some (units b / 2 ^ 1072)) None t) ∙ sym (by_tests b) ∙ e in
         let d : units b / 2 ^ 1072 ≡ q = cc in
         let f : T (few? b) = and_r (plain? b && even? b) (few? b) (subst T (sym t) tt) in
         subst (λ (n : ℕ). n ≤ 96) d (few-is b f)
 
     no' : (plain? b && even? b && few? b) ≡ false → q ≤ 96
     no' t =
-        let c : NoCount ≡ Quarters q = no b t ∙ e in
+        let c : None ≡ Some q = no b t ∙ e in
         let z : ◌≡◌ {A = ℕ} 0 1 = cc in
         omega arith
 
 -- ---- the count, in words: q quarters exactly if the sign is clear, q is at most 96, and the units are q times a quarter's
 
-pub count-is : (b q : ℕ) → b < 2 ^ 63 → q ≤ 96 → units b ≡ q * 2 ^ 1072 → count_of b ≡ Quarters q
+pub count-is : (b q : ℕ) → b < 2 ^ 63 → q ≤ 96 → units b ≡ q * 2 ^ 1072 → count_of b ≡ Some q
 count-is b q h l e =
     sym (all_yes b q h (ap (λ (x : ℕ). x % 2 ^ 1072) e ∙ mul-mod_left q (2 ^ 1072)) l (ap (λ (x : ℕ). x / 2 ^ 1072) e ∙ mul-div_left q (pow_pos 1072)))
 
@@ -177,7 +177,7 @@ even_is : (b : ℕ) → T (even? b) → units b % 2 ^ 1072 ≡ 0
 unfolding even?
 even_is b t = eqb→eq (units b % 2 ^ 1072) 0 t
 
-pub count-says : (b q : ℕ) → count_of b ≡ Quarters q → Counted b q
+pub count-says : (b q : ℕ) → count_of b ≡ Some q → Counted b q
 count-says b q e = by_bool (plain? b && even? b && few? b) yes' no'
   where
     add : (a r u : ℕ) → r ≡ 0 → a + r ≡ u → u ≡ a
@@ -185,7 +185,7 @@ count-says b q e = by_bool (plain? b && even? b && few? b) yes' no'
 
     yes' : (plain? b && even? b && few? b) ≡ true → Counted b q
     yes' t =
-        let c : Quarters (units b / 2 ^ 1072) ≡ Quarters q = sym (pick_yes (plain? b && even? b && few? b) (Quarters (units b / 2 ^ 1072)) NoCount t) ∙ sym (by_tests b) ∙ e in
+        let c : Some (units b / 2 ^ 1072) ≡ Some q = sym (pick_yes (plain? b && even? b && few? b) (Some (units b / 2 ^ 1072)) None t) ∙ sym (by_tests b) ∙ e in
         let d : units b / 2 ^ 1072 ≡ q = cc in
         let all : T (plain? b && even? b && few? b) = subst T (sym t) tt in
         let two : T (plain? b && even? b) = and_l (plain? b && even? b) (few? b) all in
@@ -198,5 +198,5 @@ count-says b q e = by_bool (plain? b && even? b && few? b) yes' no'
     no' : (plain? b && even? b && few? b) ≡ false → Counted b q
     no' t = absurd (never (no b t ∙ e))
       where
-        never : NoCount ≡ Quarters q → ⊥
+        never : None ≡ Some q → ⊥
         never w = let z : ◌≡◌ {A = ℕ} 0 1 = cc in omega arith

@@ -13,7 +13,7 @@ use Rattle.typed.specs.Octets.{be, octs, octets, turned, signed, shortest}
 use Rattle.typed.specs.Typed.{whole_of}
 use Rattle.typed.proofs.Wide.{Wide, joined}
 use Rattle.typed.specs.declared.Value.TheVariants.{Whole}
-use Rattle.typed.specs.declared.Typing.TheVariants.{Is}
+use Rattle.std.specs.Prelude.{Some}
 use Rattle.typed.proofs.Base.{by-eq}
 use Rattle.typed.proofs.Digits.{octets-head, octets-rest}
 use Rattle.typed.proofs.Floating.{unturned}
@@ -132,6 +132,6 @@ module _ (t : Bool) (k m : ℕ) (w : Wide k m) (n : t ≡ false → m ≡ 0 → 
           ap shortest f ∙ short-two t (m / 256 ^ suc j) c (map (turned t) (octs j m [])) h (omega arith) (omega arith)
 
   -- the digits of a magnitude, turned over or not, are read as the number
-  pub coded : whole_of (map (turned t) (octs (suc k) m [])) ≡ Is (Whole (joined t m))
+  pub coded : whole_of (map (turned t) (octs (suc k) m [])) ≡ Some (Whole (joined t m))
   unfolding o
-  coded = sym (whole-made o (subst (λ (x : ℕ). x ≤ 8) (sym long) (let f : k ≤ 7 = w.few in omega arith)) short) ∙ ap (λ (z : ℤ). Is (Whole z)) value
+  coded = sym (whole-made o (subst (λ (x : ℕ). x ≤ 8) (sym long) (let f : k ≤ 7 = w.few in omega arith)) short) ∙ ap (λ (z : ℤ). Some (Whole z)) value

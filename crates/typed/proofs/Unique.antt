@@ -13,7 +13,7 @@ use Rattle.typed.specs.Octets.{be, octets, turned, signed, shortest}
 use Rattle.typed.specs.Typed.{whole_of}
 use Rattle.typed.proofs.Wide.{joined}
 use Rattle.typed.specs.declared.Value.TheVariants.{Whole}
-use Rattle.typed.specs.declared.Typing.TheVariants.{Is, Untyped}
+use Rattle.std.specs.Prelude.{Some, None}
 use Rattle.typed.proofs.Base.{by_le, by-eq, by_bool, pick_yes, pick_no}
 use Rattle.typed.proofs.Digits.{octets-head, octets-rest, be-lt}
 use Rattle.typed.proofs.Wholly.{turned-octets, length-turned}
@@ -31,21 +31,21 @@ pub record Says (z : ℤ) (o : List ℕ) : Type 0 where
   pub short : shortest o ≡ true
   pub value : signed o ≡ z
 
-pub whole_says : (z : ℤ) (o : List ℕ) → whole_of o ≡ Is (Whole z) → Says z o
+pub whole_says : (z : ℤ) (o : List ℕ) → whole_of o ≡ Some (Whole z) → Says z o
 unfolding whole_of
 whole_says z o e = by_bool (leb (length o) 8 && shortest o) yes' no'
   where
     yes' : (leb (length o) 8 && shortest o) ≡ true → Says z o
     yes' t = by_bool (leb (length o) 8)
         (λ (p : leb (length o) 8 ≡ true).
-        let q : Is (Whole (signed o)) ≡ Is (Whole z) = sym (pick_yes (leb (length o) 8 && shortest o) (Is (Whole (signed o))) Untyped t) ∙ e in
+        let q : Some (Whole (signed o)) ≡ Some (Whole z) = sym (pick_yes (leb (length o) 8 && shortest o) (Some (Whole (signed o))) None t) ∙ e in
         record { few = leb-true (length o) 8 p; short = ap (λ (b : Bool). b && shortest o) (sym p) ∙ t; value = cc })
         (λ (p : leb (length o) 8 ≡ false). absurd (off (ap (λ (b : Bool). b && shortest o) (sym p) ∙ t)))
 
     no' : (leb (length o) 8 && shortest o) ≡ false → Says z o
-    no' t = absurd (never (sym (pick_no (leb (length o) 8 && shortest o) (Is (Whole (signed o))) Untyped t) ∙ e))
+    no' t = absurd (never (sym (pick_no (leb (length o) 8 && shortest o) (Some (Whole (signed o))) None t) ∙ e))
       where
-        never : Untyped ≡ Is (Whole z) → ⊥
+        never : None ≡ Some (Whole z) → ⊥
         never w = let y : ◌≡◌ {A = ℕ} 0 1 = cc in omega arith
 
 -- ---- the magnitude, between its bounds
@@ -142,7 +142,7 @@ not-zero z b l o w e =
     let q : be 0 (map (turned s.0) (b ∷ l)) ≡ 0 = j.1 in
     omega arith
 
-pub whole-one : (z : ℤ) (o o' : List ℕ) → T (octets o) → T (octets o') → whole_of o ≡ Is (Whole z) → whole_of o' ≡ Is (Whole z) → o ≡ o'
+pub whole-one : (z : ℤ) (o o' : List ℕ) → T (octets o) → T (octets o') → whole_of o ≡ Some (Whole z) → whole_of o' ≡ Some (Whole z) → o ≡ o'
 whole-one z o o' t t' e e' = by o o' t t' (whole_says z o e) (whole_says z o' e')
   where
     by : (o o' : List ℕ) → T (octets o) → T (octets o') → Says z o → Says z o' → o ≡ o'

@@ -15,25 +15,25 @@ use Rattle.base.specs.Choice.{pick}
 use Rattle.typed.specs.Octets.{be, turned, octets, signed, shortest}
 use Rattle.typed.specs.Typed.{whole_of}
 use Rattle.typed.specs.declared.Value.TheVariants.{Whole}
-use Rattle.typed.specs.declared.Typing.TheVariants.{Is, Untyped}
+use Rattle.std.specs.Prelude.{Some, None}
 use Rattle.typed.proofs.Base.{pick_yes, pick_no, and_yes, and-no-l, and-no-r}
 use Rattle.typed.proofs.Digits.{octets-known, octets-rest, octets-slice, be-lt, be-turned}
 use Rattle.typed.proofs.Floating.{unturned}
 use Rattle.typed.proofs.Shortly.{slice-none, slice_first}
 
 module _ (o : List ℕ) where
-  is : whole_of o ≡ pick (leb (length o) 8 && shortest o) (Is (Whole (signed o))) Untyped
+  is : whole_of o ≡ pick (leb (length o) 8 && shortest o) (Some (Whole (signed o))) None
   unfolding whole_of
   is = refl
 
-  pub whole_long : 8 < length o → Untyped ≡ whole_of o
-  whole_long h = sym (is ∙ pick_no (leb (length o) 8 && shortest o) (Is (Whole (signed o))) Untyped (and-no-l (leb (length o) 8) (shortest o) (lt-leb (length o) 8 h)))
+  pub whole_long : 8 < length o → None ≡ whole_of o
+  whole_long h = sym (is ∙ pick_no (leb (length o) 8 && shortest o) (Some (Whole (signed o))) None (and-no-l (leb (length o) 8) (shortest o) (lt-leb (length o) 8 h)))
 
-  pub whole-padded : shortest o ≡ false → Untyped ≡ whole_of o
-  whole-padded h = sym (is ∙ pick_no (leb (length o) 8 && shortest o) (Is (Whole (signed o))) Untyped (and-no-r (leb (length o) 8) (shortest o) h))
+  pub whole-padded : shortest o ≡ false → None ≡ whole_of o
+  whole-padded h = sym (is ∙ pick_no (leb (length o) 8 && shortest o) (Some (Whole (signed o))) None (and-no-r (leb (length o) 8) (shortest o) h))
 
-  pub whole-made : length o ≤ 8 → shortest o ≡ true → Is (Whole (signed o)) ≡ whole_of o
-  whole-made l h = sym (is ∙ pick_yes (leb (length o) 8 && shortest o) (Is (Whole (signed o))) Untyped (and_yes (leb (length o) 8) (shortest o) (le-leb (length o) 8 l) h))
+  pub whole-made : length o ≤ 8 → shortest o ≡ true → Some (Whole (signed o)) ≡ whole_of o
+  whole-made l h = sym (is ∙ pick_yes (leb (length o) 8 && shortest o) (Some (Whole (signed o))) None (and_yes (leb (length o) 8) (shortest o) (le-leb (length o) 8 l) h))
 
 -- ---- the sign and the magnitude of octets
 
@@ -81,19 +81,19 @@ half t b l o h k =
 -- ---- of a part of the source
 
 module _ (src : List ℕ) (s e : ℕ) (upto : e ≤ length src) where
-  pub part-long : 8 < e - s → Untyped ≡ whole_of (slice s e src)
+  pub part-long : 8 < e - s → None ≡ whole_of (slice s e src)
   part-long h = whole_long (slice s e src) (subst (λ (n : ℕ). 8 < n) (sym (length-slice s e src upto)) h)
 
-  pub part-padded : (r : Bool) → r ≡ shortest (slice s e src) → r ≡ false → Untyped ≡ whole_of (slice s e src)
+  pub part-padded : (r : Bool) → r ≡ shortest (slice s e src) → r ≡ false → None ≡ whole_of (slice s e src)
   part-padded r p q = whole-padded (slice s e src) (sym p ∙ q)
 
   module _ (few : e - s ≤ 8) (r : Bool) (p : r ≡ shortest (slice s e src)) (q : r ≡ true) where
-    made : Is (Whole (signed (slice s e src))) ≡ whole_of (slice s e src)
+    made : Some (Whole (signed (slice s e src))) ≡ whole_of (slice s e src)
     made = whole-made (slice s e src) (subst (λ (n : ℕ). n ≤ 8) (sym (length-slice s e src upto)) few) (sym p ∙ q)
 
-    pub part-zero : s ≡ e → Is (Whole (pos 0)) ≡ whole_of (slice s e src)
+    pub part-zero : s ≡ e → Some (Whole (pos 0)) ≡ whole_of (slice s e src)
     unfolding signed
-    part-zero h = ap (λ (o : List ℕ). Is (Whole (signed o))) (sym (slice-none src s e h)) ∙ made
+    part-zero h = ap (λ (o : List ℕ). Some (Whole (signed o))) (sym (slice-none src s e h)) ∙ made
 
     module _ (known : (i : ℕ) → get_or src i 0 < 256) (less : s < e) where
       first : slice s e src ≡ get_or src s 0 ∷ slice (suc s) e src
@@ -112,12 +112,12 @@ module _ (src : List ℕ) (s e : ℕ) (upto : e ≤ length src) where
         pub part-minus-half : m ≡ be 0 (map (turned true) (slice s e src)) → 128 ≤ get_or src s 0 → m < 2 ^ 63
         part-minus-half n h = subst (λ (x : ℕ). x < 2 ^ 63) (sym (n ∙ ap (λ (l : List ℕ). be 0 (map (turned true) l)) first)) (half true (get_or src s 0) (slice (suc s) e src) all (omega arith) rest)
 
-        pub part-plus : m ≡ be 0 (map (turned false) (slice s e src)) → get_or src s 0 < 128 → (z : ℤ) → z ≡ pos m → Is (Whole z) ≡ whole_of (slice s e src)
+        pub part-plus : m ≡ be 0 (map (turned false) (slice s e src)) → get_or src s 0 < 128 → (z : ℤ) → z ≡ pos m → Some (Whole z) ≡ whole_of (slice s e src)
         part-plus n h z y =
-            ap (λ (x : ℤ). Is (Whole x)) (y ∙ ap pos (n ∙ ap (be 0) (unturned (slice s e src) ∙ first)) ∙ sym (signed-plus (get_or src s 0) (slice (suc s) e src) h) ∙ sym (ap signed first))
+            ap (λ (x : ℤ). Some (Whole x)) (y ∙ ap pos (n ∙ ap (be 0) (unturned (slice s e src) ∙ first)) ∙ sym (signed-plus (get_or src s 0) (slice (suc s) e src) h) ∙ sym (ap signed first))
             ∙ made
 
-        pub part-minus : m ≡ be 0 (map (turned true) (slice s e src)) → 128 ≤ get_or src s 0 → (z : ℤ) → z ≡ negsuc m → Is (Whole z) ≡ whole_of (slice s e src)
+        pub part-minus : m ≡ be 0 (map (turned true) (slice s e src)) → 128 ≤ get_or src s 0 → (z : ℤ) → z ≡ negsuc m → Some (Whole z) ≡ whole_of (slice s e src)
         part-minus n h z y =
-            ap (λ (x : ℤ). Is (Whole x)) (y ∙ ap negsuc (n ∙ ap (λ (l : List ℕ). be 0 (map (turned true) l)) first) ∙ sym (signed-minus (get_or src s 0) (slice (suc s) e src) all h) ∙ sym (ap signed first))
+            ap (λ (x : ℤ). Some (Whole x)) (y ∙ ap negsuc (n ∙ ap (λ (l : List ℕ). be 0 (map (turned true) l)) first) ∙ sym (signed-minus (get_or src s 0) (slice (suc s) e src) all h) ∙ sym (ap signed first))
             ∙ made

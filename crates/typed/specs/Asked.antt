@@ -1,5 +1,5 @@
 -- What the entries answer: for all inputs, refused ones too (S 10.2 to 10.5).
-use Rattle.std.specs.Prelude.{ℕ, true, List, [], ◌∷◌, leb}
+use Rattle.std.specs.Prelude.{ℕ, true, List, [], ◌∷◌, leb, Some, None}
 use Rattle.std.proofs.Math.Option.{Option, none, some}
 use Rattle.base.specs.Choice.{is_none}
 use Rattle.model.specs.Limits.{no_refusal, refusal_not_own, refusal_no_node}
@@ -7,13 +7,12 @@ use Rattle.model.specs.Answers.{Check, when, judged, the, own_tree}
 use Rattle.model.specs.Table.{row_of}
 use Rattle.model.specs.Tree.{Tree}
 use Rattle.typed.specs.Coding.{refusal_not_typed, refusal_not_line}
+use Rattle.typed.specs.Typed.{Typing}
 use Rattle.typed.specs.Quarters.{total_by, total_for, total_of}
 use Rattle.typed.specs.Lines.{typed_row, line_at, line_count, Sum, lines, bad, sum_at}
 use Rattle.typed.specs.Cases.{Valued, unvalued, Totalled, untotalled, Lined, unlined, Summed, unsummed}
 use Rattle.typed.specs.declared.Value.{Value}
 use Rattle.typed.specs.declared.Line.{Line}
-use Rattle.typed.specs.declared.Typing.{Typing}
-use Rattle.typed.specs.declared.Typing.TheVariants.{Is, Untyped}
 
 -- rows 7 and 8, which come before what is asked of a node
 unfoldable pub node_checks : List ℕ → ℕ → List ℕ → ℕ → ℕ → List Check → List Check
@@ -29,8 +28,8 @@ tree_of canonical len table count = the (own_tree canonical len table count)
 -- ---- a node's value; S 10.2: 7, 8, 11
 
 abbrev pub value_in : Typing → Option Value
-value_in (Is v) = some v
-value_in Untyped = none
+value_in (Some v) = some v
+value_in None = none
 
 unfoldable pub node_value : List ℕ → ℕ → List ℕ → ℕ → ℕ → Option Value
 node_value canonical len table count node = value_in (typed_row canonical (row_of (tree_of canonical len table count) node))

@@ -1,19 +1,15 @@
 -- A node's value, a line and a list of lines, by the rows of a sheet's tree (S 10.2 to 10.4).
-use Rattle.std.specs.Prelude.{ℕ, zero, suc, ◌+◌, List, [], ◌∷◌, ltb, eqb, Float}
+use Rattle.std.specs.Prelude.{ℕ, zero, suc, ◌+◌, List, [], ◌∷◌, ltb, eqb, Float, Some, None}
 use Rattle.std.proofs.Math.Option.{Option, none, some}
 use Rattle.std.proofs.Math.Seq.{slice}
 use Rattle.base.specs.Choice.{pick, both}
 use Rattle.model.specs.Table.{Row, row_of}
 use Rattle.model.specs.Tree.{Tree}
-use Rattle.typed.specs.Typed.{kind_of, value_at}
-use Rattle.typed.specs.Quarters.{quarters_of}
+use Rattle.typed.specs.Typed.{Typing, kind_of, value_at}
+use Rattle.typed.specs.Quarters.{Count, quarters_of}
 use Rattle.typed.specs.declared.Value.{Value}
 use Rattle.typed.specs.declared.Value.TheVariants.{Single, Double, Whole, Raw}
-use Rattle.typed.specs.declared.Typing.{Typing}
-use Rattle.typed.specs.declared.Typing.TheVariants.{Is, Untyped}
 use Rattle.typed.specs.declared.Line.{Line}
-use Rattle.typed.specs.declared.Count.{Count}
-use Rattle.typed.specs.declared.Count.TheVariants.{Quarters, NoCount}
 
 -- the kind of a string, by the octets of its hint in the sheet; one without a hint is raw
 unfoldable pub row_kind : List ℕ → Row → ℕ
@@ -21,7 +17,7 @@ row_kind c r = pick (eqb r.kind 1) (kind_of (slice r.hint_start r.hint_end c)) 0
 
 -- S 10.2: a list has no value, and a string that of its hint
 unfoldable pub typed_row : List ℕ → Row → Typing
-typed_row c r = pick (eqb r.kind 2) Untyped (value_at (row_kind c r) c r.data_start r.data_end)
+typed_row c r = pick (eqb r.kind 2) None (value_at (row_kind c r) c r.data_start r.data_end)
 
 abbrev pub double_in : Value → Option Float
 double_in (Single x) = none
@@ -31,8 +27,8 @@ double_in (Raw s e) = none
 
 -- an `f64` string's double
 abbrev pub amount_in : Typing → Option Float
-amount_in (Is v) = double_in v
-amount_in Untyped = none
+amount_in (Some v) = double_in v
+amount_in None = none
 
 abbrev pub three : Option Float → Option Float → Option Float → Option Line
 three (some x) (some y) (some z) = some (record { ordinary = x; night = y; holiday = z })
@@ -53,7 +49,7 @@ hours_at c t k =
 
 -- the quarters of what may be a line
 abbrev pub quarters_in : Option Line → Count
-quarters_in none = NoCount
+quarters_in none = None
 quarters_in (some h) = quarters_of h
 
 -- the quarters of a node's line
@@ -61,8 +57,8 @@ unfoldable pub line_count : List ℕ → Tree → ℕ → Count
 line_count c t k = quarters_in (hours_at c t k)
 
 abbrev pub kept_if : Option Line → Count → Option Line
-kept_if o (Quarters n) = o
-kept_if o NoCount = none
+kept_if o (Some n) = o
+kept_if o None = none
 
 -- S 10.3, in whole quarters: a line is kept where there is a count
 unfoldable pub line_at : List ℕ → Tree → ℕ → Option Line
@@ -88,8 +84,8 @@ added q (lines n m) = lines (suc n) (q + m)
 added q (bad k) = bad k
 
 abbrev pub added_by : ℕ → Count → Sum → Sum
-added_by k (Quarters q) s = added q s
-added_by k NoCount s = bad k
+added_by k (Some q) s = added q s
+added_by k None s = bad k
 
 unfoldable pub sum_of : List ℕ → Tree → List ℕ → Sum
 sum_of c t [] = lines 0 0

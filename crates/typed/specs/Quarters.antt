@@ -1,13 +1,15 @@
 -- Hours in whole quarters, from the bits of a double, over whole numbers (S 10.7).
-use Rattle.std.specs.Prelude.{ℕ, zero, suc, ◌+◌, ◌-◌, ◌*◌, ◌/◌, ◌%◌, ◌^◌, ◌&&◌, leb, ltb, eqb, Float}
+use Rattle.std.specs.Prelude.{ℕ, zero, suc, ◌+◌, ◌-◌, ◌*◌, ◌/◌, ◌%◌, ◌^◌, ◌&&◌, leb, ltb, eqb, Float, Some, None}
 use Rattle.std.proofs.Math.Option.{Option, none, some}
 use Rattle.std.specs.Float.{binary64}
 use Rattle.std.specs.Float.Ieee.{to_bits, of_bits}
 use Rattle.base.specs.Choice.{pick}
 use Rattle.typed.specs.declared.Line.{Line}
-use Rattle.typed.specs.declared.Count.{Count}
-use Rattle.typed.specs.declared.Count.TheVariants.{Quarters, NoCount}
 use Rattle.typed.specs.declared.Total.{Total}
+
+-- the quarters of an hour that a double is, if it is a number of hours of a line
+abbrev pub Count : Type 0
+Count = Rattle.std.specs.Prelude.Option ℕ
 
 -- the magnitude of the double with the bits b, of which the highest is the sign, 11 the exponent and 52 the digits: in units of the
 -- smallest there is, 2 ^ -1074
@@ -16,16 +18,16 @@ units b = pick (eqb (b / 2 ^ 52 % 2 ^ 11) 0) (b % 2 ^ 52) ((2 ^ 52 + b % 2 ^ 52)
 
 -- S 10.3, 0 to 24 in whole quarters: the sign is clear, and the magnitude is at most 96 times 2 ^ -2
 unfoldable pub count_of : ℕ → Count
-count_of b = pick (ltb b (2 ^ 63) && eqb (units b % 2 ^ 1072) 0 && leb (units b / 2 ^ 1072) 96) (Quarters (units b / 2 ^ 1072)) NoCount
+count_of b = pick (ltb b (2 ^ 63) && eqb (units b % 2 ^ 1072) 0 && leb (units b / 2 ^ 1072) 96) (Some (units b / 2 ^ 1072)) None
 
 abbrev pub counted : Float → Count
 counted x = count_of (to_bits binary64 x)
 
 abbrev pub plus : Count → Count → Count → Count
-plus (Quarters a) (Quarters b) (Quarters c) = Quarters (a + b + c)
-plus (Quarters a) (Quarters b) NoCount = NoCount
-plus (Quarters a) NoCount c = NoCount
-plus NoCount b c = NoCount
+plus (Some a) (Some b) (Some c) = Some (a + b + c)
+plus (Some a) (Some b) None = None
+plus (Some a) None c = None
+plus None b c = None
 
 -- S 10.3, the count of a line's quarters: none where it is no line
 unfoldable pub quarters_of : Line → Count
@@ -53,8 +55,8 @@ unfoldable pub total_by : ℕ → Total
 total_by n = record { quarters = n; hours = hours_of n }
 
 abbrev pub total_for : Count → Option Total
-total_for (Quarters n) = some (total_by n)
-total_for NoCount = none
+total_for (Some n) = some (total_by n)
+total_for None = none
 
 -- S 10.5: a line's total
 unfoldable pub total_of : Line → Option Total

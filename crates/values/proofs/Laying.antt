@@ -16,15 +16,17 @@ use lib.Seq.{slice, length-slice, sets}
 use lib.Ieee.{Float, nan, Format, binary32, binary64, to_bits, ne, top, ones, hid}
 use lib.Ieee.Compare.{differs_from_itself}
 use borrow.Author.Tests.{lt-ltb, le-ltb, le-leb, lt-leb}
+use Rattle.std.specs.Prelude.{Ok, Err}
 use Rattle.base.specs.Choice.{pick, is_none}
 use Rattle.base.proofs.Cases.{picked, unpicked, true-both, by_bool}
 use Rattle.base.proofs.Stores.{sets-all}
 use Rattle.model.specs.Limits.{refusal_not_own}
 use Rattle.model.specs.Answers.{settled, verdict, judged}
 use Rattle.scan.specs.Writes.{Wrote}
-use Rattle.answers.specs.Cases.{output, RefusesWriting}
-use Rattle.answers.specs.declared.Writing.{Writing}
-use Rattle.answers.specs.declared.Writing.TheVariants as writing
+use Rattle.answers.specs.Cases.{Writing, output}
+use Rattle.answers.specs.Refusals.{number_of, place_in}
+use Rattle.answers.specs.declared.refusal.Refusal.{Refusal}
+use Rattle.answers.specs.declared.refusal.Refusal.TheVariants.{Size, NotOwn, NotTyped}
 use Rattle.typed.specs.Octets.{octs, turned}
 use Rattle.typed.specs.Typed.{finite}
 use Rattle.typed.specs.Coding.{refusal_not_typed, more, whole_octets, float_octets, raw_octets, coding, is_raw, the_octets, putting_checks, putting}
@@ -40,23 +42,23 @@ use Rattle.values.specs.Laid.{laid}
 -- ---- an answer of each case
 
 module _ (n : ℕ) (o : Option (List ℕ)) (out : List ℕ) where
-  pub laid_none : o ≡ none → (r : Writing) → RefusesWriting n r → output r out ≡ laid n o out
-  unfolding laid
-  laid_none e r w = w.is out ∙ ap (λ (x : Option (List ℕ)). laid n x out) (sym e)
+  pub laid_none : (f : Refusal) → number_of f ≡ n → place_in f ≡ 0 → o ≡ none → output (Err f) out ≡ laid n o out
+  unfolding laid output
+  laid_none f p q e = rw (p, q, e)
 
   module _ (x : List ℕ) (e : o ≡ some x) where
-    pub laid-full : length out < length x → (r : Writing) → RefusesWriting 6 r → output r out ≡ laid n o out
-    unfolding laid
-    laid-full h r w = w.is out ∙ sym (picked _ _ (lt-ltb _ _ h)) ∙ ap (λ (y : Option (List ℕ)). laid n y out) (sym e)
+    pub laid-full : length out < length x → output (Err Size) out ≡ laid n o out
+    unfolding laid output
+    laid-full h = sym (picked _ _ (lt-ltb _ _ h)) ∙ ap (λ (y : Option (List ℕ)). laid n y out) (sym e)
 
     settled-front : settled out 0 x ≡ x ++ drop (length x) out
     unfolding settled
     settled-front = let a : 0 - length x ≡ 0 = omega arith in let b : max 0 (length x) ≡ length x = omega arith in rw (a, b)
 
-    pub laid_done : (k : ℕ) → k ≡ length x → k ≤ length out → (out' : List ℕ) → out' ≡ x ++ drop k out → output (writing.Accepted k) out' ≡ laid n o out
+    pub laid_done : (k : ℕ) → k ≡ length x → k ≤ length out → (out' : List ℕ) → out' ≡ x ++ drop k out → output (Ok k) out' ≡ laid n o out
     unfolding laid output
     laid_done k l h out' q =
-        ap₂ (λ (m : ℕ) (y : List ℕ). output (writing.Accepted m) y) l (q ∙ ap (λ (m : ℕ). x ++ drop m out) l ∙ sym settled-front)
+        ap₂ (λ (m : ℕ) (y : List ℕ). output (Ok m) y) l (q ∙ ap (λ (m : ℕ). x ++ drop m out) l ∙ sym settled-front)
         ∙ sym (unpicked _ _ (le-ltb _ _ (subst (λ (m : ℕ). m ≤ length out) l h)))
         ∙ ap (λ (y : Option (List ℕ)). laid n y out) (sym e)
 
@@ -71,11 +73,11 @@ module _ (f : Format) (k : ℕ) (x : Float) (out : List ℕ) where
   unfolding float_octets
   finite-some e = picked _ _ e
 
-  pub float-nan : finite f (to_bits f nan) ≡ false → ne x x ≡ true → (r : Writing) → RefusesWriting 11 r → output r out ≡ laid refusal_not_typed (float_octets f k x) out
-  float-nan z e r w = laid_none refusal_not_typed (float_octets f k x) out (finite-none (ap (λ (y : Float). finite f (to_bits f y)) (differs_from_itself x (subst T (sym e) tt)) ∙ z)) r w
+  pub float-nan : finite f (to_bits f nan) ≡ false → ne x x ≡ true → output (Err NotTyped) out ≡ laid refusal_not_typed (float_octets f k x) out
+  float-nan z e = laid_none refusal_not_typed (float_octets f k x) out NotTyped refl refl (finite-none (ap (λ (y : Float). finite f (to_bits f y)) (differs_from_itself x (subst T (sym e) tt)) ∙ z))
 
-  pub float-inf : ones f * hid f ≤ to_bits f x % top f → (r : Writing) → RefusesWriting 11 r → output r out ≡ laid refusal_not_typed (float_octets f k x) out
-  float-inf h r w = laid_none refusal_not_typed (float_octets f k x) out (finite-none (finite-no f (to_bits f x) h)) r w
+  pub float-inf : ones f * hid f ≤ to_bits f x % top f → output (Err NotTyped) out ≡ laid refusal_not_typed (float_octets f k x) out
+  float-inf h = laid_none refusal_not_typed (float_octets f k x) out NotTyped refl refl (finite-none (finite-no f (to_bits f x) h))
 
   module _ (l : to_bits f x % top f < ones f * hid f) where
     long : length (octs k (to_bits f x) []) ≡ k
@@ -84,10 +86,10 @@ module _ (f : Format) (k : ℕ) (x : Float) (out : List ℕ) where
     is : float_octets f k x ≡ some (octs k (to_bits f x) [])
     is = finite-some (finite-yes f (to_bits f x) l)
 
-    pub float-full : length out < k → (r : Writing) → RefusesWriting 6 r → output r out ≡ laid refusal_not_typed (float_octets f k x) out
-    float-full h r w = laid-full refusal_not_typed (float_octets f k x) out (octs k (to_bits f x) []) is (subst (λ (n : ℕ). length out < n) (sym long) h) r w
+    pub float-full : length out < k → output (Err Size) out ≡ laid refusal_not_typed (float_octets f k x) out
+    float-full h = laid-full refusal_not_typed (float_octets f k x) out (octs k (to_bits f x) []) is (subst (λ (n : ℕ). length out < n) (sym long) h)
 
-    pub float-done : k ≤ length out → (out' : List ℕ) → out' ≡ map (turned false) (octs k (to_bits f x) []) ++ drop k out → output (writing.Accepted k) out' ≡ laid refusal_not_typed (float_octets f k x) out
+    pub float-done : k ≤ length out → (out' : List ℕ) → out' ≡ map (turned false) (octs k (to_bits f x) []) ++ drop k out → output (Ok k) out' ≡ laid refusal_not_typed (float_octets f k x) out
     float-done h out' q =
         laid_done refusal_not_typed (float_octets f k x) out (octs k (to_bits f x) []) is k (sym long) h out' (q ∙ ap (λ (y : List ℕ). y ++ drop k out) (unturned (octs k (to_bits f x) [])))
 
@@ -99,15 +101,15 @@ double-nan : finite binary64 (to_bits binary64 nan) ≡ false
 unfolding finite to_bits
 double-nan = refl
 
-pub put-nan-32 : (x : Float) (out : List ℕ) → ne x x ≡ true → (r : Writing) → RefusesWriting 11 r → output r out ≡ laid refusal_not_typed (float_octets binary32 4 x) out
-put-nan-32 x out e r w = float-nan binary32 4 x out single-nan e r w
+pub put-nan-32 : (x : Float) (out : List ℕ) → ne x x ≡ true → output (Err NotTyped) out ≡ laid refusal_not_typed (float_octets binary32 4 x) out
+put-nan-32 x out e = float-nan binary32 4 x out single-nan e
 
-pub put-nan-64 : (x : Float) (out : List ℕ) → ne x x ≡ true → (r : Writing) → RefusesWriting 11 r → output r out ≡ laid refusal_not_typed (float_octets binary64 8 x) out
-put-nan-64 x out e r w = float-nan binary64 8 x out double-nan e r w
+pub put-nan-64 : (x : Float) (out : List ℕ) → ne x x ≡ true → output (Err NotTyped) out ≡ laid refusal_not_typed (float_octets binary64 8 x) out
+put-nan-64 x out e = float-nan binary64 8 x out double-nan e
 
 -- ---- whole numbers
 
-pub whole-none : (x : ℤ) (out : List ℕ) → x ≡ pos 0 → output (writing.Accepted 0) out ≡ laid refusal_not_typed (some (whole_octets x)) out
+pub whole-none : (x : ℤ) (out : List ℕ) → x ≡ pos 0 → output (Ok 0) out ≡ laid refusal_not_typed (some (whole_octets x)) out
 unfolding whole_octets
 whole-none x out e = laid_done refusal_not_typed (some (whole_octets x)) out [] (ap (λ (z : ℤ). some (whole_octets z)) e) 0 refl (omega arith) out refl
 
@@ -121,10 +123,10 @@ module _ (x : ℤ) (t : Bool) (m k : ℕ) (e : x ≡ joined t m) (n : t ≡ fals
   whole_long : length o ≡ k + 1
   whole_long = length-turned t (octs (k + 1) m []) ∙ length-octs (k + 1) m [] ∙ (let z : k + 1 + 0 ≡ k + 1 = omega arith in z)
 
-  pub whole-full : length out < k + 1 → (r : Writing) → RefusesWriting 6 r → output r out ≡ laid refusal_not_typed (some (whole_octets x)) out
-  whole-full h r v = laid-full refusal_not_typed (some (whole_octets x)) out o coded (subst (λ (j : ℕ). length out < j) (sym whole_long) h) r v
+  pub whole-full : length out < k + 1 → output (Err Size) out ≡ laid refusal_not_typed (some (whole_octets x)) out
+  whole-full h = laid-full refusal_not_typed (some (whole_octets x)) out o coded (subst (λ (j : ℕ). length out < j) (sym whole_long) h)
 
-  pub whole-done : k + 1 ≤ length out → (out' : List ℕ) → out' ≡ o ++ drop (k + 1) out → output (writing.Accepted (k + 1)) out' ≡ laid refusal_not_typed (some (whole_octets x)) out
+  pub whole-done : k + 1 ≤ length out → (out' : List ℕ) → out' ≡ o ++ drop (k + 1) out → output (Ok (k + 1)) out' ≡ laid refusal_not_typed (some (whole_octets x)) out
   whole-done h out' q = laid_done refusal_not_typed (some (whole_octets x)) out o coded (k + 1) (sym whole_long) h out' q
 
 -- ---- copies
@@ -140,24 +142,24 @@ part_slice (suc s) (suc e) [] = none (suc e - suc s)
 part_slice (suc s) (suc e) (x ∷ l) = let z : suc e - suc s ≡ e - s = omega arith in ap (λ (n : ℕ). take n (drop s l)) z ∙ part_slice s e l
 
 module _ (src : List ℕ) (s e : ℕ) (out : List ℕ) where
-  pub raw-order : e < s → (r : Writing) → RefusesWriting 7 r → output r out ≡ laid refusal_not_own (raw_octets src s e) out
+  pub raw-order : e < s → output (Err NotOwn) out ≡ laid refusal_not_own (raw_octets src s e) out
   unfolding raw_octets
-  raw-order h r w = laid_none refusal_not_own (raw_octets src s e) out (unpicked _ _ (unpicked _ _ (lt-leb s e h))) r w
+  raw-order h = laid_none refusal_not_own (raw_octets src s e) out NotOwn refl refl (unpicked _ _ (unpicked _ _ (lt-leb s e h)))
 
   module _ (a : s ≤ e) where
-    pub raw-outside : length src < e → (r : Writing) → RefusesWriting 7 r → output r out ≡ laid refusal_not_own (raw_octets src s e) out
+    pub raw-outside : length src < e → output (Err NotOwn) out ≡ laid refusal_not_own (raw_octets src s e) out
     unfolding raw_octets
-    raw-outside h r w = laid_none refusal_not_own (raw_octets src s e) out (unpicked _ _ (picked _ _ (le-leb s e a) ∙ lt-leb e (length src) h)) r w
+    raw-outside h = laid_none refusal_not_own (raw_octets src s e) out NotOwn refl refl (unpicked _ _ (picked _ _ (le-leb s e a) ∙ lt-leb e (length src) h))
 
     module _ (b : e ≤ length src) where
       raw-some : raw_octets src s e ≡ some (slice s e src)
       unfolding raw_octets
       raw-some = picked _ _ (true-both (le-leb s e a) (le-leb e (length src) b))
 
-      pub raw-full : length out < e - s → (r : Writing) → RefusesWriting 6 r → output r out ≡ laid refusal_not_own (raw_octets src s e) out
-      raw-full h r w = laid-full refusal_not_own (raw_octets src s e) out (slice s e src) raw-some (subst (λ (n : ℕ). length out < n) (sym (length-slice s e src b)) h) r w
+      pub raw-full : length out < e - s → output (Err Size) out ≡ laid refusal_not_own (raw_octets src s e) out
+      raw-full h = laid-full refusal_not_own (raw_octets src s e) out (slice s e src) raw-some (subst (λ (n : ℕ). length out < n) (sym (length-slice s e src b)) h)
 
-      pub raw-done : e - s ≤ length out → (out' : List ℕ) (p : ℕ) → Wrote (take (e - s) (drop s src)) 0 out out' p → output (writing.Accepted (e - s)) out' ≡ laid refusal_not_own (raw_octets src s e) out
+      pub raw-done : e - s ≤ length out → (out' : List ℕ) (p : ℕ) → Wrote (take (e - s) (drop s src)) 0 out out' p → output (Ok (e - s)) out' ≡ laid refusal_not_own (raw_octets src s e) out
       raw-done h out' p w =
           laid_done refusal_not_own (raw_octets src s e) out (slice s e src) raw-some (e - s) (sym (length-slice s e src b)) h out'
           (w.same ∙ ap (λ (x : List ℕ). sets out 0 x) (part_slice s e src) ∙ sets-all out (slice s e src) (subst (λ (n : ℕ). n ≤ length out) (sym (length-slice s e src b)) h)

@@ -10,8 +10,8 @@ ghost use Rattle.typed.proofs.Wide.{joined};
 ghost use Rattle.values.specs.Laid.{laid};
 
 use crate::numerals::{number, put};
-use answers::{Writing, refused_writing};
-use typed::{Typing, Value};
+use answers::{Refusal, Writing};
+use typed::Value;
 
 // Whether no octet at the front can be left out.
 fn is_shortest(src: &[u8], start: usize, end: usize) -> bool
@@ -51,25 +51,25 @@ fn minus(m: u64) -> i64
     -1 - (m as i64)
 }
 
-pub fn whole(src: &[u8], start: usize, end: usize) -> Typing
+pub fn whole(src: &[u8], start: usize, end: usize) -> Option<Value>
     requires { (start ≤ end) × (end ≤ length src.now) }
     ensures { result ≡ whole_of (slice start end src.now) }
 {
     if end - start > 8 {
-        return Typing::Untyped;
+        return None;
     }
     if !is_shortest(src, start, end) {
-        return Typing::Untyped;
+        return None;
     }
     if start == end {
-        return Typing::Is(Value::Whole(0));
+        return Some(Value::Whole(0));
     }
     if src[start] < 128 {
         let m = number(src, start, end, false);
-        return Typing::Is(Value::Whole(plus(m)));
+        return Some(Value::Whole(plus(m)));
     }
     let m = number(src, start, end, true);
-    Typing::Is(Value::Whole(minus(m)))
+    Some(Value::Whole(minus(m)))
 }
 
 // How many octets a magnitude takes beside the first.
@@ -87,7 +87,7 @@ fn width(m: u64) -> usize
 }
 
 // A number's sign and magnitude.
-#[derive(Clone, Copy)]
+#[derive(Clone, Copy, Debug, PartialEq, Eq)]
 struct Parts {
     turn: bool,
     size: u64,
@@ -112,15 +112,15 @@ pub fn put_whole(out: &mut [u8], x: i64) -> Writing
     ensures { output result out.new ≡ laid refusal_not_typed (some (whole_octets x)) out.old }
 {
     if x == 0 {
-        return Writing::Accepted { length: 0 };
+        return Ok(0);
     }
     let p = apart(x);
     let n = p.size;
     let turn = p.turn;
     let k = width(n) + 1;
     if out.len() < k {
-        return refused_writing(6);
+        return Err(Refusal::Size);
     }
     put(out, k, n, turn);
-    Writing::Accepted { length: k }
+    Ok(k)
 }

@@ -11,11 +11,12 @@ ghost use Rattle.answers.specs.Cases.{output};
 ghost use Rattle.typed.specs.Typed.{kind_of, value_at};
 ghost use Rattle.model.specs.Limits.{refusal_not_own};
 ghost use Rattle.typed.specs.Coding.{raw_octets, putting};
+ghost use Rattle.values.specs.Kinds.{coded};
 ghost use Rattle.values.specs.Laid.{laid, Spells};
 
-use answers::{Writing, refused_writing};
+use answers::{Refusal, Writing};
 pub use floats::double;
-use typed::{Typing, Value};
+use typed::Value;
 
 // Whether three octets from a place on are these.
 fn spells(src: &[u8], at: usize, a: u8, b: u8, c: u8) -> bool
@@ -31,41 +32,46 @@ fn spells(src: &[u8], at: usize, a: u8, b: u8, c: u8) -> bool
     src[at + 2] == c
 }
 
-// The kind that a hint tells, which stands from `start` up to `end`: 1 `f32`, 2 `f64`, 3 `int`, else 0.
-pub fn kind_of(src: &[u8], start: usize, end: usize) -> u8
+// The kind that a hint tells.
+#[derive(Clone, Copy, Debug, PartialEq, Eq)]
+pub enum Kind {
+    Raw,
+    Single,
+    Double,
+    Whole,
+}
+
+// The kind that a hint tells, which stands from `start` up to `end`: `f32`, `f64` and `int`; any other is raw.
+pub fn kind_of(src: &[u8], start: usize, end: usize) -> Kind
     requires { (start ≤ end) × (end ≤ length src.now) }
-    ensures { result ≡ kind_of (slice start end src.now) }
+    ensures { coded result ≡ kind_of (slice start end src.now) }
 {
     if end - start != 3 {
-        return 0;
+        return Kind::Raw;
     }
     if spells(src, start, b'f', b'3', b'2') {
-        return 1;
+        return Kind::Single;
     }
     if spells(src, start, b'f', b'6', b'4') {
-        return 2;
+        return Kind::Double;
     }
     if spells(src, start, b'i', b'n', b't') {
-        return 3;
+        return Kind::Whole;
     }
-    0
+    Kind::Raw
 }
 
 // The value of the octets from `start` up to `end`, of the kind `kind`.
-pub fn value_of(kind: u8, src: &[u8], start: usize, end: usize) -> Typing
+pub fn value_of(kind: Kind, src: &[u8], start: usize, end: usize) -> Option<Value>
     requires { (start ≤ end) × (end ≤ length src.now) }
-    ensures { result ≡ value_at kind src.now start end }
+    ensures { result ≡ value_at (coded kind) src.now start end }
 {
-    if kind == 1 {
-        return floats::single(src, start, end);
+    match kind {
+        Kind::Single => floats::single(src, start, end),
+        Kind::Double => floats::double(src, start, end),
+        Kind::Whole => integers::whole(src, start, end),
+        Kind::Raw => Some(Value::Raw { start, end }),
     }
-    if kind == 2 {
-        return floats::double(src, start, end);
-    }
-    if kind == 3 {
-        return integers::whole(src, start, end);
-    }
-    Typing::Is(Value::Raw { start, end })
 }
 
 // Raw octets, copied from their place.
@@ -73,17 +79,17 @@ fn put_raw(out: &mut [u8], src: &[u8], start: usize, end: usize) -> Writing
     ensures { output result out.new ≡ laid refusal_not_own (raw_octets src.now start end) out.old }
 {
     if end < start {
-        return refused_writing(7);
+        return Err(Refusal::NotOwn);
     }
     if src.len() < end {
-        return refused_writing(7);
+        return Err(Refusal::NotOwn);
     }
     let k = end - start;
     if out.len() < k {
-        return refused_writing(6);
+        return Err(Refusal::Size);
     }
     scan::copy(src, start, k, out, 0);
-    Writing::Accepted { length: k }
+    Ok(k)
 }
 
 // S 10.2: the octets of a value at the front of `out`, a raw one's from `src`. In a refusal the output holds what it held; in an

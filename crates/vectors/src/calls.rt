@@ -1,33 +1,32 @@
 // The entries under test, each with the values that a line of `expected` has.
-use answers::{Comparing, Place, Reading, Writing};
+use answers::{Part, Reading, Refusal};
 use cases::wire::part;
 
-// The answer's number and the entry's values. The number 0 to 8 is the refusal's; for hint and data 1 says that a part is shown.
+// The answer's number and the entry's values. The number 0 to 8 is the refusal's; for hint and data 1 says that a part is shown. There
+// is none where the entry that shows octets and the one that tells their place do not agree.
 #[derive(Drop)]
 pub struct Answer {
-    pub number: u32,
+    pub number: Option<u32>,
     pub first: usize,
     pub second: usize,
 }
 
-// A number that no line has: the entry that shows octets and the one that tells their place do not agree.
-pub const DIFFERS: u32 = 99;
-
 fn told(number: u32, first: usize, second: usize) -> Answer {
     Answer {
-        number,
+        number: Some(number),
         first,
         second,
     }
 }
 
+fn refused(refusal: Refusal) -> Answer {
+    told(refusal.number(), 0, 0)
+}
+
 fn of_reading(reading: Reading) -> Answer {
     match reading {
-        Reading::Accepted { length, nodes } => told(0, length, nodes),
-        Reading::Refused { refusal } => {
-            let number = refusal.number;
-            told(number, 0, 0)
-        }
+        Ok(sizes) => told(0, sizes.length, sizes.nodes),
+        Err(refusal) => refused(refusal),
     }
 }
 
@@ -37,11 +36,8 @@ pub fn read(form: u32, source: &[u8], canonical: &mut [u8], table: &mut [u32]) -
 
 pub fn write(form: u32, canonical: &[u8], length: usize, out: &mut [u8]) -> Answer {
     match etglavino::write(form, canonical, length, out) {
-        Writing::Accepted { length } => told(0, length, 0),
-        Writing::Refused { refusal } => {
-            let number = refusal.number;
-            told(number, 0, 0)
-        }
+        Ok(octets) => told(0, octets, 0),
+        Err(refusal) => refused(refusal),
     }
 }
 
@@ -59,31 +55,21 @@ pub fn replace(
 
 pub fn same(a: &[u8], a_length: usize, b: &[u8], b_length: usize, default_hint: &[u8]) -> Answer {
     match etglavino::same(a, a_length, b, b_length, default_hint) {
-        Comparing::Accepted { same } => told(0, same as usize, 0),
-        Comparing::Refused { refusal } => {
-            let number = refusal.number;
-            told(number, 0, 0)
-        }
+        Ok(same) => told(0, same as usize, 0),
+        Err(refusal) => refused(refusal),
     }
 }
 
 // Where a part is, if the octets shown are those that stand there.
-fn of_place(place: Place, canonical: &[u8], shown: &[u8], otherwise: &[u8]) -> Answer {
-    match place {
-        Place::Part { start, end } => {
-            if part(canonical, start, end) == shown {
-                told(1, start, end)
-            } else {
-                told(DIFFERS, start, end)
-            }
-        }
-        Place::NoPart => {
-            if otherwise == shown {
-                told(0, 0, 0)
-            } else {
-                told(DIFFERS, 0, 0)
-            }
-        }
+fn of_place(place: Option<Part>, canonical: &[u8], shown: &[u8], otherwise: &[u8]) -> Answer {
+    let (number, first, second, there) = match place {
+        Some(p) => (1, p.start, p.end, part(canonical, p.start, p.end)),
+        None => (0, 0, 0, otherwise),
+    };
+    Answer {
+        number: if there == shown { Some(number) } else { None },
+        first,
+        second,
     }
 }
 

@@ -1,5 +1,5 @@
 // The lines that are written (reference/README.md, "The file `expected`").
-use crate::calls::{Answer, DIFFERS};
+use crate::calls::Answer;
 use cases::digest;
 use std::io;
 
@@ -14,10 +14,9 @@ fn end<P: Print>(rt: &P) -> io::Result<()> {
 // As far as the first value.
 fn begin<P: Print>(rt: &P, number: u64, name: &str, answer: Answer) -> io::Result<()> {
     print!(rt; "{number} {name}")?;
-    if answer.number == DIFFERS {
-        print!(rt; " differs")?;
-    } else {
-        put(rt, answer.number as u64)?;
+    match answer.number {
+        Some(number) => put(rt, number as u64)?,
+        None => print!(rt; " differs")?,
     }
     put(rt, answer.first as u64)
 }

@@ -1,6 +1,7 @@
-pub mod Walked
 pub mod Chained
 pub mod Evented
-pub mod Tabled
-pub mod Shut
+pub mod Extents
 pub mod Fronts
+pub mod Shut
+pub mod Tabled
+pub mod Walked

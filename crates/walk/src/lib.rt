@@ -5,18 +5,22 @@
 ghost use Rattle.std.specs.Prelude.{◌≡◌, max};
 ghost use Rattle.model.specs.Count.{shut_by};
 
-// The canonical length, the node count and the depth of the tree that a text means; or it means none, and the place that is told of it.
-#[derive(Clone, Copy)]
-pub enum Extent {
-    Whole {
-        len: usize,
-        nodes: usize,
-        depth: usize,
-    },
-    Refused {
-        place: usize,
-    },
+// The canonical length, the node count and the depth of the tree that a text means.
+#[derive(Clone, Copy, Debug, PartialEq, Eq)]
+pub struct Extent {
+    pub len: usize,
+    pub nodes: usize,
+    pub depth: usize,
 }
+
+// A text means no tree: the place that is told of it.
+#[derive(Clone, Copy, Debug, PartialEq, Eq)]
+pub struct Broken {
+    pub place: usize,
+}
+
+// What measuring a text answers.
+pub type Measured = Result<Extent, Broken>;
 
 // The larger of two.
 pub fn larger(a: usize, b: usize) -> usize

@@ -13,13 +13,13 @@ use Rattle.model.proofs.Judging.{judged-refused, verdict-here, verdict-past}
 use Rattle.lookup.proofs.Sheets.{tree_of, none_of}
 use Rattle.answers.specs.Cases.{RefusesWriting, output}
 use Rattle.write.specs.Sized.{Good, sized}
-use Rattle.answers.specs.declared.Writing.{Writing}
-use Rattle.answers.specs.declared.Writing.TheVariants.{Accepted}
+use Rattle.answers.specs.Cases.{Writing}
+use Rattle.std.specs.Prelude.{Ok}
 
 -- row 6 alone
 by_size : (b : Bool) (x out : List ℕ)
-    → elim (pick {A = ℕ} b 6 0) [ zero ↦ output (Accepted (length x)) (settled out 0 x) | suc n ↦ unwritten (suc n) out ]
-    ≡ pick b (unwritten 6 out) (output (Accepted (length x)) (settled out 0 x))
+    → elim (pick {A = ℕ} b 6 0) [ zero ↦ output (Ok (length x)) (settled out 0 x) | suc n ↦ unwritten (suc n) out ]
+    ≡ pick b (unwritten 6 out) (output (Ok (length x)) (settled out 0 x))
 by_size true x out = refl
 by_size false x out = refl
 
@@ -54,7 +54,7 @@ module _ (form : ℕ) (c : List ℕ) (n : ℕ) (out : List ℕ) where
         writes =
             tree_of (sheet_tree c n) (sym y ∙ e)
             (λ t i.
-            ap (λ (k : ℕ). elim k [ zero ↦ output (Accepted (length (written form c n))) (settled out 0 (written form c n)) | suc m ↦ unwritten (suc m) out ]) (unpicked _ _ known ∙ unpicked _ _ (ap is_none i))
+            ap (λ (k : ℕ). elim k [ zero ↦ output (Ok (length (written form c n))) (settled out 0 (written form c n)) | suc m ↦ unwritten (suc m) out ]) (unpicked _ _ known ∙ unpicked _ _ (ap is_none i))
             ∙ by_size (ltb (length out) (length (written form c n))) (written form c n) out)
 
         pub write-in : (k : ℕ) → form ≡ k → (out' : List ℕ) (a : Writing) → output a out' ≡ sized (written k c n) out → output a out' ≡ writing form c n out

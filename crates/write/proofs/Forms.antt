@@ -22,8 +22,8 @@ use Rattle.base.proofs.Lists.{front_length}
 use Rattle.lookup.proofs.Sheets.{sheet-of}
 use Rattle.answers.specs.Cases.{RefusesWriting, output}
 use Rattle.write.specs.Sized.{Good, Roomy, sized}
-use Rattle.answers.specs.declared.Writing.{Writing}
-use Rattle.answers.specs.declared.Writing.TheVariants.{Accepted}
+use Rattle.answers.specs.Cases.{Writing}
+use Rattle.std.specs.Prelude.{Ok}
 
 -- ---- row 6
 
@@ -31,9 +31,9 @@ too_long : (x out : List ℕ) → length out < length x → (a : Writing) → Re
 unfolding sized
 too_long x out h a f = f.is out ∙ sym (picked _ _ (lt-ltb _ _ h))
 
-goes-out : (x out out' : List ℕ) (k r : ℕ) → k ≡ length x → length x ≤ length out → Wrote x 0 out out' r → output (Accepted k) out' ≡ sized x out
+goes-out : (x out out' : List ℕ) (k r : ℕ) → k ≡ length x → length x ≤ length out → Wrote x 0 out out' r → output (Ok k) out' ≡ sized x out
 unfolding sized
-goes-out x out out' k r e h w = ap₂ (λ (k : ℕ) (l : List ℕ). output (Accepted k) l) e (wrote-settled x out out' r h w) ∙ sym (unpicked _ _ (le-ltb _ _ h))
+goes-out x out out' k r e h w = ap₂ (λ (k : ℕ) (l : List ℕ). output (Ok k) l) e (wrote-settled x out out' r h w) ∙ sym (unpicked _ _ (le-ltb _ _ h))
 
 module _ (c : List ℕ) (n : ℕ) (g : Good c n) where
   -- ---- the sheet
@@ -61,7 +61,7 @@ module _ (c : List ℕ) (n : ℕ) (g : Good c n) where
   pub canonical-refused : (out : List ℕ) (a : Writing) → RefusesWriting 6 a → length out < n → output a out ≡ sized (written 1 c n) out
   canonical-refused out a f h = too_long (written 1 c n) out (omega (arith, canonical-size)) a f
 
-  pub canonical-written : (out out' : List ℕ) (r : ℕ) → n ≤ length out → Wrote (take n (drop 0 c)) 0 out out' r → output (Accepted n) out' ≡ sized (written 1 c n) out
+  pub canonical-written : (out out' : List ℕ) (r : ℕ) → n ≤ length out → Wrote (take n (drop 0 c)) 0 out out' r → output (Ok n) out' ≡ sized (written 1 c n) out
   canonical-written out out' r h w =
       let v : Wrote (written 1 c n) 0 out out' r = rw (own-canonical c n g.tree g.is) at w in
       goes-out (written 1 c n) out out' n r canonical-size (omega (arith, canonical-size)) v
@@ -85,7 +85,7 @@ module _ (c : List ℕ) (n : ℕ) (g : Good c n) where
     pub basic-room : (out : List ℕ) → k ≤ length out → length (basic (the (decode₁ (take n c)))) ≤ length out
     basic-room out h = omega (arith, basic-size)
 
-    pub basic-written : (out out' : List ℕ) (r : ℕ) → k ≤ length out → Wrote (basic (the (decode₁ (take n c)))) 0 out out' r → output (Accepted k) out' ≡ sized (written 2 c n) out
+    pub basic-written : (out out' : List ℕ) (r : ℕ) → k ≤ length out → Wrote (basic (the (decode₁ (take n c)))) 0 out out' r → output (Ok k) out' ≡ sized (written 2 c n) out
     basic-written out out' r h w =
         let v : Wrote (written 2 c n) 0 out out' r = rw basic-here at w in
         goes-out (written 2 c n) out out' k r (basic-size ∙ ap length basic-here) (omega (arith, basic-size, ap length basic-here)) v
@@ -105,7 +105,7 @@ module _ (c : List ℕ) (n : ℕ) (g : Good c n) where
     pub advanced-refused : (out : List ℕ) (a : Writing) → RefusesWriting 6 a → length out < k → output a out ≡ sized (written 3 c n) out
     advanced-refused out a g h = too_long (written 3 c n) out (omega (arith, advanced-size)) a g
 
-    pub advanced-written : (out out' : List ℕ) (r : ℕ) → k ≤ length out → Wrote (take k (drop 0 scratch')) 0 out out' r → output (Accepted k) out' ≡ sized (written 3 c n) out
+    pub advanced-written : (out out' : List ℕ) (r : ℕ) → k ≤ length out → Wrote (take k (drop 0 scratch')) 0 out out' r → output (Ok k) out' ≡ sized (written 3 c n) out
     advanced-written out out' r h w =
         let v : Wrote (written 3 c n) 0 out out' r = rw (f.same ∙ advanced-here) at w in
         goes-out (written 3 c n) out out' k r advanced-size (omega (arith, advanced-size)) v

@@ -6,11 +6,11 @@ use Rattle.model.specs.Answers.{Output, unwritten, settled, sheet_tree}
 use Rattle.model.specs.Limits.{refusal_size}
 use Rattle.model.specs.Tree.{Tree}
 use Rattle.answers.specs.Cases.{output}
-use Rattle.answers.specs.declared.Writing.TheVariants.{Accepted}
+use Rattle.std.specs.Prelude.{Ok}
 
 -- octets that go out where there is room for them
 unfoldable pub sized : List ℕ → List ℕ → Output
-sized x out = pick (ltb (length out) (length x)) (unwritten refusal_size out) (output (Accepted (length x)) (settled out 0 x))
+sized x out = pick (ltb (length out) (length x)) (unwritten refusal_size out) (output (Ok (length x)) (settled out 0 x))
 
 -- the octets up to the length are a sheet
 pub record Good (canonical : List ℕ) (len : ℕ) : Type 0 where

@@ -2,14 +2,27 @@
 // refusal leaves it as it was.
 #![tactic(auto)]
 
-ghost use Rattle.std.specs.Prelude.{◌≡◌, ◌≤◌};
+ghost use Rattle.std.specs.Prelude.{◌≡◌, ◌≤◌, ◌+◌, ◌*◌};
 ghost use Rattle.model.specs.Answers.{written, writing};
+ghost use Rattle.model.specs.Limits.{max_canonical};
 ghost use Rattle.answers.specs.Cases.{output};
 ghost use Rattle.write.specs.Sized.{Good, Roomy, sized};
 
-use answers::{Writing, refused_writing};
+use answers::{Refusal, Writing};
 use writer::advanced::put_advanced;
 use writer::basic::{basic_len, put_basic};
+
+// Octets of a short sheet and of one of middle length, and scratch for form 3 of these and of any: twice as many octets, and what a
+// block may overrun.
+const SHORT: usize = 256;
+
+const SHORT_SCRATCH: usize = 2 * SHORT + 64;
+
+const MIDDLE: usize = 2048;
+
+const MIDDLE_SCRATCH: usize = 2 * MIDDLE + 64;
+
+const LONG_SCRATCH: usize = 2 * limits::CANONICAL + 64;
 
 // Form 1 is the sheet itself.
 fn write_canonical(canonical: &[u8], length: usize, out: &mut [u8]) -> Writing
@@ -17,10 +30,10 @@ fn write_canonical(canonical: &[u8], length: usize, out: &mut [u8]) -> Writing
     ensures { output result out.new ≡ sized (written 1 canonical.now length) out.old }
 {
     if length > out.len() {
-        return refused_writing(6);
+        return Err(Refusal::Size);
     }
     scan::copy(canonical, 0, length, out, 0);
-    Writing::Accepted { length }
+    Ok(length)
 }
 
 // Form 2.
@@ -30,12 +43,11 @@ fn write_basic(canonical: &[u8], length: usize, out: &mut [u8]) -> Writing
 {
     let len = basic_len(length);
     if len > out.len() {
-        return refused_writing(6);
+        return Err(Refusal::Size);
     }
-    let alphabet = letters::alphabet();
     let part = &canonical[..length];
-    put_basic(&alphabet, part, out);
-    Writing::Accepted { length: len }
+    put_basic(part, out);
+    Ok(len)
 }
 
 // Form 3, by way of scratch: how long it is is known once it is written.
@@ -44,57 +56,39 @@ fn write_through(canonical: &[u8], length: usize, scratch: &mut [u8], out: &mut 
     requires roomy { Roomy length scratch.old }
     ensures { output result out.new ≡ sized (written 3 canonical.now length) out.old }
 {
-    let classes = octets::classes();
     let part = &canonical[..length];
-    let len = put_advanced(&classes, part, scratch);
+    let len = put_advanced(part, scratch);
     if len > out.len() {
-        return refused_writing(6);
+        return Err(Refusal::Size);
     }
     scan::copy(scratch, 0, len, out, 0);
-    Writing::Accepted { length: len }
+    Ok(len)
 }
 
-// Form 3 of a short sheet, for which little scratch is cleared.
-fn write_short(canonical: &[u8], length: usize, out: &mut [u8]) -> Writing
+// Form 3, by way of scratch in local space.
+#[inline(never)]
+fn write_sized<const SCRATCH: usize>(canonical: &[u8], length: usize, out: &mut [u8]) -> Writing
     requires good { Good canonical.now length }
-    requires length_len_bound { length ≤ 256 }
+    requires roomy { 2 * length + 64 ≤ SCRATCH }
+    requires bounded { SCRATCH ≤ 2 * max_canonical + 64 }
     ensures { output result out.new ≡ sized (written 3 canonical.now length) out.old }
 {
-    let mut scratch: [u8; 576] = [0; 576];
+    let mut scratch: [u8; SCRATCH] = [0; SCRATCH];
     write_through(canonical, length, &mut scratch, out)
 }
 
-// Form 3 of one that is longer.
-fn write_middle(canonical: &[u8], length: usize, out: &mut [u8]) -> Writing
-    requires good { Good canonical.now length }
-    requires length_len_bound { length ≤ 2048 }
-    ensures { output result out.new ≡ sized (written 3 canonical.now length) out.old }
-{
-    let mut scratch: [u8; 4160] = [0; 4160];
-    write_through(canonical, length, &mut scratch, out)
-}
-
-// Form 3 of any sheet.
-fn write_long(canonical: &[u8], length: usize, out: &mut [u8]) -> Writing
-    requires { Good canonical.now length }
-    ensures { output result out.new ≡ sized (written 3 canonical.now length) out.old }
-{
-    let mut scratch: [u8; 2 * limits::CANONICAL + 64] = [0; 2 * limits::CANONICAL + 64];
-    write_through(canonical, length, &mut scratch, out)
-}
-
-// Form 3.
+// Form 3. A short sheet does not pay for clearing the scratch of the largest.
 fn write_advanced(canonical: &[u8], length: usize, out: &mut [u8]) -> Writing
     requires { Good canonical.now length }
     ensures { output result out.new ≡ sized (written 3 canonical.now length) out.old }
 {
-    if length <= 256 {
-        return write_short(canonical, length, out);
+    if length <= SHORT {
+        return write_sized::<SHORT_SCRATCH>(canonical, length, out);
     }
-    if length <= 2048 {
-        return write_middle(canonical, length, out);
+    if length <= MIDDLE {
+        return write_sized::<MIDDLE_SCRATCH>(canonical, length, out);
     }
-    write_long(canonical, length, out)
+    write_sized::<LONG_SCRATCH>(canonical, length, out)
 }
 
 // The sheet in the first `length` octets, written in the form named (1 canonical, 2 basic, 3 advanced). In a refusal the output
@@ -103,10 +97,10 @@ pub fn write(form: u32, canonical: &[u8], length: usize, out: &mut [u8]) -> Writ
     ensures { output result out.new ≡ writing form canonical.now length out.old }
 {
     if form < 1 {
-        return refused_writing(1);
+        return Err(Refusal::Form);
     }
     if form > 3 {
-        return refused_writing(1);
+        return Err(Refusal::Form);
     }
     if lookup::sheet(canonical, length) {
         if form == 1 {
@@ -117,6 +111,6 @@ pub fn write(form: u32, canonical: &[u8], length: usize, out: &mut [u8]) -> Writ
         }
         write_advanced(canonical, length, out)
     } else {
-        refused_writing(7)
+        Err(Refusal::NotOwn)
     }
 }

@@ -14,7 +14,8 @@ use Rattle.model.proofs.Strict.{octets_of_lexeme, strict-sound}
 use Rattle.canonical.specs.Lexed.{Plainly, Hintedly, ItemAt}
 use Rattle.spelling.specs.Spelled.{cut}
 use Rattle.writer.specs.Sheets.{Strings}
-use Rattle.canonical.specs.declared.Item.TheVariants.{Open, Close, Plain, Hinted, Other}
+use Rattle.std.specs.Prelude.{Some, None}
+use Rattle.canonical.specs.declared.Item.TheVariants.{Open, Close, Plain, Hinted}
 
 after : (src a b : List ℕ) (at : ℕ) → drop at src ≡ a ++ b → drop (at + length a) src ≡ b
 after src a b at x = sym (drop-drop (length a) at src) ∙ ap (drop (length a)) x ∙ drop_at a b (length a) refl
@@ -44,19 +45,19 @@ next-less src at l next n = omega (arith, n.on, n.within)
 
 module _ (src : List ℕ) (at : ℕ) where
   module _ (h : at < length src) where
-    pub open_next : ItemAt src at Open → Next src at opening (at + 1)
+    pub open_next : ItemAt src at (Some Open) → Next src at opening (at + 1)
     unfolding ItemAt
     open_next v = record { reads = v; on = omega arith; within = omega arith }
 
-    pub close-next : ItemAt src at Close → Next src at closing (at + 1)
+    pub close-next : ItemAt src at (Some Close) → Next src at closing (at + 1)
     unfolding ItemAt
     close-next v = record { reads = v; on = omega arith; within = omega arith }
 
-  pub other_none : ItemAt src at Other → strict_lexeme (drop at src) ≡ refused
+  pub other_none : ItemAt src at None → strict_lexeme (drop at src) ≡ refused
   unfolding ItemAt
   other_none v = v
 
-  module _ (s e : ℕ) (v : ItemAt src at (Plain s e)) where
+  module _ (s e : ℕ) (v : ItemAt src at (Some (Plain s e))) where
     plainly : Plainly src at s e
     unfolding ItemAt
     plainly = v
@@ -76,7 +77,7 @@ module _ (src : List ℕ) (at : ℕ) where
         let p : Plainly src at s e = plainly in
         record { reads = p.reads ∙ ap (λ (x : List ℕ). got (atom x) (drop e src)) (sym plain-is); on = omega (arith, p.ends, verbatim-length p.octets); within = p.within }
 
-  module _ (hs he s e : ℕ) (v : ItemAt src at (Hinted hs he s e)) where
+  module _ (hs he s e : ℕ) (v : ItemAt src at (Some (Hinted hs he s e))) where
     hintedly : Hintedly src at hs he s e
     unfolding ItemAt
     hintedly = v

@@ -22,6 +22,7 @@ use Rattle.writer.specs.Hints.{HintAt}
 use Rattle.writer.specs.Sheets.{Sheet, Strings}
 use Rattle.writer.proofs.Lefts.{Left, left-start, left_end, left-never, Rest, after-lexeme}
 use Rattle.writer.proofs.Places.{Next, next-less, open_next, close-next, other_none, plain-order, plain-within, plain-next, hinted-strings, hinted-next}
+use Rattle.std.specs.Prelude.{Some}
 use Rattle.canonical.specs.declared.Item.TheVariants.{Plain, Hinted}
 
 pub record Writing (src : List ℕ) (at : ℕ) (due : Bool) (out₀ out : List ℕ) (o : ℕ) : Type 0 where
@@ -57,7 +58,7 @@ module _ (src : List ℕ) (at : ℕ) (due : Bool) (out₀ out : List ℕ) (o : �
   module _ (h : at < length src) where
     -- the string at a place is asked for first
     module _ (r : ℕ) (v : StringAt src at r) (p : 0 < r) (s e : ℕ) (x : s ≡ start_of r) (y : e ≡ end_of r) where
-      string : ItemAt src at (Plain s e)
+      string : ItemAt src at (Some (Plain s e))
       string = rw (x, y) (string-item src at h r v p)
 
       pub string-order : s ≤ e
@@ -103,7 +104,7 @@ module _ (src : List ℕ) (at : ℕ) (due : Bool) (out₀ out : List ℕ) (o : �
       no-data z = left-never src at due w.rest w.left h (other_none src at (v.none z))
 
       module _ (m : d ≡ 0 → ⊥) (from to s e : ℕ) (f : from ≡ start_of x) (q : to ≡ end_of x) (g : s ≡ start_of d) (k : e ≡ end_of d) where
-        hinted : ItemAt src at (Hinted from to s e)
+        hinted : ItemAt src at (Some (Hinted from to s e))
         hinted = rw (f, q, g, k) (v.some m)
 
         next : Next src at (hinting (cut src from to) (cut src s e)) e

@@ -4,7 +4,6 @@ ghost use Rattle.model.specs.Answers.{the};
 ghost use Rattle.model.specs.Decode.{decode₁};
 ghost use Rattle.model.specs.Lexemes.{opening, atom, hinting};
 ghost use Rattle.model.specs.Write.{shown, advanced};
-ghost use Rattle.octets.specs.Classes.{Classed};
 ghost use Rattle.blocks.specs.Fronts.{Front};
 ghost use Rattle.spelling.specs.Spelled.{cut};
 ghost use Rattle.writer.specs.Sheets.{Sheet, Strings};
@@ -34,47 +33,29 @@ fn put_open(due: bool, out: &mut [u8], pos: usize) -> usize
 }
 
 // A string.
-fn put_plain(
-    classes: &[u8; 256],
-    src: &[u8],
-    due: bool,
-    start: usize,
-    end: usize,
-    out: &mut [u8],
-    pos: usize,
-) -> usize
-    requires classed { Classed classes.now }
+fn put_plain(src: &[u8], due: bool, start: usize, end: usize, out: &mut [u8], pos: usize) -> usize
     requires start_le_end { (start ≤ end) × (end ≤ length src.now) }
     requires end_in_bounds { pos + length (spelled_one due (atom (cut src.now start end))) + 16 ≤ length out.old }
     ensures { Front (spelled_one due (atom (cut src.now start end))) pos out.old out.new result }
 {
     let o = put_gap(due, out, pos);
-    put_spelled(classes, src, start, end, out, o)
+    put_spelled(src, start, end, out, o)
 }
 
 // A hint, in brackets.
-fn put_hint(
-    classes: &[u8; 256],
-    src: &[u8],
-    start: usize,
-    end: usize,
-    out: &mut [u8],
-    pos: usize,
-) -> usize
-    requires classed { Classed classes.now }
+fn put_hint(src: &[u8], start: usize, end: usize, out: &mut [u8], pos: usize) -> usize
     requires start_le_end { (start ≤ end) × (end ≤ length src.now) }
     requires end_in_bounds { pos + length (shown (cut src.now start end)) + 18 ≤ length out.old }
     ensures { Front (bracketed (cut src.now start end)) pos out.old out.new result }
 {
     out[pos] = b'[';
-    let o = put_spelled(classes, src, start, end, out, pos + 1);
+    let o = put_spelled(src, start, end, out, pos + 1);
     out[o] = b']';
     o + 1
 }
 
 // A string whose hint stands from `from` to `to`.
 fn put_hinted(
-    classes: &[u8; 256],
     src: &[u8],
     due: bool,
     from: usize,
@@ -84,14 +65,13 @@ fn put_hinted(
     out: &mut [u8],
     pos: usize,
 ) -> usize
-    requires classed { Classed classes.now }
     requires strings { Strings src.now from to start end }
     requires end_in_bounds { pos + length (spelled_one due (hinting (cut src.now from to) (cut src.now start end))) + 16 ≤ length out.old }
     ensures { Front (spelled_one due (hinting (cut src.now from to) (cut src.now start end))) pos out.old out.new result }
 {
     let o = put_gap(due, out, pos);
-    let p = put_hint(classes, src, from, to, out, o);
-    put_spelled(classes, src, start, end, out, p)
+    let p = put_hint(src, from, to, out, o);
+    put_spelled(src, start, end, out, p)
 }
 
 // The spans of a hint and of the string that it belongs to; 0 where there are none.
@@ -110,8 +90,7 @@ fn hint_at(src: &[u8], at: usize) -> [usize; 2]
 }
 
 // Form 3 of a sheet; the place after it.
-pub fn put_advanced(classes: &[u8; 256], src: &[u8], out: &mut [u8]) -> usize
-    requires classed { Classed classes.now }
+pub fn put_advanced(src: &[u8], out: &mut [u8]) -> usize
     requires sheet { Sheet src.now }
     requires src_in_bounds { length (advanced (the (decode₁ src.now))) + 16 ≤ length out.old }
     ensures { Front (advanced (the (decode₁ src.now))) 0 out.old out.new result }
@@ -123,7 +102,7 @@ pub fn put_advanced(classes: &[u8; 256], src: &[u8], out: &mut [u8]) -> usize
         let span = string_at(src, at);
         if span > 0 {
             let end = end_of(span);
-            o = put_plain(classes, src, due, start_of(span), end, out, o);
+            o = put_plain(src, due, start_of(span), end, out, o);
             due = true;
             at = end;
             continue;
@@ -151,7 +130,6 @@ pub fn put_advanced(classes: &[u8; 256], src: &[u8], out: &mut [u8]) -> usize
         }
         let end = end_of(data);
         o = put_hinted(
-            classes,
             src,
             due,
             start_of(hint),

@@ -12,8 +12,8 @@ returns-then-n-src c = search (after-few, arith)
 pub returns-then-src-at-eq58 : goal.returns-then-src-at-eq58
 returns-then-src-at-eq58 c = search (after-colon, arith)
 
-pub decode-next-requires-clause-at_in_bounds : goal.decode-next-requires-clause-at_in_bounds
-decode-next-requires-clause-at_in_bounds c = (search rules, search (room-spacious, arith))
+pub decode-next-requires : goal.decode-next-requires
+decode-next-requires c = (search rules, search (room-spacious, arith))
 
 pub returns-then-next-eq0 : goal.returns-then-next-eq0
 returns-then-next-eq0 c = search (sized-none, arith)
@@ -22,7 +22,7 @@ pub returns-then-m-n : goal.returns-then-m-n
 returns-then-m-n c = search (sized-other, arith)
 
 pub frame-requires : goal.frame-requires
-frame-requires c = (search (frame_small, arith), frame-room _ _ _ _ _ _ _ (omega arith) c.requires.room c.decode-next.ensures (omega arith))
+frame-requires c = (search (frame_small, arith), frame-room _ _ _ _ _ _ _ (omega arith) c.requires c.decode-next.ensures (omega arith))
 
 pub returns : goal.returns
 returns c = search (sized-some, arith)

@@ -11,8 +11,8 @@ use Rattle.advanced.proofs.convert.Goals.{then-b-eq91, else-b-eq91}
 pub loop-starts-init : goal.loop-starts-init
 loop-starts-init c = search (convert-none, arith)
 
-pub skip_at-i-requires-clause-at_in_bounds : goal.skip_at-i-requires-clause-at_in_bounds
-skip_at-i-requires-clause-at_in_bounds c = search (convert-inside, arith)
+pub skip_at-i-requires : goal.skip_at-i-requires
+skip_at-i-requires c = search (convert-inside, arith)
 
 pub shape_of-out-then-i-src : goal.shape_of-out-then-i-src
 shape_of-out-then-i-src c = search (convert-long, arith)
@@ -74,37 +74,37 @@ loop-starts-smaller-then-b-eq41 c = search (one_less, arith)
 pub loop-starts-preserved-then-b-eq41 : goal.loop-starts-preserved-then-b-eq41
 loop-starts-preserved-then-b-eq41 c = search (close-on, arith)
 
-pub tree_at-requires-clause-at_in_bounds : goal.tree_at-requires-clause-at_in_bounds
-tree_at-requires-clause-at_in_bounds c = (search rules, search (node-spare, arith), search (arith))
+pub tree_at-requires : goal.tree_at-requires
+tree_at-requires c = (search rules, search (node-spare, arith), search (arith))
 
-pub overflow_add-opened-in-Held : goal.overflow_add-opened-in-Held
-overflow_add-opened-in-Held c = search (held-deep, arith)
+pub overflow_add-opened-then-opens : goal.overflow_add-opened-then-opens
+overflow_add-opened-then-opens c = search (held-deep, arith)
 
-pub overflow_add-seen-in-Held : goal.overflow_add-seen-in-Held
-overflow_add-seen-in-Held c = search (held-many, arith)
+pub overflow_add-seen-then-opens : goal.overflow_add-seen-then-opens
+overflow_add-seen-then-opens c = search (held-many, arith)
 
-pub overflow_add-size-in-Held : goal.overflow_add-size-in-Held
-overflow_add-size-in-Held c =
-    held-long _ _ _ _ _ _ _ _ _ _ _ _ _ c.loop-starts.invariant _ c.skip_at-i.ensures _ c.closed.ensures c.if-closed.false c.if-i-src-2.false _ c.wrap-o.ensures _ c.opens.ensures c.if-opens.true _ _ c.tree_at.ensures _ _ _ _ c.in-Held.is
+pub overflow_add-size-then-opens : goal.overflow_add-size-then-opens
+overflow_add-size-then-opens c =
+    held-long _ _ _ _ _ _ _ _ _ _ _ _ _ c.loop-starts.invariant _ c.skip_at-i.ensures _ c.closed.ensures c.if-closed.false c.if-i-src-2.false _ c.wrap-o.ensures _ c.opens.ensures c.if-opens.true _ _ c.tree_at.ensures _ c.in-Some.is
 
-pub loop-starts-smaller-in-Held : goal.loop-starts-smaller-in-Held
-loop-starts-smaller-in-Held c = search (held-less, arith)
+pub loop-starts-smaller-then-opens : goal.loop-starts-smaller-then-opens
+loop-starts-smaller-then-opens c = search (held-less, arith)
 
-pub loop-starts-preserved-in-Held : goal.loop-starts-preserved-in-Held
-loop-starts-preserved-in-Held c =
-    held_on _ _ _ _ _ _ _ _ _ _ _ _ _ c.loop-starts.invariant _ c.skip_at-i.ensures _ c.closed.ensures c.if-closed.false c.if-i-src-2.false _ c.wrap-o.ensures _ c.opens.ensures c.if-opens.true _ _ c.tree_at.ensures _ _ _ _ c.in-Held.is _ c.larger-deepest-in-Held.ensures
+pub loop-starts-preserved-then-opens : goal.loop-starts-preserved-then-opens
+loop-starts-preserved-then-opens c =
+    held_on _ _ _ _ _ _ _ _ _ _ _ _ _ c.loop-starts.invariant _ c.skip_at-i.ensures _ c.closed.ensures c.if-closed.false c.if-i-src-2.false _ c.wrap-o.ensures _ c.opens.ensures c.if-opens.true _ _ c.tree_at.ensures _ c.in-Some.is _ c.larger-deepest-then-opens.ensures
 
-pub shape_of-notes-in-NoTree : goal.shape_of-notes-in-NoTree
-shape_of-notes-in-NoTree c = search (convert-notes, arith)
+pub shape_of-notes-in_default : goal.shape_of-notes-in_default
+shape_of-notes-in_default c = search (convert-notes, arith)
 
-pub returns-in-NoTree : goal.returns-in-NoTree
-returns-in-NoTree c = search (held-refused, arith)
+pub returns-in_default : goal.returns-in_default
+returns-in_default c = search (held-refused, arith)
 
-pub hinted-next-requires-clause-at_in_bounds : goal.hinted-next-requires-clause-at_in_bounds
-hinted-next-requires-clause-at_in_bounds c = (search rules, search (node-spare, arith), search rules)
+pub hinted-next-requires : goal.hinted-next-requires
+hinted-next-requires c = (search rules, search (node-spare, arith), search rules)
 
-pub simple-next-requires-clause-room : goal.simple-next-requires-clause-room
-simple-next-requires-clause-room c = search (spare-room, node-spare, arith)
+pub simple-next-requires : goal.simple-next-requires
+simple-next-requires c = search (spare-room, node-spare, arith)
 
 pub shape_of-notes-then-next-eq0 : goal.shape_of-notes-then-next-eq0
 shape_of-notes-then-next-eq0 c = search (convert-notes, arith)

@@ -10,8 +10,8 @@ returns-then-b-eq34 c = search (decode-quoted, arith)
 pub returns-then-b-eq35 : goal.returns-then-b-eq35
 returns-then-b-eq35 c = search (decode-hex, arith)
 
-pub base-requires-clause-spacious : goal.base-requires-clause-spacious
-base-requires-clause-spacious c = (search rules, bar)
+pub base-requires : goal.base-requires
+base-requires c = (search rules, bar)
 
 pub returns-then-b-eq124 : goal.returns-then-b-eq124
 returns-then-b-eq124 c = search (decode-base, arith)

@@ -3,8 +3,8 @@ use native.Mathlib.Omega.{arith}
 use borrow.Author.Rules.{rules}
 use Rattle.advanced.proofs.framed.Goals as goal
 
-pub decode-next-requires-clause-at_in_bounds : goal.decode-next-requires-clause-at_in_bounds
-decode-next-requires-clause-at_in_bounds c = (search rules, search (room-spacious, arith))
+pub decode-next-requires : goal.decode-next-requires
+decode-next-requires c = (search rules, search (room-spacious, arith))
 
 pub returns-then-next-eq0 : goal.returns-then-next-eq0
 returns-then-next-eq0 c = search (framed-none, arith)

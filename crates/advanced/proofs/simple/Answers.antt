@@ -10,8 +10,8 @@ returns-then-at-src c = search (simple-cut, arith)
 pub returns-then-c-lt-TOKEN : goal.returns-then-c-lt-TOKEN
 returns-then-c-lt-TOKEN c = search (simple-framed, arith)
 
-pub counted-requires-clause-at_in_bounds : goal.counted-requires-clause-at_in_bounds
-counted-requires-clause-at_in_bounds c = (search rules, search rules, search (digit-here, arith))
+pub counted-requires : goal.counted-requires
+counted-requires c = (search rules, search rules, search (digit-here, arith))
 
 pub returns-then-c-gt-HEX : goal.returns-then-c-gt-HEX
 returns-then-c-gt-HEX c = search (simple-counted, arith)

@@ -2,14 +2,14 @@ use native.Mathlib.Omega.{arith}
 use Rattle.canonical.proofs.Lexing.{hint-end, hint-unclosed, hint-none, hint-string}
 use Rattle.canonical.proofs.after_hint.Goals as goal
 
-pub returns-then-to-src : goal.returns-then-to-src
-returns-then-to-src c = search (hint-end, arith)
+pub returns-in_err-get : goal.returns-in_err-get
+returns-in_err-get c = let k = c.in_err-get.ensures.lookup in rw c.from_residual.ensures (hint-end _ _ _ (omega arith))
 
-pub returns-then-src-to-ne93 : goal.returns-then-src-to-ne93
-returns-then-src-to-ne93 c = search (hint-unclosed, arith)
+pub returns-then-branch-ne93 : goal.returns-then-branch-ne93
+returns-then-branch-ne93 c = let k = c.in_ok-get.ensures.lookup in let e = k.3.1 0 in hint-unclosed _ _ _ (omega arith) (λ z. absurd (omega arith))
 
-pub returns-in-Is : goal.returns-in-Is
-returns-in-Is c = search (hint-string, arith)
+pub returns-in_err-data : goal.returns-in_err-data
+returns-in_err-data c = let k = c.in_ok-get.ensures.lookup in let e = k.3.1 0 in rw c.from_residual-in_err-data.ensures (hint-none _ _ _ (omega arith) (omega arith) c.in_err-data.ensures)
 
-pub returns-in-Not : goal.returns-in-Not
-returns-in-Not c = search (hint-none, arith)
+pub returns : goal.returns
+returns c = let k = c.in_ok-get.ensures.lookup in let e = k.3.1 0 in hint-string _ _ _ (omega arith) (omega arith) _ c.in_ok-data.ensures

@@ -8,17 +8,17 @@ returns-then-b-eq40 c = search (lex-open, arith)
 pub returns-then-b-eq41 : goal.returns-then-b-eq41
 returns-then-b-eq41 c = search (lex-close, arith)
 
+pub returns-in_err-hint : goal.returns-in_err-hint
+returns-in_err-hint c = rw c.from_residual.ensures (lex-unhinted _ _ (omega arith) c.if-b-eq40.false c.if-b-eq41.false c.if-b-eq91.true c.in_err-hint.ensures)
+
 pub after_hint-requires : goal.after_hint-requires
-after_hint-requires c = search (hint-within, arith)
+after_hint-requires c = hint-within _ _ (omega arith) c.if-b-eq40.false c.if-b-eq41.false c.if-b-eq91.true _ c.in_ok-hint.ensures
 
-pub returns-in-Is : goal.returns-in-Is
-returns-in-Is c = search (lex-hinted, arith)
+pub returns-then-b-eq91 : goal.returns-then-b-eq91
+returns-then-b-eq91 c = lex-hinted _ _ (omega arith) c.if-b-eq40.false c.if-b-eq41.false c.if-b-eq91.true _ c.in_ok-hint.ensures _ c.after_hint.ensures
 
-pub returns-in-Not : goal.returns-in-Not
-returns-in-Not c = search (lex-unhinted, arith)
+pub returns-in_err-data : goal.returns-in_err-data
+returns-in_err-data c = rw c.from_residual-in_err-data.ensures (lex-none _ _ (omega arith) c.if-b-eq40.false c.if-b-eq41.false c.if-b-eq91.false c.in_err-data.ensures)
 
-pub returns-in-Is-verbatim_at : goal.returns-in-Is-verbatim_at
-returns-in-Is-verbatim_at c = search (lex-plain, arith)
-
-pub returns-in-Not-verbatim_at : goal.returns-in-Not-verbatim_at
-returns-in-Not-verbatim_at c = search (lex-none, arith)
+pub returns : goal.returns
+returns c = lex-plain _ _ (omega arith) c.if-b-eq40.false c.if-b-eq41.false c.if-b-eq91.false _ c.in_ok-data.ensures

@@ -8,5 +8,5 @@ returns-then-yes c = search (same-yes, arith)
 pub returns-else-yes : goal.returns-else-yes
 returns-else-yes c = search (same-no, arith)
 
-pub returns-in-Refused : goal.returns-in-Refused
-returns-in-Refused c = search (same-refused, arith)
+pub returns-in-Err : goal.returns-in-Err
+returns-in-Err c = search (same-refused, arith)

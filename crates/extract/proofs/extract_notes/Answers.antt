@@ -1,4 +1,4 @@
-use Rattle.extract.proofs.Giving.{kept-notes, note-judged, notes-given}
+use Rattle.extract.proofs.Giving.{kept-notes, note-judged, notes-given, notes-none}
 use native.Mathlib.Omega.{arith}
 use Rattle.extract.proofs.extract_notes.Goals as goal
 
@@ -10,3 +10,6 @@ give-requires-clause-noteable c = search (kept-notes, arith)
 
 pub returns : goal.returns
 returns c = search (notes-given, arith)
+
+pub returns-in_default : goal.returns-in_default
+returns-in_default c = search (notes-none, arith)

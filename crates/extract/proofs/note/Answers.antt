@@ -17,11 +17,11 @@ slice_bounds-part-end c = search (front_length, arith)
 pub note-requires : goal.note-requires
 note-requires c = search (front-short, arith)
 
-pub returns-then-depth-gt-DEPTH : goal.returns-then-depth-gt-DEPTH
-returns-then-depth-gt-DEPTH c = search (note-deep, arith)
+pub returns-then-sizes-gt-DEPTH : goal.returns-then-sizes-gt-DEPTH
+returns-then-sizes-gt-DEPTH c = search (note-deep, arith)
 
-pub returns-else-depth-gt-DEPTH : goal.returns-else-depth-gt-DEPTH
-returns-else-depth-gt-DEPTH c = note-whole _ _ _ _ _ c.note.ensures c.if-octets-sheet.false _ _ _ c.in-Whole.is (search rules) (search rules) (search rules)
+pub returns-else-sizes-gt-DEPTH : goal.returns-else-sizes-gt-DEPTH
+returns-else-sizes-gt-DEPTH c = note-whole _ _ _ _ _ c.note.ensures c.if-octets-sheet.false _ c.in-Ok.is (search rules) (search rules) (search rules)
 
-pub returns-in-Refused : goal.returns-in-Refused
-returns-in-Refused c = search (note-none, arith)
+pub returns-in-Err : goal.returns-in-Err
+returns-in-Err c = search (note-none, arith)

@@ -1,8 +1,8 @@
 use Rattle.hours.proofs.Counting.{total-given, total-refused}
 use Rattle.hours.proofs.total.Goals as goal
 
-pub returns-in-Quarters : goal.returns-in-Quarters
-returns-in-Quarters c = search total-given
+pub returns-in-Some : goal.returns-in-Some
+returns-in-Some c = search total-given
 
-pub returns-in-NoCount : goal.returns-in-NoCount
-returns-in-NoCount c = search total-refused
+pub returns-in-None : goal.returns-in-None
+returns-in-None c = search total-refused

@@ -1,5 +1,7 @@
 use borrow.Author.Rules.{rules}
+use Rattle.letters.proofs.Letters.{letter_table, lettered}
 use Rattle.letters.proofs.letter_from.Goals as goal
 
 pub returns : goal.returns
-returns c = c.requires.alphabet.at c.args.v (search rules)
+unfolding letter_table
+returns c = lettered.at c.args.v (search rules)

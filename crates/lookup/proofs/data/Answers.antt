@@ -11,8 +11,8 @@ slice_bounds-result-start c = search (data-ordered, arith)
 pub slice_bounds-result-end : goal.slice_bounds-result-end
 slice_bounds-result-end c = search (data-ended, arith)
 
-pub returns-in-Part : goal.returns-in-Part
-returns-in-Part c = search (data-shown, data-at, arith)
+pub returns-in-Some : goal.returns-in-Some
+returns-in-Some c = search (data-shown, data-at, arith)
 
-pub returns-in-NoPart : goal.returns-in-NoPart
-returns-in-NoPart c = search (data-none, data-none-at, arith)
+pub returns-in-None : goal.returns-in-None
+returns-in-None c = search (data-none, data-none-at, arith)

@@ -17,11 +17,8 @@ slice_bounds-right-end c = search (sheet-length, arith)
 pub alike-requires : goal.alike-requires
 alike-requires c = two-sheets _ _ _ _ _ c.sheet.ensures c.if-sheet.true _ c.sheet-then-sheet.ensures c.if-sheet-2.true
 
-pub returns-then-alike : goal.returns-then-alike
-returns-then-alike c = search (compared, arith)
-
-pub returns-else-alike : goal.returns-else-alike
-returns-else-alike c = search (compared, arith)
+pub returns-then-sheet-2 : goal.returns-then-sheet-2
+returns-then-sheet-2 c = search (compared, arith)
 
 pub returns-else-sheet-2 : goal.returns-else-sheet-2
 returns-else-sheet-2 c = search (right-refused, arith)

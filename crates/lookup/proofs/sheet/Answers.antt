@@ -15,8 +15,8 @@ slice_bounds-part-end c = search (front_length, arith)
 pub measure-requires : goal.measure-requires
 measure-requires c = search (front-short, arith)
 
-pub returns-in-Whole : goal.returns-in-Whole
-returns-in-Whole c = search (sheet-whole, arith)
+pub returns-in-Ok : goal.returns-in-Ok
+returns-in-Ok c = search (sheet-whole, arith)
 
-pub returns-in-Refused : goal.returns-in-Refused
-returns-in-Refused c = search (sheet-none, arith)
+pub returns-in-Err : goal.returns-in-Err
+returns-in-Err c = search (sheet-none, arith)

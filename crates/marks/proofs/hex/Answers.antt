@@ -6,8 +6,8 @@ use Rattle.marks.proofs.hex.Goals as goal
 pub loop-count-init : goal.loop-count-init
 loop-count-init c = search taking-none
 
-pub pairs-j-requires-clause-spacious : goal.pairs-j-requires-clause-spacious
-pairs-j-requires-clause-spacious c = search hex-space
+pub pairs-j-requires : goal.pairs-j-requires
+pairs-j-requires c = search hex-space
 
 pub overflow_sub-o : goal.overflow_sub-o
 overflow_sub-o c = search (hex-from, arith)
@@ -21,8 +21,8 @@ overflow_sub-count c = search (hex-after, arith)
 pub returns-then-src-j-eq35 : goal.returns-then-src-j-eq35
 returns-then-src-j-eq35 c = search (hex-mark, arith)
 
-pub pair_at-requires-clause-at_in_bounds : goal.pair_at-requires-clause-at_in_bounds
-pair_at-requires-clause-at_in_bounds c = search hex-inside
+pub pair_at-requires : goal.pair_at-requires
+pair_at-requires c = search hex-inside
 
 pub bounds-out-o : goal.bounds-out-o
 bounds-out-o c = search (hex-room, arith)
@@ -33,11 +33,11 @@ loop-count-smaller c = search (hex-less, arith)
 pub loop-count-preserved : goal.loop-count-preserved
 loop-count-preserved c = search (hex-on, arith)
 
-pub overflow_sub-count-in-Hash : goal.overflow_sub-count-in-Hash
-overflow_sub-count-in-Hash c = search (hex-after, arith)
+pub overflow_sub-count-in-Some-Hash : goal.overflow_sub-count-in-Some-Hash
+overflow_sub-count-in-Some-Hash c = search (hex-after, arith)
 
-pub returns-in-Hash : goal.returns-in-Hash
-returns-in-Hash c = search hex-end
+pub returns-in-Some-Hash : goal.returns-in-Some-Hash
+returns-in-Some-Hash c = search hex-end
 
-pub returns-in-NoPair : goal.returns-in-NoPair
-returns-in-NoPair c = search hex-none
+pub returns-in-None : goal.returns-in-None
+returns-in-None c = search hex-none

@@ -6,8 +6,8 @@ use Rattle.marks.proofs.quotes.Goals as goal
 pub loop-octet-init : goal.loop-octet-init
 loop-octet-init c = search taking-none
 
-pub plain_end-j-requires-clause-at_in_bounds : goal.plain_end-j-requires-clause-at_in_bounds
-plain_end-j-requires-clause-at_in_bounds c = search quotes-inside
+pub plain_end-j-requires : goal.plain_end-j-requires
+plain_end-j-requires c = search quotes-inside
 
 pub overflow_sub-j : goal.overflow_sub-j
 overflow_sub-j c = search (quotes-from, arith)
@@ -18,11 +18,11 @@ copy-o-requires c = (search (quotes-source, arith), search (quotes-space, arith)
 pub bounds-out-o : goal.bounds-out-o
 bounds-out-o c = search (quotes-room, arith)
 
-pub loop-octet-smaller-in-One : goal.loop-octet-smaller-in-One
-loop-octet-smaller-in-One c = search (one_less, arith)
+pub loop-octet-smaller-in-Some-One : goal.loop-octet-smaller-in-Some-One
+loop-octet-smaller-in-Some-One c = search (one_less, arith)
 
-pub loop-octet-preserved-in-One : goal.loop-octet-preserved-in-One
-loop-octet-preserved-in-One c = search (quotes-one, arith)
+pub loop-octet-preserved-in-Some-One : goal.loop-octet-preserved-in-Some-One
+loop-octet-preserved-in-Some-One c = search (quotes-one, arith)
 
 pub loop-octet-smaller : goal.loop-octet-smaller
 loop-octet-smaller c = search (gone-less, arith)
@@ -33,8 +33,8 @@ loop-octet-preserved c = search (quotes-gone, arith)
 pub overflow_sub-count : goal.overflow_sub-count
 overflow_sub-count c = search (quotes-after, arith)
 
-pub returns-in-Quote : goal.returns-in-Quote
-returns-in-Quote c = search quotes-end
+pub returns-in-Some-Quote : goal.returns-in-Some-Quote
+returns-in-Some-Quote c = search quotes-end
 
-pub returns-in-NoPiece : goal.returns-in-NoPiece
-returns-in-NoPiece c = search quotes-none
+pub returns-in-None : goal.returns-in-None
+returns-in-None c = search quotes-none

@@ -1,5 +1,7 @@
 use borrow.Author.Rules.{rules}
+use Rattle.octets.proofs.Agreement.{class_table, classed}
 use Rattle.octets.proofs.class_of.Goals as goal
 
 pub returns : goal.returns
-returns c = c.requires.at c.args.b (search rules)
+unfolding class_table
+returns c = classed.at c.args.b (search rules)

@@ -1,5 +1,7 @@
 use borrow.Author.Rules.{rules}
+use Rattle.octets.proofs.Agreement.{letter_table, lettered}
 use Rattle.octets.proofs.letter_of.Goals as goal
 
 pub returns : goal.returns
-returns c = c.requires.at c.args.b (search rules)
+unfolding letter_table
+returns c = lettered.at c.args.b (search rules)

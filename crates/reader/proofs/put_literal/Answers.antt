@@ -1,15 +1,21 @@
+use Rattle.std.proofs.lemmas.Result.{err_from_is_err_and}
 use Rattle.reader.proofs.Storing.{put-none, put_refused, put-source, put-room, put-accepted}
 use native.Mathlib.Omega.{arith}
 use Rattle.reader.proofs.put_literal.Goals as goal
 
-pub returns-then-row-gt0 : goal.returns-then-row-gt0
-returns-then-row-gt0 c = search (put_refused, arith)
+pub returns-in_err-sizes : goal.returns-in_err-sizes
+returns-in_err-sizes c =
+    let p = err_from_is_err_and c.from_residual.result c.from_residual.ensures.1 in
+    rw (p.1, p.2) (put-none _ _ _ _ _ _ _ _ c.take_literal.ensures _ c.in_err-sizes.was)
+
+pub returns-in_err-room : goal.returns-in_err-room
+returns-in_err-room c =
+    let p = err_from_is_err_and c.from_residual-in_err-room.result c.from_residual-in_err-room.ensures.1 in
+    rw (p.1, p.2) (put_refused _ _ _ _ _ _ _ _ c.take_literal.ensures _ c.in_ok-sizes.was _ c.room.ensures _ c.in_err-room.was)
 
 pub copy-requires : goal.copy-requires
-copy-requires c = (search (put-source, arith), search (put-room, arith))
+copy-requires c = (search (put-source, c.in_ok-sizes.was, c.in_ok-room.was, arith), search (put-room, c.in_ok-sizes.was, c.in_ok-room.was, arith))
 
-pub returns-else-row-gt0 : goal.returns-else-row-gt0
-returns-else-row-gt0 c = put-accepted _ _ _ _ _ _ _ _ c.take_literal.ensures _ _ _ c.in-Whole.is _ c.room-row.ensures c.if-row-gt0.false c.requires.noteable _ _ c.copy.ensures
-
-pub returns-in-Refused : goal.returns-in-Refused
-returns-in-Refused c = search (put-none, arith)
+pub returns : goal.returns
+returns c =
+    put-accepted _ _ _ _ _ _ _ _ c.take_literal.ensures _ c.in_ok-sizes.was _ c.room.ensures _ c.in_ok-room.was c.requires.noteable _ _ c.copy.ensures

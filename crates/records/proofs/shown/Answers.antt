@@ -11,8 +11,8 @@ slice_bounds-result-start c = search (place-ordered, arith)
 pub slice_bounds-result-end : goal.slice_bounds-result-end
 slice_bounds-result-end c = search (place-ended, arith)
 
-pub returns-in-Part : goal.returns-in-Part
-returns-in-Part c = search (place-shown, place_at, arith)
+pub returns-in-Some : goal.returns-in-Some
+returns-in-Some c = search (place-shown, place_at, arith)
 
-pub returns-in-NoPart : goal.returns-in-NoPart
-returns-in-NoPart c = search (place_none, place-front-at, arith)
+pub returns-in-None : goal.returns-in-None
+returns-in-None c = search (place_none, place-front-at, arith)

@@ -1,3 +1,4 @@
+use borrow.Author.Rules.{rules}
 use native.Mathlib.Omega.{arith}
 use Rattle.records.proofs.Tabling.{telling-none, telling-on}
 use Rattle.records.proofs.tell.Goals as goal
@@ -6,4 +7,4 @@ pub loop-i-init : goal.loop-i-init
 loop-i-init c = search (telling-none, arith)
 
 pub loop-i-preserved : goal.loop-i-preserved
-loop-i-preserved c = telling-on _ _ _ _ _ _ c.loop-i.invariant c.loop-i-test.true _ c.record_of-z.ensures
+loop-i-preserved c = telling-on _ _ _ _ _ _ c.loop-i.invariant (search rules) _ c.record_by.ensures

@@ -1,18 +1,20 @@
 use native.Mathlib.Omega.{arith}
+use mathlib.Core.Path.{sym, refl}
+use Rattle.answers.proofs.Judged.{judge-row, judge-none}
 use Rattle.rooms.proofs.Rooms.{room-deep, room-records, room-size, room-lent, room-good}
 use Rattle.rooms.proofs.room.Goals as goal
 
-pub returns-then-depth-gt-DEPTH : goal.returns-then-depth-gt-DEPTH
-returns-then-depth-gt-DEPTH c = search (room-deep, arith)
+pub returns-then-sizes-gt-DEPTH : goal.returns-then-sizes-gt-DEPTH
+returns-then-sizes-gt-DEPTH c = search (judge-row, room-deep, arith)
 
-pub returns-then-nodes-records : goal.returns-then-nodes-records
-returns-then-nodes-records c = search (room-records, arith)
+pub returns-then-sizes-records : goal.returns-then-sizes-records
+returns-then-sizes-records c = search (judge-row, room-records, arith)
 
-pub returns-then-len-gt-CANONICAL : goal.returns-then-len-gt-CANONICAL
-returns-then-len-gt-CANONICAL c = search (room-size, arith)
+pub returns-then-sizes-gt-CANONICAL : goal.returns-then-sizes-gt-CANONICAL
+returns-then-sizes-gt-CANONICAL c = search (judge-row, room-size, arith)
 
-pub returns-then-len-octets : goal.returns-then-len-octets
-returns-then-len-octets c = search (room-lent, arith)
+pub returns-then-sizes-octets : goal.returns-then-sizes-octets
+returns-then-sizes-octets c = search (judge-row, room-lent, arith)
 
 pub returns : goal.returns
-returns c = search (room-good, arith)
+returns c = search (judge-none, room-good, arith)

@@ -14,8 +14,8 @@ loop-at-smaller c = search (scan-less, arith)
 pub loop-at-preserved : goal.loop-at-preserved
 loop-at-preserved c = search (scan-next, arith)
 
-pub returns-in-NoPart : goal.returns-in-NoPart
-returns-in-NoPart c = search (scan-damaged, arith)
+pub returns-in_default : goal.returns-in_default
+returns-in_default c = search (scan-damaged, arith)
 
 pub returns : goal.returns
 returns c = search (scan-end, arith)

@@ -11,8 +11,8 @@ slice_bounds-result-start c = search (part-ordered, arith)
 pub slice_bounds-result-end : goal.slice_bounds-result-end
 slice_bounds-result-end c = search (part-ended, arith)
 
-pub returns-in-Whole : goal.returns-in-Whole
-returns-in-Whole c = search (shown-part, shown-at, arith)
+pub returns-in-Ok : goal.returns-in-Ok
+returns-in-Ok c = search (shown-part, shown-at, arith)
 
-pub returns-in-Damaged : goal.returns-in-Damaged
-returns-in-Damaged c = search (shown-none, shown-none-at, arith)
+pub returns-in-Err : goal.returns-in-Err
+returns-in-Err c = search (shown-none, shown-none-at, arith)

@@ -3,8 +3,8 @@ use Rattle.texts.proofs.Braces.{brace-room, brace-none, brace-more, brace-lent, 
 use native.Mathlib.Omega.{arith}
 use Rattle.texts.proofs.take_braced.Goals as goal
 
-pub base-next-requires-clause-spacious : goal.base-next-requires-clause-spacious
-base-next-requires-clause-spacious c = (search (brace-room, arith), search brace)
+pub base-next-requires : goal.base-next-requires
+base-next-requires c = (search (brace-room, arith), search brace)
 
 pub returns-then-next-eq0 : goal.returns-then-next-eq0
 returns-then-next-eq0 c = search (brace-none, arith)
@@ -21,8 +21,8 @@ slice_bounds-part-end-2 c = search (brace-part, arith)
 pub note-requires : goal.note-requires
 note-requires c = search (brace-short, arith)
 
-pub returns-in-Whole : goal.returns-in-Whole
-returns-in-Whole c = search (brace-whole, arith)
+pub returns-in-Ok : goal.returns-in-Ok
+returns-in-Ok c = search (brace-whole, arith)
 
-pub returns-in-Refused : goal.returns-in-Refused
-returns-in-Refused c = search (brace-refused, arith)
+pub returns-in-Err : goal.returns-in-Err
+returns-in-Err c = search (brace-refused, arith)

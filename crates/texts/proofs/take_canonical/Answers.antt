@@ -8,8 +8,8 @@ returns-then-len-gt-CANONICAL c = search (canonical-long, arith)
 pub copy-requires : goal.copy-requires
 copy-requires c = search (canonical-room, arith)
 
-pub returns-in-Whole : goal.returns-in-Whole
-returns-in-Whole c = search (canonical-copied, arith)
+pub returns-in-Ok : goal.returns-in-Ok
+returns-in-Ok c = search (canonical-copied, arith)
 
-pub returns-in-Refused : goal.returns-in-Refused
-returns-in-Refused c = search (canonical-copied, arith)
+pub returns-in-Err : goal.returns-in-Err
+returns-in-Err c = search (canonical-copied, arith)

@@ -1,14 +1,14 @@
-use Rattle.values.proofs.ByKind.{kind-else, kind_1, kind_2, kind_3}
+use Rattle.values.proofs.ByKind.{kind-raw, kind-single, kind-double, kind-whole}
 use Rattle.values.proofs.value_of.Goals as goal
 
-pub returns-then-kind-eq1 : goal.returns-then-kind-eq1
-returns-then-kind-eq1 c = search kind_1
+pub returns-in-Single : goal.returns-in-Single
+returns-in-Single c = search kind-single
 
-pub returns-then-kind-eq2 : goal.returns-then-kind-eq2
-returns-then-kind-eq2 c = search kind_2
+pub returns-in-Double : goal.returns-in-Double
+returns-in-Double c = search kind-double
 
-pub returns-then-kind-eq3 : goal.returns-then-kind-eq3
-returns-then-kind-eq3 c = search kind_3
+pub returns-in-Whole : goal.returns-in-Whole
+returns-in-Whole c = search kind-whole
 
-pub returns : goal.returns
-returns c = search (kind-else, c.if-kind-eq1.false, c.if-kind-eq2.false, c.if-kind-eq3.false)
+pub returns-in-Raw : goal.returns-in-Raw
+returns-in-Raw c = search kind-raw

@@ -1,3 +1,6 @@
+use mathlib.Core.Path.{refl}
+use Rattle.answers.specs.declared.refusal.Refusal.TheVariants.{Size}
+use Rattle.answers.proofs.Judged.{refuses-writing}
 use native.Mathlib.Omega.{arith}
 use Rattle.write.proofs.Forms.{good-short, basic-refused, good_length, good-sheet, basic-room, basic-written}
 use Rattle.write.proofs.write_basic.Goals as goal
@@ -6,7 +9,7 @@ pub basic_len-len-requires : goal.basic_len-len-requires
 basic_len-len-requires c = search (good-short, arith)
 
 pub returns-then-len-out : goal.returns-then-len-out
-returns-then-len-out c = search (basic-refused, arith)
+returns-then-len-out c = search (basic-refused, refuses-writing Size refl, arith)
 
 pub slice_bounds-part-end : goal.slice_bounds-part-end
 slice_bounds-part-end c = search (good_length, arith)

@@ -1,3 +1,6 @@
+use mathlib.Core.Path.{refl}
+use Rattle.answers.specs.declared.refusal.Refusal.TheVariants.{Size}
+use Rattle.answers.proofs.Judged.{refuses-writing}
 use native.Mathlib.Omega.{arith}
 use Rattle.write.proofs.Forms.{good_length, good-sheet, scratch-room, advanced-refused, advanced-written}
 use Rattle.write.proofs.write_through.Goals as goal
@@ -12,7 +15,7 @@ pub put_advanced-len-requires-clause-src_in_bounds : goal.put_advanced-len-requi
 put_advanced-len-requires-clause-src_in_bounds c = search (scratch-room, arith)
 
 pub returns-then-len-out : goal.returns-then-len-out
-returns-then-len-out c = search (advanced-refused, arith)
+returns-then-len-out c = search (advanced-refused, refuses-writing Size refl, arith)
 
 pub returns : goal.returns
 returns c = search (advanced-written, arith)

@@ -3,8 +3,8 @@ use Rattle.advanced.proofs.Trees.{tree-space, tree-none, tree-end, tree-within, 
 use native.Mathlib.Omega.{arith}
 use Rattle.advanced.proofs.braces.tree_at.Goals as goal
 
-pub base-next-requires-clause-spacious : goal.base-next-requires-clause-spacious
-base-next-requires-clause-spacious c = (search (tree-space, arith), search brace)
+pub base-next-requires : goal.base-next-requires
+base-next-requires c = (search (tree-space, arith), search brace)
 
 pub returns-then-next-eq0 : goal.returns-then-next-eq0
 returns-then-next-eq0 c = search (tree-none, arith)
@@ -18,8 +18,8 @@ slice_bounds-part-end c = search (tree-within, arith)
 pub note-requires : goal.note-requires
 note-requires c = search (tree-short, arith)
 
-pub returns-in-Whole : goal.returns-in-Whole
-returns-in-Whole c = search (tree-held, arith)
+pub returns-in-Ok : goal.returns-in-Ok
+returns-in-Ok c = search (tree-held, arith)
 
-pub returns-in-Refused : goal.returns-in-Refused
-returns-in-Refused c = search (tree-refused, arith)
+pub returns-in-Err : goal.returns-in-Err
+returns-in-Err c = search (tree-refused, arith)

@@ -14,10 +14,10 @@ returns-in-Double c = search (hand-double, arith)
 pub returns-in-Whole : goal.returns-in-Whole
 returns-in-Whole c =
     let h : SFits w64 c.in-Whole.x = search rules in
-    hand-whole _ c.in-Accepted.value c.in-Accepted.is c.in-Whole.x c.in-Whole.is h
+    hand-whole _ c.in-Ok.value c.in-Ok.is c.in-Whole.x c.in-Whole.is h
 
 pub returns-in-Raw : goal.returns-in-Raw
 returns-in-Raw c = search (hand-raw, arith)
 
-pub returns-in-Refused : goal.returns-in-Refused
-returns-in-Refused c = search (hand-unvalued, arith)
+pub returns-in-Err : goal.returns-in-Err
+returns-in-Err c = search (hand-unvalued, arith)

@@ -1,15 +1,16 @@
+use Rattle.answers.proofs.Judged.{refuses}
 use Rattle.pieces.proofs.Ended.{held, end-room, end-lent, end-long, end-inside, end-past}
 use native.Mathlib.Omega.{arith}
 use Rattle.pieces.proofs.ending.end_notes.Goals as goal
 
 pub returns-then-canonical-state : goal.returns-then-canonical-state
-returns-then-canonical-state c = search (end-room, arith)
+returns-then-canonical-state c = search (end-room, refuses, arith)
 
 pub returns-then-lent-state : goal.returns-then-lent-state
-returns-then-lent-state c = search (end-lent, arith)
+returns-then-lent-state c = search (end-lent, refuses, arith)
 
 pub returns-then-fed-gt-SOURCE : goal.returns-then-fed-gt-SOURCE
-returns-then-fed-gt-SOURCE c = search (end-long, arith)
+returns-then-fed-gt-SOURCE c = search (end-long, refuses, arith)
 
 pub inside-requires : goal.inside-requires
 inside-requires c =

@@ -1,3 +1,4 @@
+use Rattle.std.proofs.lemmas.Result.{err_from_is_err_and}
 use Rattle.pieces.proofs.Ended.{inside-part, inside-short, inside-refused, inside-accepted, inside-none}
 use native.Mathlib.Omega.{arith}
 use Rattle.pieces.proofs.ending.inside.Goals as goal
@@ -8,11 +9,15 @@ slice_bounds-part-end c = search (inside-part, arith)
 pub note-requires : goal.note-requires
 note-requires c = search (inside-short, arith)
 
-pub returns-then-row-gt0 : goal.returns-then-row-gt0
-returns-then-row-gt0 c = search (inside-refused, arith)
+pub returns-in_err-sizes : goal.returns-in_err-sizes
+returns-in_err-sizes c =
+    let p = err_from_is_err_and c.from_residual.result c.from_residual.ensures.1 in
+    rw (p.1, p.2) (inside-none _ _ _ c.requires _ _ _ c.note.ensures _ c.in_err-sizes.was)
 
-pub returns-else-row-gt0 : goal.returns-else-row-gt0
-returns-else-row-gt0 c = search (inside-accepted, arith)
+pub returns-in_err-room : goal.returns-in_err-room
+returns-in_err-room c =
+    let p = err_from_is_err_and c.from_residual-in_err-room.result c.from_residual-in_err-room.ensures.1 in
+    rw (p.1, p.2) (inside-refused _ _ _ c.requires _ _ _ c.note.ensures _ c.in_ok-sizes.was _ c.room.ensures _ c.in_err-room.was)
 
-pub returns-in-Refused : goal.returns-in-Refused
-returns-in-Refused c = search (inside-none, arith)
+pub returns : goal.returns
+returns c = search (inside-accepted, c.in_ok-sizes.was, c.in_ok-room.was, arith)

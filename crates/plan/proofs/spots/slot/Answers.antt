@@ -17,8 +17,8 @@ octet-at-requires c = search (slot-shown, arith)
 pub level-around-requires : goal.level-around-requires
 level-around-requires c = search (slot-recorded, arith)
 
-pub returns-in-At : goal.returns-in-At
-returns-in-At c = search (slot_at, arith)
+pub returns : goal.returns
+returns c = search (slot_at, arith)
 
-pub returns-in-Past : goal.returns-in-Past
-returns-in-Past c = search (slot-past, arith)
+pub returns-in_default : goal.returns-in_default
+returns-in_default c = search (slot-past, arith)

@@ -1,17 +1,15 @@
-use mathlib.Core.Path.{◌∙◌, ap}
-use mathlib.Core.List.{List}
-use Rattle.answers.specs.Cases.{outcome}
-use Rattle.records.specs.declared.Record.{Record}
-use Rattle.records.specs.Numbers.{numbers}
-use Rattle.records.proofs.Tabling.{put-tells, put-told}
+use Rattle.std.proofs.lemmas.Result.{err_from_is_err_and}
+use Rattle.records.proofs.Tabling.{put-tells, put-told, put-refused}
 use Rattle.pieces.proofs.Wholes.{ended}
 use Rattle.records.proofs.piecing.pieces_end.Goals as goal
 
 pub tell-requires : goal.tell-requires
-tell-requires c = put-tells _ _ _ _ _ c.end_coded-r.ensures
+tell-requires c = put-tells _ _ _ _ _ c.end_coded.ensures _ c.in_ok-sizes.was
+
+pub returns-in_err-sizes : goal.returns-in_err-sizes
+returns-in_err-sizes c =
+    let p = err_from_is_err_and c.from_residual.result c.from_residual.ensures.1 in
+    rw (p.1, p.2) (ended _ _ _ _ _ _ (put-refused _ _ _ _ _ c.end_coded.ensures _ c.in_err-sizes.was))
 
 pub returns : goal.returns
-returns c =
-    ended _ _ _ _ _ _
-    (ap (λ (z : List Record). outcome c.end_coded-r.result c.args.canonical.now (numbers z)) c.tell.ensures
-    ∙ put-told _ _ _ _ _ c.end_coded-r.ensures)
+returns c = ended _ _ _ _ _ _ (put-told _ _ _ _ _ c.end_coded.ensures _ c.in_ok-sizes.was _ c.tell.ensures)

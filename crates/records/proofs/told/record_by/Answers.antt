@@ -1,4 +1,4 @@
-use Rattle.records.proofs.Tabling.{told-readable, told-row, told-zero, told-refused}
+use Rattle.records.proofs.Tabling.{told-readable, told-row, told-zero}
 use native.Mathlib.Omega.{arith}
 use Rattle.records.proofs.told.record_by.Goals as goal
 
@@ -11,8 +11,5 @@ parent_of-requires c = search (told-readable, arith)
 pub returns-then-i-nodes : goal.returns-then-i-nodes
 returns-then-i-nodes c = search (told-row, arith)
 
-pub returns-else-i-nodes : goal.returns-else-i-nodes
-returns-else-i-nodes c = search (told-zero, arith)
-
-pub returns-in-Refused : goal.returns-in-Refused
-returns-in-Refused c = search (told-refused, arith)
+pub returns : goal.returns
+returns c = search (told-zero, arith)

@@ -21,14 +21,14 @@ loop-at-init c = search (adding-starts, arith)
 pub count_at-requires : goal.count_at-requires
 count_at-requires c = search (line-in, arith)
 
-pub overflow_add-count : goal.overflow_add-count
-overflow_add-count c = search (count_fits, arith)
+pub overflow_add-lines : goal.overflow_add-lines
+overflow_add-lines c = search (count_fits, arith)
 
 pub overflow_add-quarters : goal.overflow_add-quarters
 overflow_add-quarters c = search (quarters-fit, arith)
 
-pub overflow_add-at-in-Quarters : goal.overflow_add-at-in-Quarters
-overflow_add-at-in-Quarters c = search (place-fits, arith)
+pub overflow_add-at-in-loop-at : goal.overflow_add-at-in-loop-at
+overflow_add-at-in-loop-at c = search (place-fits, arith)
 
 pub loop-at-smaller : goal.loop-at-smaller
 loop-at-smaller c = search (adding-less, arith)
@@ -36,8 +36,8 @@ loop-at-smaller c = search (adding-less, arith)
 pub loop-at-preserved : goal.loop-at-preserved
 loop-at-preserved c = search (adding-goes, arith)
 
-pub returns-in-NoCount : goal.returns-in-NoCount
-returns-in-NoCount c = search (sum-bad, arith)
+pub returns-in_default : goal.returns-in_default
+returns-in_default c = search (sum-bad, arith)
 
 pub returns : goal.returns
 returns c = search (adding-ends, arith)

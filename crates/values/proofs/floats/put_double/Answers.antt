@@ -11,10 +11,10 @@ pub float_to_bits-b : goal.float_to_bits-b
 float_to_bits-b c = no_nan _ c.if-x.false
 
 pub returns-then-b-ge9218868437227405312 : goal.returns-then-b-ge9218868437227405312
-returns-then-b-ge9218868437227405312 c = float-inf binary64 8 _ _ c.if-b-ge9218868437227405312.true _ c.refused_writing-then-b-ge9218868437227405312.ensures
+returns-then-b-ge9218868437227405312 c = float-inf binary64 8 _ _ c.if-b-ge9218868437227405312.true
 
 pub returns-then-out-lt8 : goal.returns-then-out-lt8
-returns-then-out-lt8 c = float-full binary64 8 _ _ c.if-b-ge9218868437227405312.false c.if-out-lt8.true _ c.refused_writing-then-out-lt8.ensures
+returns-then-out-lt8 c = float-full binary64 8 _ _ c.if-b-ge9218868437227405312.false c.if-out-lt8.true
 
 pub returns : goal.returns
 returns c = float-done binary64 8 _ _ c.if-b-ge9218868437227405312.false c.if-out-lt8.false _ c.put.ensures

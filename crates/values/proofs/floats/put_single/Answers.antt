@@ -17,10 +17,10 @@ pub overflow_cast-b : goal.overflow_cast-b
 overflow_cast-b c = let h : T (fits binary32 c.args.x) = search rules in bits_fit _ h
 
 pub returns-then-b-ge2139095040 : goal.returns-then-b-ge2139095040
-returns-then-b-ge2139095040 c = float-inf binary32 4 _ _ c.if-b-ge2139095040.true _ c.refused_writing-then-b-ge2139095040.ensures
+returns-then-b-ge2139095040 c = float-inf binary32 4 _ _ c.if-b-ge2139095040.true
 
 pub returns-then-out-lt4 : goal.returns-then-out-lt4
-returns-then-out-lt4 c = float-full binary32 4 _ _ c.if-b-ge2139095040.false c.if-out-lt4.true _ c.refused_writing-then-out-lt4.ensures
+returns-then-out-lt4 c = float-full binary32 4 _ _ c.if-b-ge2139095040.false c.if-out-lt4.true
 
 pub returns : goal.returns
 returns c = float-done binary32 4 _ _ c.if-b-ge2139095040.false c.if-out-lt4.false _ c.put.ensures

@@ -5,8 +5,8 @@ use Rattle.writer.proofs.basic.put_basic.Goals as goal
 pub bounds-out-0 : goal.bounds-out-0
 bounds-out-0 c = search (brace-first, arith)
 
-pub put_letters-o-requires-clause-src_in_bounds : goal.put_letters-o-requires-clause-src_in_bounds
-put_letters-o-requires-clause-src_in_bounds c = search (brace-body, arith)
+pub put_letters-o-requires : goal.put_letters-o-requires
+put_letters-o-requires c = search (brace-body, arith)
 
 pub bounds-out-o : goal.bounds-out-o
 bounds-out-o c = search (brace-last, arith)

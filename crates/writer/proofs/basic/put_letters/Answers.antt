@@ -5,8 +5,8 @@ use Rattle.writer.proofs.basic.put_letters.Goals as goal
 pub loop-i-init : goal.loop-i-init
 loop-i-init c = search (letters-start, arith)
 
-pub put_group-o-requires-clause-in_bounds : goal.put_group-o-requires-clause-in_bounds
-put_group-o-requires-clause-in_bounds c = search (letters-room, arith)
+pub put_group-o-requires : goal.put_group-o-requires
+put_group-o-requires c = search (letters-room, arith)
 
 pub loop-i-preserved : goal.loop-i-preserved
 loop-i-preserved c = search (letters-on, arith)

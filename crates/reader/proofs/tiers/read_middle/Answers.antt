@@ -1,7 +1,0 @@
-use Rattle.reader.proofs.Entry.{small-spaced}
-use native.Mathlib.Omega.{arith}
-use borrow.Author.Rules.{rules}
-use Rattle.reader.proofs.tiers.read_middle.Goals as goal
-
-pub read_in-requires : goal.read_in-requires
-read_in-requires c = small-spaced _ _ _ _ 1024 (search rules) (omega arith) (search rules) (search rules) (search rules)

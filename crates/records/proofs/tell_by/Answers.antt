@@ -1,9 +1,0 @@
-use native.Mathlib.Omega.{arith}
-use Rattle.records.proofs.Tabling.{telling-none, telling-on}
-use Rattle.records.proofs.tell_by.Goals as goal
-
-pub loop-i-init : goal.loop-i-init
-loop-i-init c = search (telling-none, arith)
-
-pub loop-i-preserved : goal.loop-i-preserved
-loop-i-preserved c = telling-on _ _ _ _ _ _ c.loop-i.invariant c.loop-i-test.true _ c.record_by-z.ensures

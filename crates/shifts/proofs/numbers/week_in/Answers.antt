@@ -1,9 +1,0 @@
-use Rattle.shifts.proofs.Answered.{owned-known, owned-sum}
-use native.Mathlib.Omega.{arith}
-use Rattle.shifts.proofs.numbers.week_in.Goals as goal
-
-pub week_by-requires : goal.week_by-requires
-week_by-requires c = search (owned-known, arith)
-
-pub returns : goal.returns
-returns c = search (owned-sum, arith)
