@@ -1,14 +1,14 @@
 -- Strings with a hint and without one, at the front; three octets are written at most for each one read.
 use Prim.Native.Nat.{ℕ, ◌+◌, ◌*◌, ◌≤◌, ◌<◌}
 use native.Mathlib.Omega.{arith}
-use mathlib.Core.Path.{◌≡◌, refl, sym, ap, ◌∙◌}
+use mathlib.Core.Path.{◌≡◌, refl, sym, ap, ◌∙◌, subst}
 use mathlib.Core.List.{List, [], ◌∷◌, ◌++◌, append_assoc}
 use lib.ListN.{length, drop, get_or, length-append, length-drop, set, length-set, drop_of_length-le}
 use borrow.Author.Tests.{ne_eqb, eq-eqb}
 use Rattle.base.proofs.Cases.{unpicked, picked}
 use Rattle.model.specs.Grammar.{rules}
 use Rattle.model.specs.Lexemes.{atom, hinting, close_hint, lexeme}
-use Rattle.model.specs.Strings.{got, bind, skip, simple}
+use Rattle.model.specs.Strings.{got, refused, bind, skip, simple}
 use Rattle.model.specs.Tree.{digits, verbatim}
 use Rattle.model.proofs.Simples.{simple-sound}
 use Rattle.model.specs.Limits.{max_source}
@@ -22,8 +22,9 @@ use Rattle.scan.specs.Runs.{Skipped}
 use Rattle.scan.proofs.Places.{one-here}
 use Rattle.blocks.proofs.Laws.{front-one, front-both}
 use Rattle.sheets.specs.Strung.{plainly, hintedly}
+use Rattle.std.specs.Prelude.{Option, Some, None}
 use Rattle.advanced.specs.Spelled.{Room, Spelled, Spells}
-use Rattle.advanced.specs.Nodes.{Spare, hint_of, HintClosed, HintCloses, HintSpelled, HintSpells, Nodes}
+use Rattle.advanced.specs.Nodes.{Spare, hint_of, HintCloses, HintSpelled, HintSpells, Nodes}
 
 -- a string has no more octets than it takes up
 simple-fits : {s d k : List ℕ} → Stripped.Simple rules s d k → length d + length k ≤ length s
@@ -62,17 +63,22 @@ module _ (src : List ℕ) (at pos : ℕ) (out : List ℕ) (h : at < length src) 
     pub hint-room : Room src i (pos + 1) (length (set out pos 91))
     hint-room = record { inside = p.within; short = t.short; space = omega (arith, p.from, p.within, t.space, length-set out pos 91) }
 
-    module _ (out₁ : List ℕ) (e next : ℕ) (s : Spells src (simple rules (drop i src)) i (pos + 1) (set out pos 91) out₁ e next) where
+    module _ (out₁ : List ℕ) (e : ℕ) (r : Option ℕ) (s : Spells src (simple rules (drop i src)) i (pos + 1) (set out pos 91) out₁ e r) where
       hinted : hint_of (drop (at + 1) src) ≡ bind (simple rules (drop i src)) (λ x k. close_hint rules x (skip k))
       hinted = rw p.reads
 
-      pub hint-none : next ≡ 0 → (b : List ℕ) (q : ℕ) → HintSpells src at pos out b q 0
-      unfolding bind
-      hint-none z b q = record { none = λ _. hinted ∙ rw (s.none z); some = λ y. absurd (y refl) }
+      not-spelled : r ≡ None → simple rules (drop i src) ≡ refused
+      unfolding Spells
+      not-spelled z = subst (Spells src (simple rules (drop i src)) i (pos + 1) (set out pos 91) out₁ e) z s
 
-      module _ (z : next ≡ 0 → ⊥) where
+      pub hint-none : r ≡ None → (b : List ℕ) (q : ℕ) → HintSpells src at pos out b q None
+      unfolding HintSpells bind
+      hint-none z b q = hinted ∙ rw (not-spelled z)
+
+      module _ (next : ℕ) (z : r ≡ Some next) where
         got-it : Spelled src (simple rules (drop i src)) i (pos + 1) (set out pos 91) out₁ e next
-        got-it = s.some z
+        unfolding Spells
+        got-it = subst (Spells src (simple rules (drop i src)) i (pos + 1) (set out pos 91) out₁ e) z s
 
         pub hint-inside : next ≤ length src
         hint-inside = got-it.within
@@ -84,24 +90,21 @@ module _ (src : List ℕ) (at pos : ℕ) (out : List ℕ) (h : at < length src) 
         pub hint-last : e < length out₁
         hint-last = omega (arith, got-it.on, spelled-few src i (pos + 1) (set out pos 91) out₁ e next t.short got-it, got-it.within, p.from, t.space, length-set out pos 91, got-it.front.long)
 
-        pub hint-end : (out₂ : List ℕ) (q k : ℕ) → HintCloses src next e out₁ out₂ q k → HintSpells src at pos out out₂ q k
-        hint-end out₂ q k w =
+        pub hint-end : (out₂ : List ℕ) (q : ℕ) (k : Option ℕ) → HintCloses src next e out₁ out₂ q k → HintSpells src at pos out out₂ q k
+        unfolding HintCloses HintSpells
+        hint-end out₂ q None w = followed ∙ w got-it.octets
+        hint-end out₂ q (Some k) w =
             record {
-              none = λ y. followed ∙ w.none y got-it.octets;
-              some = λ y.
-                  let v : HintClosed src next e out₁ out₂ q k = w.some y in
-                  record {
-                    hint = got-it.octets;
-                    reads = followed ∙ v.reads got-it.octets;
-                    on = omega (arith, p.from, got-it.on, v.on);
-                    within = v.within;
-                    few = omega (arith, spelled-few src i (pos + 1) (set out pos 91) out₁ e next t.short got-it, v.on, v.front.place, p.from);
-                    low = omega (arith, spelled-low src i (pos + 1) (set out pos 91) out₁ e next got-it, v.on, v.front.place, p.from);
-                    small = spelled-small src i (pos + 1) (set out pos 91) out₁ e next t.short got-it;
-                    front =
-                        front-both (91 ∷ []) _ pos (pos + 1) q out (set out pos 91) out₂ (front-one out pos 91 hint-store)
-                        (front-both (verbatim got-it.octets) (93 ∷ []) (pos + 1) e q (set out pos 91) out₁ out₂ got-it.front v.front);
-                  };
+              hint = got-it.octets;
+              reads = followed ∙ w.reads got-it.octets;
+              on = omega (arith, p.from, got-it.on, w.on);
+              within = w.within;
+              few = omega (arith, spelled-few src i (pos + 1) (set out pos 91) out₁ e next t.short got-it, w.on, w.front.place, p.from);
+              low = omega (arith, spelled-low src i (pos + 1) (set out pos 91) out₁ e next got-it, w.on, w.front.place, p.from);
+              small = spelled-small src i (pos + 1) (set out pos 91) out₁ e next t.short got-it;
+              front =
+                  front-both (91 ∷ []) _ pos (pos + 1) q out (set out pos 91) out₂ (front-one out pos 91 hint-store)
+                  (front-both (verbatim got-it.octets) (93 ∷ []) (pos + 1) e q (set out pos 91) out₁ out₂ got-it.front w.front);
             }
 
 -- ---- its closing bracket
@@ -109,32 +112,28 @@ module _ (src : List ℕ) (at pos : ℕ) (out : List ℕ) (j : ℕ) (u : Skipped
   closing_at : (h : List ℕ) → close_hint rules h (skip (drop at src)) ≡ close_hint rules h (drop j src)
   closing_at h = ap (close_hint rules h) u.reads
 
-  pub close-cut : length src ≤ j → (b : List ℕ) (q : ℕ) → HintCloses src at pos out b q 0
-  unfolding close_hint
-  close-cut n b q = record { none = λ _ h. closing_at h ∙ ap (close_hint rules h) (drop_of_length-le src n); some = λ y. absurd (y refl) }
+  pub close-cut : length src ≤ j → (b : List ℕ) (q : ℕ) → HintCloses src at pos out b q None
+  unfolding HintCloses close_hint
+  close-cut n b q = λ h. closing_at h ∙ ap (close_hint rules h) (drop_of_length-le src n)
 
   module _ (n : j < length src) where
-    pub close_open : (get_or src j 0 ≡ 93 → ⊥) → (b : List ℕ) (q : ℕ) → HintCloses src at pos out b q 0
-    unfolding close_hint
-    close_open y b q = record { none = λ _ h. closing_at h ∙ ap (close_hint rules h) (one-here src j n) ∙ unpicked _ _ (ne_eqb _ _ y); some = λ y. absurd (y refl) }
+    pub close_open : (get_or src j 0 ≡ 93 → ⊥) → (b : List ℕ) (q : ℕ) → HintCloses src at pos out b q None
+    unfolding HintCloses close_hint
+    close_open y b q = λ h. closing_at h ∙ ap (close_hint rules h) (one-here src j n) ∙ unpicked _ _ (ne_eqb _ _ y)
 
-    pub close-some : get_or src j 0 ≡ 93 → pos < length out → (k : ℕ) → Skipped src (j + 1) k → HintCloses src at pos out (set out pos 93) (pos + 1) k
-    unfolding close_hint
+    pub close-some : get_or src j 0 ≡ 93 → pos < length out → (k : ℕ) → Skipped src (j + 1) k → HintCloses src at pos out (set out pos 93) (pos + 1) (Some k)
+    unfolding HintCloses close_hint
     close-some y m k v =
         record {
-          none = λ w. absurd (omega (arith, v.from));
-          some = λ _.
-              record {
-                reads = λ h. closing_at h ∙ ap (close_hint rules h) (one-here src j n) ∙ picked _ _ (eq-eqb _ _ y) ∙ rw v.reads;
-                on = omega (arith, u.from, v.from);
-                within = v.within;
-                front = front-one out pos 93 m;
-              };
+          reads = λ h. closing_at h ∙ ap (close_hint rules h) (one-here src j n) ∙ picked _ _ (eq-eqb _ _ y) ∙ rw v.reads;
+          on = omega (arith, u.from, v.from);
+          within = v.within;
+          front = front-one out pos 93 m;
         }
 
 -- ---- a string
 module _ (src : List ℕ) (at pos : ℕ) (out : List ℕ) (h : at < length src) (t : Spare src at pos (length out)) where
-  module _ (c : get_or src at 0 ≡ 91) (out₁ : List ℕ) (e from : ℕ) (s : HintSpells src at pos out out₁ e from) where
+  module _ (c : get_or src at 0 ≡ 91) (out₁ : List ℕ) (e : ℕ) (r : Option ℕ) (s : HintSpells src at pos out out₁ e r) where
     bracketed : lexeme rules (drop at src) ≡ hint_of (drop (at + 1) src)
     unfolding lexeme
     bracketed =
@@ -142,64 +141,62 @@ module _ (src : List ℕ) (at pos : ℕ) (out : List ℕ) (h : at < length src) 
         let b : get_or src at 0 ≡ 41 → ⊥ = λ z. omega (arith, z, c) in
         ap (lexeme rules) (one-here src at h) ∙ unpicked _ _ (ne_eqb _ _ a) ∙ unpicked _ _ (ne_eqb _ _ b) ∙ picked _ _ (eq-eqb _ _ c)
 
-    pub node-unhinted : from ≡ 0 → (d : List ℕ) (m q : ℕ) → Nodes src at pos out d m q 0
-    node-unhinted z d m q = record { none = λ _. bracketed ∙ s.none z; some = λ y. absurd (y refl) }
+    pub node-unhinted : r ≡ None → (d : List ℕ) (m q : ℕ) → Nodes src at pos out d m q None
+    unfolding HintSpells Nodes
+    node-unhinted z d m q =
+        let y : hint_of (drop (at + 1) src) ≡ refused = subst (HintSpells src at pos out out₁ e) z s in
+        bracketed ∙ y
 
-    module _ (z : from ≡ 0 → ⊥) where
+    module _ (from : ℕ) (z : r ≡ Some from) where
       hint-got : HintSpelled src at pos out out₁ e from
-      hint-got = s.some z
+      unfolding HintSpells
+      hint-got = subst (HintSpells src at pos out out₁ e) z s
 
       pub node-room : length out₁ ≡ length out → Room src from e (length out₁)
       node-room l = record { inside = hint-got.within; short = t.short; space = omega (arith, t.space, hint-got.few, hint-got.on, hint-got.within) }
 
-      pub node-hinted : (out₂ : List ℕ) (q next : ℕ) → Spells src (simple rules (drop from src)) from e out₁ out₂ q next → Nodes src at pos out out₂ e q next
-      unfolding bind step octets_of_lexeme
-      node-hinted out₂ q next w =
+      pub node-hinted : (out₂ : List ℕ) (q : ℕ) (k : Option ℕ) → Spells src (simple rules (drop from src)) from e out₁ out₂ q k → Nodes src at pos out out₂ e q k
+      unfolding Spells Nodes bind step octets_of_lexeme
+      node-hinted out₂ q None w = bracketed ∙ hint-got.reads ∙ rw w
+      node-hinted out₂ q (Some next) w =
+          let v : Spelled src (simple rules (drop from src)) from e out₁ out₂ q next = w in
+          let g : List ℕ = hint-got.hint in
+          let y : (91 ∷ (verbatim g ++ (93 ∷ []))) ++ verbatim v.octets ≡ 91 ∷ (verbatim g ++ (93 ∷ verbatim v.octets)) = ap (λ (x : List ℕ). 91 ∷ x) (append_assoc (verbatim g) (93 ∷ []) (verbatim v.octets)) in
           record {
-            none = λ y. bracketed ∙ hint-got.reads ∙ rw (w.none y);
-            some = λ y.
-                let v : Spelled src (simple rules (drop from src)) from e out₁ out₂ q next = w.some y in
-                let g : List ℕ = hint-got.hint in
-                let r : (91 ∷ (verbatim g ++ (93 ∷ []))) ++ verbatim v.octets ≡ 91 ∷ (verbatim g ++ (93 ∷ verbatim v.octets)) = ap (λ (x : List ℕ). 91 ∷ x) (append_assoc (verbatim g) (93 ∷ []) (verbatim v.octets)) in
-                record {
-                  is = hinting g v.octets;
-                  reads = bracketed ∙ hint-got.reads ∙ rw v.reads;
-                  string = λ o d n. refl;
-                  on = omega (arith, hint-got.on, v.on);
-                  within = v.within;
-                  few = omega (arith, spelled-few src from e out₁ out₂ q next t.short v, hint-got.few);
-                  low = omega (arith, spelled-low src from e out₁ out₂ q next v, hint-got.low);
-                  strung = hintedly g v.octets (pos + 1 + length (verbatim g)) refl
-                      (omega (arith, hint-got.front.place, length-append (verbatim g) (93 ∷ [])))
-                      (record { long = refl; few = hint-got.small })
-                      (record { long = v.front.place; few = spelled-small src from e out₁ out₂ q next t.short v });
-                  front = rw r at (front-both (91 ∷ (verbatim g ++ (93 ∷ []))) (verbatim v.octets) pos e q out out₁ out₂ hint-got.front v.front);
-                };
+            is = hinting g v.octets;
+            reads = bracketed ∙ hint-got.reads ∙ rw v.reads;
+            string = λ o d n. refl;
+            on = omega (arith, hint-got.on, v.on);
+            within = v.within;
+            few = omega (arith, spelled-few src from e out₁ out₂ q next t.short v, hint-got.few);
+            low = omega (arith, spelled-low src from e out₁ out₂ q next v, hint-got.low);
+            strung = hintedly g v.octets (pos + 1 + length (verbatim g)) refl
+                (omega (arith, hint-got.front.place, length-append (verbatim g) (93 ∷ [])))
+                (record { long = refl; few = hint-got.small })
+                (record { long = v.front.place; few = spelled-small src from e out₁ out₂ q next t.short v });
+            front = rw y at (front-both (91 ∷ (verbatim g ++ (93 ∷ []))) (verbatim v.octets) pos e q out out₁ out₂ hint-got.front v.front);
           }
 
-  module _ (a : get_or src at 0 ≡ 40 → ⊥) (b : get_or src at 0 ≡ 41 → ⊥) (c : get_or src at 0 ≡ 91 → ⊥) (out₁ : List ℕ) (q next : ℕ) (w : Spells src (simple rules (drop at src)) at pos out out₁ q next) where
+  module _ (a : get_or src at 0 ≡ 40 → ⊥) (b : get_or src at 0 ≡ 41 → ⊥) (c : get_or src at 0 ≡ 91 → ⊥) (out₁ : List ℕ) (q : ℕ) where
     plain : lexeme rules (drop at src) ≡ bind (simple rules (drop at src)) (λ d k. got (atom d) k)
     unfolding lexeme
     plain =
         ap (lexeme rules) (one-here src at h) ∙ unpicked _ _ (ne_eqb _ _ a) ∙ unpicked _ _ (ne_eqb _ _ b) ∙ unpicked _ _ (ne_eqb _ _ c)
         ∙ ap (λ (s : List ℕ). bind (simple rules s) (λ d k. got (atom d) k)) (sym (one-here src at h))
 
-    pub node-plain : Nodes src at pos out out₁ 0 q next
-    unfolding bind step octets_of_lexeme
-    node-plain =
+    pub node-plain : (r : Option ℕ) → Spells src (simple rules (drop at src)) at pos out out₁ q r → Nodes src at pos out out₁ 0 q r
+    unfolding Spells Nodes bind step octets_of_lexeme
+    node-plain None w = plain ∙ rw w
+    node-plain (Some next) w =
+        let v : Spelled src (simple rules (drop at src)) at pos out out₁ q next = w in
         record {
-          none = λ y. plain ∙ rw (w.none y);
-          some = λ y.
-              let v : Spelled src (simple rules (drop at src)) at pos out out₁ q next = w.some y in
-              record {
-                is = atom v.octets;
-                reads = plain ∙ rw v.reads;
-                string = λ o d n. refl;
-                on = v.on;
-                within = v.within;
-                few = omega (arith, spelled-few src at pos out out₁ q next t.short v);
-                low = spelled-low src at pos out out₁ q next v;
-                strung = plainly v.octets refl refl (record { long = v.front.place; few = spelled-small src at pos out out₁ q next t.short v });
-                front = v.front;
-              };
+          is = atom v.octets;
+          reads = plain ∙ rw v.reads;
+          string = λ o d n. refl;
+          on = v.on;
+          within = v.within;
+          few = omega (arith, spelled-few src at pos out out₁ q next t.short v);
+          low = spelled-low src at pos out out₁ q next v;
+          strung = plainly v.octets refl refl (record { long = v.front.place; few = spelled-small src at pos out out₁ q next t.short v });
+          front = v.front;
         }

@@ -17,7 +17,8 @@ use Rattle.model.specs.Grammar.{rules}
 use Rattle.model.specs.Decode.{lexeme_in, lexemes, decode₃}
 use Rattle.model.specs.Lexemes.{Lexeme, opening, closing, lexeme, before}
 use Rattle.model.specs.Limits.{max_source, max_canonical, max_depth}
-use Rattle.model.specs.Strings.{got}
+use Rattle.std.specs.Prelude.{Option as Optional, Some, None}
+use Rattle.model.specs.Strings.{got, refused}
 use Rattle.model.specs.Tree.{Tree, depth}
 use Rattle.model.proofs.Braces.{unbrace-test}
 use Rattle.model.proofs.Held.{lexeme-in-other}
@@ -143,17 +144,22 @@ module _ (β : Bool) (src out₀ notes₀ out starts node_nos notes : List ℕ) 
   pub node-spare : Spare src i r (length out)
   node-spare = record { inside = omega arith; short = w.lent.short; space = rw w.long (enough (length src) (length out₀) i r w.lent.enough (omega arith) goes.low (omega (arith, goes.less, w.few, p.from))) }
 
-  module _ (γ : Bool) (held : γ ≡ both β (eqb (get_or src i 0) 123)) (not : γ ≡ false) (out₁ : List ℕ) (mid end next : ℕ) (s : Nodes src i r out out₁ mid end next) where
+  module _ (γ : Bool) (held : γ ≡ both β (eqb (get_or src i 0) 123)) (not : γ ≡ false) (out₁ : List ℕ) (mid end : ℕ) (v : Optional ℕ) (s : Nodes src i r out out₁ mid end v) where
     as-lexeme : lexeme_in rules β (drop i src) ≡ lexeme rules (drop i src)
     as-lexeme = ap (lexeme_in rules β) (one-here src i h) ∙ lexeme-in-other rules β _ _ (sym held ∙ not) ∙ ap (lexeme rules) (sym (one-here src i h))
 
-    pub node-none : next ≡ 0 → (b : List ℕ) → Converts β (decode₃ rules β src) b notes₀ notes (Refused 0)
-    unfolding chain
-    node-none z b = refusal β src b notes₀ notes (w.same ∙ ap (λ (v : Option (List Lexeme)). walking v (count o d n)) (place_none β src at i p.reads h (as-lexeme ∙ s.none z)))
+    not-string : v ≡ None → lexeme rules (drop i src) ≡ refused
+    unfolding Nodes
+    not-string z = subst (Nodes src i r out out₁ mid end) z s
 
-    module _ (z : next ≡ 0 → ⊥) where
+    pub node-none : v ≡ None → (b : List ℕ) → Converts β (decode₃ rules β src) b notes₀ notes (Refused 0)
+    unfolding chain
+    node-none z b = refusal β src b notes₀ notes (w.same ∙ ap (λ (v : Option (List Lexeme)). walking v (count o d n)) (place_none β src at i p.reads h (as-lexeme ∙ not-string z)))
+
+    module _ (next : ℕ) (z : v ≡ Some next) where
       it : Node src i r out out₁ mid end next
-      it = s.some z
+      unfolding Nodes
+      it = subst (Nodes src i r out out₁ mid end) z s
 
       pub node-from : r ≤ end
       node-from = omega (arith, it.front.place)

@@ -1,7 +1,7 @@
 -- Simple strings at the front.
 use Prim.Native.Nat.{ℕ, ◌+◌, ◌-◌, ◌≤◌, ◌<◌}
 use native.Mathlib.Omega.{arith}
-use mathlib.Core.Path.{◌≡◌, refl, sym, ap, ◌∙◌, subst}
+use mathlib.Core.Path.{◌≡◌, sym, ap, ◌∙◌, subst}
 use mathlib.Core.List.{List, []}
 use lib.ListN.{length, take, drop, get_or, length-drop}
 use lib.Seq.{length-take-le}
@@ -20,47 +20,47 @@ use Rattle.scan.specs.Writes.{Wrote}
 use Rattle.scan.proofs.Places.{one-here}
 use Rattle.decimal.specs.Numbers.{Valued, Numbered}
 use Rattle.decimal.specs.declared.Number.{Number}
-use Rattle.std.specs.Prelude.{Option, Some, None}
+use Rattle.std.specs.Prelude.{Option, Some, None, IfSome}
 use Rattle.quoted.specs.Pieces.{Unescaped}
 use Rattle.advanced.proofs.Found as Found
 use Rattle.blocks.specs.Fronts.{Front}
 use Rattle.blocks.proofs.Laws.{front-wrote, front-framed}
 use Rattle.blocks.proofs.Lengths.{few-digits}
 use Rattle.marks.specs.Decoded.{Spacious, Decoded, Decodes}
-use Rattle.advanced.specs.Spelled.{Room, Spelled, Spells}
+use Rattle.advanced.specs.Spelled.{Room, Spells}
 
 -- ---- between marks
-module _ (src : List ℕ) (at pos : ℕ) (a b : List ℕ) (n next : ℕ) where
-  from-mark : (x y : Read (List ℕ)) → y ≡ x → Decodes src x (at + 1) pos a b n next → Decodes src y at pos a b n next
-  from-mark x y e d =
-      record {
-        none = λ z. e ∙ d.none z;
-        some = λ z. let w : Decoded src x (at + 1) pos a b n next = d.some z in record { octets = w.octets; reads = e ∙ w.reads; on = omega (arith, w.on); within = w.within; front = w.front };
-      }
+from-mark : (src : List ℕ) (at pos : ℕ) (a b : List ℕ) (n : ℕ) (r : Option ℕ) (x y : Read (List ℕ)) → y ≡ x → Decodes src x (at + 1) pos a b n r → Decodes src y at pos a b n r
+unfolding Decodes
+from-mark src at pos a b n None x y e d = e ∙ d
+from-mark src at pos a b n (Some next) x y e d = record { octets = d.octets; reads = e ∙ d.reads; on = omega (arith, d.on); within = d.within; front = d.front }
 
-  pub decode-quoted : get_or src at 0 ≡ 34 → Decodes src (marked rules 34 (drop (at + 1) src)) (at + 1) pos a b n next → Decodes src (marked rules (get_or src at 0) (drop (at + 1) src)) at pos a b n next
-  decode-quoted e d = from-mark _ _ (rw e) d
+module _ (src : List ℕ) (at pos : ℕ) (a b : List ℕ) (n : ℕ) (r : Option ℕ) where
+  pub decode-quoted : get_or src at 0 ≡ 34 → Decodes src (marked rules 34 (drop (at + 1) src)) (at + 1) pos a b n r → Decodes src (marked rules (get_or src at 0) (drop (at + 1) src)) at pos a b n r
+  decode-quoted e d = from-mark src at pos a b n r _ _ (rw e) d
 
-  pub decode-hex : get_or src at 0 ≡ 35 → Decodes src (marked rules 35 (drop (at + 1) src)) (at + 1) pos a b n next → Decodes src (marked rules (get_or src at 0) (drop (at + 1) src)) at pos a b n next
-  decode-hex e d = from-mark _ _ (rw e) d
+  pub decode-hex : get_or src at 0 ≡ 35 → Decodes src (marked rules 35 (drop (at + 1) src)) (at + 1) pos a b n r → Decodes src (marked rules (get_or src at 0) (drop (at + 1) src)) at pos a b n r
+  decode-hex e d = from-mark src at pos a b n r _ _ (rw e) d
 
-  pub decode-base : get_or src at 0 ≡ 124 → Decodes src (between 124 (unbase rules) [] (drop (at + 1) src)) (at + 1) pos a b n next → Decodes src (marked rules (get_or src at 0) (drop (at + 1) src)) at pos a b n next
+  pub decode-base : get_or src at 0 ≡ 124 → Decodes src (between 124 (unbase rules) [] (drop (at + 1) src)) (at + 1) pos a b n r → Decodes src (marked rules (get_or src at 0) (drop (at + 1) src)) at pos a b n r
   unfolding marked
-  decode-base e d = from-mark _ _ (rw e) d
+  decode-base e d = from-mark src at pos a b n r _ _ (rw e) d
 
-pub decode-none : (src : List ℕ) (at pos : ℕ) (a b : List ℕ) (n : ℕ) → (get_or src at 0 ≡ 34 → ⊥) → (get_or src at 0 ≡ 35 → ⊥) → (get_or src at 0 ≡ 124 → ⊥) → Decodes src (marked rules (get_or src at 0) (drop (at + 1) src)) at pos a b n 0
-decode-none src at pos a b n p q r = record { none = λ _. Found.marked-none src at p q r; some = λ z. absurd (z refl) }
+pub decode-none : (src : List ℕ) (at pos : ℕ) (a b : List ℕ) (n : ℕ) → (get_or src at 0 ≡ 34 → ⊥) → (get_or src at 0 ≡ 35 → ⊥) → (get_or src at 0 ≡ 124 → ⊥) → Decodes src (marked rules (get_or src at 0) (drop (at + 1) src)) at pos a b n None
+unfolding Decodes
+decode-none src at pos a b n p q r = Found.marked-none src at p q r
 
 -- ---- framed by its length
 module _ (src : List ℕ) (at pos : ℕ) (out : List ℕ) (h : at < length src) (r : Room src at pos (length out)) where
   pub room-spacious : Spacious src (at + 1) (pos + 3) (length out)
   room-spacious = record { inside = omega arith; space = omega (arith, r.space) }
 
-module _ (src : List ℕ) (at pos : ℕ) (out out₁ : List ℕ) (n next : ℕ) (h : at < length src) (r : Room src at pos (length out))
-    (d : Decodes src (marked rules (get_or src at 0) (drop (at + 1) src)) at (pos + 3) out out₁ n next) where
-  module _ (z : next ≡ 0 → ⊥) where
+module _ (src : List ℕ) (at pos : ℕ) (out out₁ : List ℕ) (n : ℕ) (x : Option ℕ) (h : at < length src) (r : Room src at pos (length out))
+    (d : Decodes src (marked rules (get_or src at 0) (drop (at + 1) src)) at (pos + 3) out out₁ n x) where
+  module _ (next : ℕ) (z : x ≡ Some next) where
     decoded : Decoded src (marked rules (get_or src at 0) (drop (at + 1) src)) at (pos + 3) out out₁ n next
-    decoded = d.some z
+    unfolding Decodes
+    decoded = subst (Decodes src (marked rules (get_or src at 0) (drop (at + 1) src)) at (pos + 3) out out₁ n) z d
 
     counted : n ≡ length decoded.octets
     counted = let w : pos + 3 + n ≡ pos + 3 + length decoded.octets = decoded.front.place in omega arith
@@ -84,66 +84,75 @@ module _ (src : List ℕ) (at pos : ℕ) (out out₁ : List ℕ) (n next : ℕ) 
       front : Front (verbatim decoded.octets) pos out out₂ e
       front = front-framed decoded.octets pos n out out₁ out₂ (pos + 3 + n) e decoded.front counted (front-wrote _ pos e out₁ out₂ w (omega (arith, wide, frame-room)))
 
-      pub framed-some : Spells src (marked rules (get_or src at 0) (drop (at + 1) src)) at pos out out₂ e next
-      framed-some = record { none = λ y. absurd (z y); some = λ _. record { octets = decoded.octets; reads = decoded.reads; on = decoded.on; within = decoded.within; front = front } }
+      pub framed-some : Spells src (marked rules (get_or src at 0) (drop (at + 1) src)) at pos out out₂ e (Some next)
+      unfolding Spells
+      framed-some = record { octets = decoded.octets; reads = decoded.reads; on = decoded.on; within = decoded.within; front = front }
 
       -- with the length that stood before it
-      pub sized-some : (k : ℕ) → (get_or src at 0 ≡ 58 → ⊥) → n ≡ k → Spells src (after_number rules k (drop at src)) at pos out out₂ e next
-      unfolding after_number bind sized
+      pub sized-some : (k : ℕ) → (get_or src at 0 ≡ 58 → ⊥) → n ≡ k → Spells src (after_number rules k (drop at src)) at pos out out₂ e (Some next)
+      unfolding Spells after_number bind sized
       sized-some k c q =
           record {
-            none = λ y. absurd (z y);
-            some = λ _.
-                record {
-                  octets = decoded.octets;
-                  reads = ap (after_number rules k) (one-here src at h) ∙ unpicked _ _ (ne_eqb _ _ c) ∙ rw decoded.reads (picked _ _ (eq-eqb _ _ (sym counted ∙ q)));
-                  on = decoded.on;
-                  within = decoded.within;
-                  front = front;
-                };
+            octets = decoded.octets;
+            reads = ap (after_number rules k) (one-here src at h) ∙ unpicked _ _ (ne_eqb _ _ c) ∙ rw decoded.reads (picked _ _ (eq-eqb _ _ (sym counted ∙ q)));
+            on = decoded.on;
+            within = decoded.within;
+            front = front;
           }
 
-    pub sized-other : (k : ℕ) → (get_or src at 0 ≡ 58 → ⊥) → (n ≡ k → ⊥) → (b : List ℕ) (e : ℕ) → Spells src (after_number rules k (drop at src)) at pos out b e 0
-    unfolding after_number bind sized
+    pub sized-other : (k : ℕ) → (get_or src at 0 ≡ 58 → ⊥) → (n ≡ k → ⊥) → (b : List ℕ) (e : ℕ) → Spells src (after_number rules k (drop at src)) at pos out b e None
+    unfolding Spells after_number bind sized
     sized-other k c q b e =
-        record {
-          none = λ _. ap (after_number rules k) (one-here src at h) ∙ unpicked _ _ (ne_eqb _ _ c) ∙ rw decoded.reads (unpicked _ _ (ne_eqb _ _ (λ y. q (counted ∙ y))));
-          some = λ y. absurd (y refl);
-        }
+        ap (after_number rules k) (one-here src at h) ∙ unpicked _ _ (ne_eqb _ _ c) ∙ rw decoded.reads (unpicked _ _ (ne_eqb _ _ (λ y. q (counted ∙ y))))
 
-  module _ (z : next ≡ 0) (b : List ℕ) (e : ℕ) where
-    pub framed-none : Spells src (marked rules (get_or src at 0) (drop (at + 1) src)) at pos out b e 0
-    framed-none = record { none = λ _. d.none z; some = λ y. absurd (y refl) }
+  module _ (z : x ≡ None) (b : List ℕ) (e : ℕ) where
+    undecoded : marked rules (get_or src at 0) (drop (at + 1) src) ≡ refused
+    unfolding Decodes
+    undecoded = subst (Decodes src (marked rules (get_or src at 0) (drop (at + 1) src)) at (pos + 3) out out₁ n) z d
 
-    pub sized-none : (k : ℕ) → (get_or src at 0 ≡ 58 → ⊥) → Spells src (after_number rules k (drop at src)) at pos out b e 0
-    unfolding after_number bind
-    sized-none k c = record { none = λ _. ap (after_number rules k) (one-here src at h) ∙ unpicked _ _ (ne_eqb _ _ c) ∙ rw (d.none z); some = λ y. absurd (y refl) }
+    pub framed-none : Spells src (marked rules (get_or src at 0) (drop (at + 1) src)) at pos out b e None
+    unfolding Spells
+    framed-none = undecoded
+
+    pub sized-none : (k : ℕ) → (get_or src at 0 ≡ 58 → ⊥) → Spells src (after_number rules k (drop at src)) at pos out b e None
+    unfolding Spells after_number bind
+    sized-none k c = ap (after_number rules k) (one-here src at h) ∙ unpicked _ _ (ne_eqb _ _ c) ∙ rw undecoded
 
 -- ---- octets that stand in the source
-unread : (src : List ℕ) (x : Read (List ℕ)) (at pos : ℕ) (out b : List ℕ) (e : ℕ) → x ≡ refused → Spells src x at pos out b e 0
-unread src x at pos out b e t = record { none = λ _. t; some = λ y. absurd (y refl) }
+unread : (src : List ℕ) (x : Read (List ℕ)) (at pos : ℕ) (out b : List ℕ) (e : ℕ) → x ≡ refused → Spells src x at pos out b e None
+unfolding Spells
+unread src x at pos out b e t = t
 
-standing : (src : List ℕ) (x : Read (List ℕ)) (at pos : ℕ) (out out₁ : List ℕ) (len body next e : ℕ) → x ≡ got (take len (drop body src)) (drop next src) → at < next → next ≤ length src → Front (verbatim (take len (drop body src))) pos out out₁ e → Spells src x at pos out out₁ e next
-standing src x at pos out out₁ len body next e t h k f =
-    record { none = λ y. absurd (omega arith); some = λ _. record { octets = take len (drop body src); reads = t; on = h; within = k; front = f } }
+standing : (src : List ℕ) (x : Read (List ℕ)) (at pos : ℕ) (out out₁ : List ℕ) (len body next e : ℕ) → x ≡ got (take len (drop body src)) (drop next src) → at < next → next ≤ length src → Front (verbatim (take len (drop body src))) pos out out₁ e → Spells src x at pos out out₁ e (Some next)
+unfolding Spells
+standing src x at pos out out₁ len body next e t h k f = record { octets = take len (drop body src); reads = t; on = h; within = k; front = f }
 
 -- ---- a quoted string in which nothing is escaped
-module _ (src : List ℕ) (at pos : ℕ) (out : List ℕ) (e : get_or src at 0 ≡ 34) (stop : ℕ) (u : Unescaped src (at + 1) stop) (h : at + 2 ≤ stop) where
-  pub quoted-whole : (b : List ℕ) (q : ℕ) → Front (verbatim (take (stop - at - 2) (drop (at + 1) src))) pos out b q → Spells src (marked rules (get_or src at 0) (drop (at + 1) src)) at pos out b q stop
+module _ (src : List ℕ) (at pos : ℕ) (out : List ℕ) (e : get_or src at 0 ≡ 34) (r : Option ℕ) (u : IfSome r (Unescaped src (at + 1))) (stop : ℕ) (z : r ≡ Some stop) where
+  quoted-plain : Unescaped src (at + 1) stop
+  quoted-plain = subst (λ (x : Option ℕ). IfSome x (Unescaped src (at + 1))) z u
+
+  pub quoted-few : at + 2 ≤ stop
+  quoted-few = omega (arith, quoted-plain.on)
+
+  pub quoted-within : stop ≤ length src
+  quoted-within = quoted-plain.within
+
+  pub quoted-whole : (b : List ℕ) (q : ℕ) → Front (verbatim (take (stop - at - 2) (drop (at + 1) src))) pos out b q → Spells src (marked rules (get_or src at 0) (drop (at + 1) src)) at pos out b q (Some stop)
   quoted-whole b q f =
-      let z : stop - (at + 1) - 1 ≡ stop - at - 2 = omega arith in
-      standing src _ at pos out b (stop - at - 2) (at + 1) stop q (rw (e, ← z) (u.is (omega arith))) (omega arith) u.within f
+      let y : stop - (at + 1) - 1 ≡ stop - at - 2 = omega arith in
+      standing src _ at pos out b (stop - at - 2) (at + 1) stop q (rw (e, ← y) quoted-plain.is) (omega (arith, quoted-plain.on)) quoted-plain.within f
 
 -- ---- after a number
 module _ (src : List ℕ) (at n pos : ℕ) (out : List ℕ) where
-  pub after-cut : length src ≤ at → (b : List ℕ) (e : ℕ) → Spells src (after_number rules n (drop at src)) at pos out b e 0
+  pub after-cut : length src ≤ at → (b : List ℕ) (e : ℕ) → Spells src (after_number rules n (drop at src)) at pos out b e None
   after-cut h b e = unread src _ at pos out b e (Found.after-end src at n h)
 
   module _ (h : at < length src) (z : get_or src at 0 ≡ 58) where
-    pub after-few : length src - (at + 1) < n → (b : List ℕ) (e : ℕ) → Spells src (after_number rules n (drop at src)) at pos out b e 0
+    pub after-few : length src - (at + 1) < n → (b : List ℕ) (e : ℕ) → Spells src (after_number rules n (drop at src)) at pos out b e None
     after-few k b e = unread src _ at pos out b e (Found.after-short src at n h z k)
 
-    pub after-colon : n ≤ length src - (at + 1) → (b : List ℕ) (e : ℕ) → Front (verbatim (take n (drop (at + 1) src))) pos out b e → Spells src (after_number rules n (drop at src)) at pos out b e (at + 1 + n)
+    pub after-colon : n ≤ length src - (at + 1) → (b : List ℕ) (e : ℕ) → Front (verbatim (take n (drop (at + 1) src))) pos out b e → Spells src (after_number rules n (drop at src)) at pos out b e (Some (at + 1 + n))
     after-colon k b e f = standing src _ at pos out b n (at + 1) (at + 1 + n) e (Found.after-verbatim src at n h z k) (omega arith) (omega arith) f
 
 -- ---- a string that begins with a number
@@ -154,38 +163,34 @@ module _ (src : List ℕ) (at : ℕ) (y : Read ℕ) (r : Option Number) (w : Num
       let t : Valued src y at d.value d.next = subst (Numbered src y at) e w in
       record { inside = t.within; short = m.short; space = omega (arith, t.from, m.space) }
 
-  pub number-on : (d : Number) → r ≡ Some d → (b : List ℕ) (e q : ℕ) → Spells src (after_number rules d.value (drop d.next src)) d.next pos out b e q → Spells src (bind y (after_number rules)) at pos out b e q
-  unfolding Numbered bind
-  number-on d z b e q s =
+  pub number-on : (d : Number) → r ≡ Some d → (b : List ℕ) (e : ℕ) (q : Option ℕ) → Spells src (after_number rules d.value (drop d.next src)) d.next pos out b e q → Spells src (bind y (after_number rules)) at pos out b e q
+  unfolding Numbered Spells bind
+  number-on d z b e None s = let t : Valued src y at d.value d.next = subst (Numbered src y at) z w in rw t.reads s
+  number-on d z b e (Some q) s =
       let t : Valued src y at d.value d.next = subst (Numbered src y at) z w in
-      record {
-        none = λ k. rw t.reads (s.none k);
-        some = λ k.
-            let p : Spelled src (after_number rules d.value (drop d.next src)) d.next pos out b e q = s.some k in
-            record { octets = p.octets; reads = rw t.reads p.reads; on = omega (arith, p.on, t.from); within = p.within; front = p.front };
-      }
+      record { octets = s.octets; reads = rw t.reads s.reads; on = omega (arith, s.on, t.from); within = s.within; front = s.front }
 
-  pub number-huge : r ≡ None → (b : List ℕ) (e : ℕ) → Spells src (bind y (after_number rules)) at pos out b e 0
+  pub number-huge : r ≡ None → (b : List ℕ) (e : ℕ) → Spells src (bind y (after_number rules)) at pos out b e None
   number-huge z b e = unread src _ at pos out b e (Found.counted-huge src at y (subst (Numbered src y at) z w))
 
 -- ---- any
-same-spells : (src : List ℕ) (x y : Read (List ℕ)) (at pos : ℕ) (a b : List ℕ) (e next : ℕ) → y ≡ x → Spells src x at pos a b e next → Spells src y at pos a b e next
+same-spells : (src : List ℕ) (x y : Read (List ℕ)) (at pos : ℕ) (a b : List ℕ) (e : ℕ) (next : Option ℕ) → y ≡ x → Spells src x at pos a b e next → Spells src y at pos a b e next
 same-spells src x y at pos a b e next q s = rw q s
 
 module _ (src : List ℕ) (at pos : ℕ) (out : List ℕ) where
-  pub simple-cut : length src ≤ at → (b : List ℕ) (e : ℕ) → Spells src (simple rules (drop at src)) at pos out b e 0
+  pub simple-cut : length src ≤ at → (b : List ℕ) (e : ℕ) → Spells src (simple rules (drop at src)) at pos out b e None
   simple-cut h b e = unread src _ at pos out b e (Found.simple-end src at h)
 
   module _ (h : at < length src) (c : ℕ) (k : Class (get_or src at 0) c) (b : List ℕ) (e : ℕ) where
-    pub simple-framed : c < 14 → (next : ℕ) → Spells src (marked rules (get_or src at 0) (drop (at + 1) src)) at pos out b e next → Spells src (simple rules (drop at src)) at pos out b e next
+    pub simple-framed : c < 14 → (next : Option ℕ) → Spells src (marked rules (get_or src at 0) (drop (at + 1) src)) at pos out b e next → Spells src (simple rules (drop at src)) at pos out b e next
     unfolding simple
     simple-framed l next s =
         same-spells src _ _ at pos out b e next
         (ap (simple rules) (one-here src at h) ∙ unpicked _ _ (k.digit ∙ lt-leb 18 c (omega arith)) ∙ unpicked _ _ (k.token_start ∙ among-low 14 17 c l)) s
 
-    pub simple-counted : 17 < c → (next : ℕ) → Spells src (bind (decimal (get_or src at 0) (drop (at + 1) src)) (after_number rules)) at pos out b e next → Spells src (simple rules (drop at src)) at pos out b e next
+    pub simple-counted : 17 < c → (next : Option ℕ) → Spells src (bind (decimal (get_or src at 0) (drop (at + 1) src)) (after_number rules)) at pos out b e next → Spells src (simple rules (drop at src)) at pos out b e next
     unfolding simple
     simple-counted l next s = same-spells src _ _ at pos out b e next (ap (simple rules) (one-here src at h) ∙ picked _ _ (Found.digit-here src at h c k l)) s
 
-    pub simple-token : 14 ≤ c → c ≤ 17 → (stop : ℕ) → Ran src (at + 1) stop → Front (verbatim (take (stop - at) (drop at src))) pos out b e → Spells src (simple rules (drop at src)) at pos out b e stop
+    pub simple-token : 14 ≤ c → c ≤ 17 → (stop : ℕ) → Ran src (at + 1) stop → Front (verbatim (take (stop - at) (drop at src))) pos out b e → Spells src (simple rules (drop at src)) at pos out b e (Some stop)
     simple-token p q stop r f = standing src _ at pos out b (stop - at) at stop e (Found.token-here src at h c k stop p q r) (omega (arith, r.from)) r.within f

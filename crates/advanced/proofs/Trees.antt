@@ -28,7 +28,7 @@ use Rattle.walk.specs.Extent.{Wholly, Measures}
 use Rattle.walk.specs.Extent.{Measured}
 use Rattle.walk.specs.declared.Extent.{Extent}
 use Rattle.walk.specs.declared.Broken.{Broken}
-use Rattle.std.specs.Prelude.{Ok, Err, Some, None}
+use Rattle.std.specs.Prelude.{Ok, Err, Option, Some, None}
 use Rattle.blocks.specs.Fronts.{Front}
 use Rattle.marks.specs.Decoded.{Spacious, Decoded, Decodes}
 use Rattle.sheets.specs.Notes.{Noted}
@@ -65,14 +65,17 @@ module _ (src out : List ℕ) (at pos : ℕ) (g : (at < length src) × Spare src
   pub tree-space : Spacious src (at + 1) pos (length out)
   tree-space = record { inside = omega (arith, g.0); space = omega (arith, g.0, g.1.space) }
 
-  module _ (out' : List ℕ) (n next : ℕ) (w : Decodes src (between 125 (unbase rules) [] (drop (at + 1) src)) (at + 1) pos out out' n next) where
-    pub tree-none : next ≡ 0 → Holds src at pos out out' None
-    unfolding Holds braces bind
-    tree-none z = ap (λ (x : Read (List ℕ)). bind x canonical_of) (w.none z)
+  module _ (out' : List ℕ) (n : ℕ) (x : Option ℕ) (w : Decodes src (between 125 (unbase rules) [] (drop (at + 1) src)) (at + 1) pos out out' n x) where
+    pub tree-none : x ≡ None → Holds src at pos out out' None
+    unfolding Decodes Holds braces bind
+    tree-none z =
+        let y : between 125 (unbase rules) [] (drop (at + 1) src) ≡ refused = subst (Decodes src (between 125 (unbase rules) [] (drop (at + 1) src)) (at + 1) pos out out' n) z w in
+        ap (λ (v : Read (List ℕ)). bind v canonical_of) y
 
-    module _ (m : next ≡ 0 → ⊥) where
+    module _ (next : ℕ) (m : x ≡ Some next) where
       told : Decoded src (between 125 (unbase rules) [] (drop (at + 1) src)) (at + 1) pos out out' n next
-      told = w.some m
+      unfolding Decodes
+      told = subst (Decodes src (between 125 (unbase rules) [] (drop (at + 1) src)) (at + 1) pos out out' n) m w
 
       many : n ≡ length told.octets
       many = omega (arith, told.front.place)

@@ -23,9 +23,6 @@ pub record TreeAt (src : List ℕ) (at pos : ℕ) (before after : List ℕ) (nex
 abbrev pub Held : ℕ → ℕ → ℕ → ℕ → Option Inside
 Held next len count deep = Some (record { next = next; sizes = extent len count deep })
 
-abbrev pub NoTree : Option Inside
-NoTree = None
-
 unfoldable pub Holds : List ℕ → ℕ → ℕ → List ℕ → List ℕ → Option Inside → Type 0
 Holds src at pos before after (Some x) = TreeAt src at pos before after x.next x.sizes.len x.sizes.nodes x.sizes.depth
 Holds src at pos before after None = braces rules (drop (at + 1) src) ≡ refused

@@ -30,10 +30,7 @@ pub fn tree_at(src: &[u8], at: usize, out: &mut [u8], pos: usize) -> Option<Insi
     ensures { Holds src.now at pos out.old out.new result }
 {
     let mut n: usize = 0;
-    let next = marks::base(src, at + 1, b'}', out, pos, &mut n);
-    if next == 0 {
-        return None;
-    }
+    let next = marks::base(src, at + 1, b'}', out, pos, &mut n)?;
     let end = pos + n;
     let part = &out[pos..end];
     let mut none: [usize; 1] = [0; 1];

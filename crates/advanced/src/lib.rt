@@ -21,8 +21,8 @@ use octets::class_of;
 use sheets::notes::{enter, keep_string, leave, up_of};
 use walk::{Broken, Extent, Measured};
 
-// A string between marks, decoded; the place after it, or 0.
-fn decode(src: &[u8], at: usize, out: &mut [u8], pos: usize, count: &mut usize) -> usize
+// A string between marks, decoded; the place after it.
+fn decode(src: &[u8], at: usize, out: &mut [u8], pos: usize, count: &mut usize) -> Option<usize>
     requires { (at < length src.now) × Spacious src.now (at + 1) pos (length out.old) }
     ensures { Decodes src.now (marked rules (get_or src.now at 0) (drop (at + 1) src.now)) at pos out.old out.new count.new result }
 {
@@ -38,37 +38,33 @@ fn decode(src: &[u8], at: usize, out: &mut [u8], pos: usize, count: &mut usize) 
     if b == b'|' {
         return marks::base(src, at + 1, b'|', out, pos, count);
     }
-    0
+    None
 }
 
-// A string between marks, decoded behind room for two digits and a colon, and framed; the place after it, or 0.
-fn framed(src: &[u8], at: usize, out: &mut [u8], pos: usize, end: &mut usize) -> usize
+// A string between marks, decoded behind room for two digits and a colon, and framed; the place after it.
+fn framed(src: &[u8], at: usize, out: &mut [u8], pos: usize, end: &mut usize) -> Option<usize>
     requires { (at < length src.now) × Room src.now at pos (length out.old) }
     ensures { Spells src.now (marked rules (get_or src.now at 0) (drop (at + 1) src.now)) at pos out.old out.new end.new result }
 {
     let mut n: usize = 0;
-    let next = decode(src, at, out, pos + 3, &mut n);
-    if next == 0 {
-        return 0;
-    }
+    let next = decode(src, at, out, pos + 3, &mut n)?;
     *end = frame(out, pos, n);
-    next
+    Some(next)
 }
 
 // The same; a quoted string in which nothing is escaped, the commonest by far, is copied to its place at once.
-fn between(src: &[u8], at: usize, out: &mut [u8], pos: usize, end: &mut usize) -> usize
+fn between(src: &[u8], at: usize, out: &mut [u8], pos: usize, end: &mut usize) -> Option<usize>
     requires { (at < length src.now) × Room src.now at pos (length out.old) }
     ensures { Spells src.now (marked rules (get_or src.now at 0) (drop (at + 1) src.now)) at pos out.old out.new end.new result }
 {
     if src[at] != b'"' {
         return framed(src, at, out, pos, end);
     }
-    let stop = quoted::unescaped_end(src, at + 1);
-    if stop < at + 2 {
+    let Some(stop) = quoted::unescaped_end(src, at + 1) else {
         return framed(src, at, out, pos, end);
-    }
+    };
     *end = put_string(src, at + 1, stop - at - 2, out, pos);
-    stop
+    Some(stop)
 }
 
 // What follows a length: a colon and as many octets, or a string between marks that has as many.
@@ -79,52 +75,47 @@ fn after_number(
     out: &mut [u8],
     pos: usize,
     end: &mut usize,
-) -> usize
+) -> Option<usize>
     requires { Room src.now at pos (length out.old) }
     ensures { Spells src.now (after_number rules n (drop at src.now)) at pos out.old out.new end.new result }
 {
     if at >= src.len() {
-        return 0;
+        return None;
     }
     if src[at] == b':' {
         let body = at + 1;
         if n > src.len() - body {
-            return 0;
+            return None;
         }
         *end = put_string(src, body, n, out, pos);
-        return body + n;
+        return Some(body + n);
     }
     let mut m: usize = 0;
-    let next = decode(src, at, out, pos + 3, &mut m);
-    if next == 0 {
-        return 0;
-    }
+    let next = decode(src, at, out, pos + 3, &mut m)?;
     if m != n {
-        return 0;
+        return None;
     }
     *end = frame(out, pos, m);
-    next
+    Some(next)
 }
 
 // A string that begins with its length.
-fn counted(src: &[u8], at: usize, out: &mut [u8], pos: usize, end: &mut usize) -> usize
+fn counted(src: &[u8], at: usize, out: &mut [u8], pos: usize, end: &mut usize) -> Option<usize>
     requires { (at < length src.now) × Room src.now at pos (length out.old) × (is_digit (get_or src.now at 0) ≡ true) }
     ensures { Spells src.now (bind (decimal (get_or src.now at 0) (drop (at + 1) src.now)) (after_number rules)) at pos out.old out.new end.new result }
 {
-    match decimal_at(src, at) {
-        Some(number) => after_number(src, number.next, number.value, out, pos, end),
-        None => 0,
-    }
+    let number = decimal_at(src, at)?;
+    after_number(src, number.next, number.value, out, pos, end)
 }
 
-// Any simple string, written as a verbatim string; the place after it, or 0. Where it ends in `out` goes to `end`.
-pub fn simple(src: &[u8], at: usize, out: &mut [u8], pos: usize, end: &mut usize) -> usize
+// Any simple string, written as a verbatim string; the place after it. Where it ends in `out` goes to `end`.
+pub fn simple(src: &[u8], at: usize, out: &mut [u8], pos: usize, end: &mut usize) -> Option<usize>
     requires { Room src.now at pos (length out.old) }
     ensures { Spells src.now (simple rules (drop at src.now)) at pos out.old out.new end.new result }
 {
     let src = &*src;
     if at >= src.len() {
-        return 0;
+        return None;
     }
     let c = class_of(src[at]);
     if c < octets::TOKEN {
@@ -135,43 +126,39 @@ pub fn simple(src: &[u8], at: usize, out: &mut [u8], pos: usize, end: &mut usize
     }
     let stop = scan::run_end(src, at + 1);
     *end = put_string(src, at, stop - at, out, pos);
-    stop
+    Some(stop)
 }
 
-// The closing bracket of a hint, with whitespace on both sides; the place after them, or 0.
-fn close_hint(src: &[u8], at: usize, out: &mut [u8], pos: usize, end: &mut usize) -> usize
+// The closing bracket of a hint, with whitespace on both sides; the place after them.
+fn close_hint(src: &[u8], at: usize, out: &mut [u8], pos: usize, end: &mut usize) -> Option<usize>
     requires { (at ≤ length src.now) × (pos < length out.old) }
     ensures { HintCloses src.now at pos out.old out.new end.new result }
 {
     let j = scan::skip_at(src, at);
     if j >= src.len() {
-        return 0;
+        return None;
     }
     if src[j] != b']' {
-        return 0;
+        return None;
     }
     out[pos] = b']';
     *end = pos + 1;
-    scan::skip_at(src, j + 1)
+    Some(scan::skip_at(src, j + 1))
 }
 
-// A hint, from its bracket on, with its brackets; the place where its string begins, or 0.
-fn hint(src: &[u8], at: usize, out: &mut [u8], pos: usize, end: &mut usize) -> usize
+// A hint, from its bracket on, with its brackets; the place where its string begins.
+fn hint(src: &[u8], at: usize, out: &mut [u8], pos: usize, end: &mut usize) -> Option<usize>
     requires { (at < length src.now) × Spare src.now at pos (length out.old) }
     ensures { HintSpells src.now at pos out.old out.new end.new result }
 {
     out[pos] = b'[';
     let i = scan::skip_at(src, at + 1);
     let mut e: usize = 0;
-    let next = simple(src, i, out, pos + 1, &mut e);
-    if next == 0 {
-        return 0;
-    }
+    let next = simple(src, i, out, pos + 1, &mut e)?;
     close_hint(src, next, out, e, end)
 }
 
-// A string with its hint, from the hint's bracket on; the place after it, or 0. Where its hint ends in `out`, brackets and all, goes to
-// `mid`.
+// A string with its hint, from the hint's bracket on; the place after it. Where its hint ends in `out`, brackets and all, goes to `mid`.
 fn hinted(
     src: &[u8],
     at: usize,
@@ -179,14 +166,11 @@ fn hinted(
     pos: usize,
     mid: &mut usize,
     end: &mut usize,
-) -> usize
+) -> Option<usize>
     requires { (at < length src.now) × Spare src.now at pos (length out.old) × (get_or src.now at 0 ≡ 91) }
     ensures { Nodes src.now at pos out.old out.new mid.new end.new result }
 {
-    let from = hint(src, at, out, pos, mid);
-    if from == 0 {
-        return 0;
-    }
+    let from = hint(src, at, out, pos, mid)?;
     let behind = *mid;
     simple(src, from, out, behind, end)
 }
@@ -263,14 +247,14 @@ pub fn convert(braces: bool, src: &[u8], out: &mut [u8], notes: &mut [usize]) ->
         let mut mid: usize = 0;
         let mut end: usize = 0;
         // A call through another function would store the text's place and length again for each string.
-        let next = if b == b'[' {
+        let after = if b == b'[' {
             hinted(src, i, out, o, &mut mid, &mut end)
         } else {
             simple(src, i, out, o, &mut end)
         };
-        if next == 0 {
+        let Some(next) = after else {
             return Err(Broken { place: 0 });
-        }
+        };
         let up = up_of(&numbers, opened);
         keep_string(notes, seen, o, mid, end, up);
         seen += 1;

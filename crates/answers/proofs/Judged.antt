@@ -10,11 +10,14 @@ use Rattle.answers.specs.Refusals.{number_of, place_in}
 use Rattle.answers.specs.declared.refusal.Refusal.{Refusal}
 use Rattle.answers.specs.declared.refusal.Refusal.TheVariants.{Form, SourceSize, Syntax, Depth, Nodes, Size, NotOwn, NoNode, NoPlace, Damaged, NotTyped, NotLine}
 
-ok-err : {A E G : Type 0} {a : A} {f : E} → ◌≡◌ {A = Result A E} (Ok a) (Err f) → G
+pub ok-err : {A E G : Type 0} {a : A} {f : E} → ◌≡◌ {A = Result A E} (Ok a) (Err f) → G
 ok-err e = let z : ◌≡◌ {A = ℕ} 0 1 = cc in absurd (omega arith)
 
-err-equal : {A E : Type 0} {f g : E} → ◌≡◌ {A = Result A E} (Err f) (Err g) → f ≡ g
+pub err-equal : {A E : Type 0} {f g : E} → ◌≡◌ {A = Result A E} (Err f) (Err g) → f ≡ g
 err-equal {A} {E} {f} {g} e = ap (λ (x : Result A E). elim x [ Ok s ↦ f | Err h ↦ h ]) e
+
+pub ok-equal : {A E : Type 0} {a b : A} → ◌≡◌ {A = Result A E} (Ok a) (Ok b) → a ≡ b
+ok-equal {A} {E} {a} {b} e = ap (λ (x : Result A E). elim x [ Ok s ↦ s | Err h ↦ a ]) e
 
 pub judge-row : (n : ℕ) (f : Refusal) → number_of f ≡ n → place_in f ≡ 0 → Judges n (Err f)
 judge-row n f e p =

@@ -2,7 +2,7 @@
 use Rattle.std.specs.Prelude.{ℕ, ◌≡◌, ⊤, true, List, Bool, Option, Some, None, Result, Ok, Err}
 use Rattle.std.proofs.Math.Option.{Option as Maybe, none, some}
 use Rattle.model.specs.Limits.{no_refusal}
-use Rattle.model.specs.Answers.{Outcome, unchanged_at, Output, unwritten_at, unwritten, Comparison, uncompared_at, uncompared, part}
+use Rattle.model.specs.Answers.{Outcome, unchanged_at, Output, unwritten_at, unwritten, Comparison, uncompared_at, part}
 use Rattle.answers.specs.Refusals.{number_of, place_in}
 use Rattle.answers.specs.declared.refusal.Refusal.{Refusal}
 use Rattle.answers.specs.declared.Sizes.{Sizes}
@@ -56,9 +56,6 @@ Refuses n r = RefusesAt n 0 r
 
 pub record RefusesWriting (n : ℕ) (r : Writing) : Type 0 where
   pub is : (out : List ℕ) → output r out ≡ unwritten n out
-
-pub record RefusesComparing (n : ℕ) (r : Comparing) : Type 0 where
-  pub is : told r ≡ uncompared n
 
 -- what judging answers: nothing where no row applies, else the row's refusal
 abbrev pub Judging : Type 0

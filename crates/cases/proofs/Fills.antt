@@ -37,22 +37,22 @@ pub record Filling (f : ℕ → ℕ) (l₀ l : List ℕ) (i : ℕ) : Type 0 wher
 pub fill_start : (f : ℕ → ℕ) (l : List ℕ) → Filling f l l 0
 fill_start f l = record { in-it = omega arith; long = refl; each = λ k h. absurd (omega arith) }
 
-pub fill_on : (f : ℕ → ℕ) (l₀ l : List ℕ) (i v : ℕ) → Filling f l₀ l i → i < length l → v ≡ f i → Filling f l₀ (set l i v) (i + 1)
+pub fill_on : (f : ℕ → ℕ) (l₀ l : List ℕ) (i v : ℕ) → Filling f l₀ l i → i < length l₀ → v ≡ f i → Filling f l₀ (set l i v) (i + 1)
 fill_on f l₀ l i v g h e =
     record {
-      in-it = omega (arith, length-set l i v);
+      in-it = omega (arith, length-set l i v, g.long);
       long = length-set l i v ∙ g.long;
       each = λ k m.
           by-eq k i
-          (λ z. ap (λ (n : ℕ). get_or (set l i v) n 0) z ∙ get_or-set_same l i v 0 h ∙ e ∙ ap f (sym z))
+          (λ z. ap (λ (n : ℕ). get_or (set l i v) n 0) z ∙ get_or-set_same l i v 0 (omega (arith, g.long)) ∙ e ∙ ap f (sym z))
           (λ z. get_or-set_other l i k v 0 z ∙ g.each k (omega arith));
     }
 
 pub fill-long : (f : ℕ → ℕ) (l₀ l : List ℕ) (i : ℕ) → Filling f l₀ l i → length l ≡ length l₀
 fill-long f l₀ l i g = g.long
 
-pub fill_end : (f : ℕ → ℕ) (l₀ l : List ℕ) (i : ℕ) → Filling f l₀ l i → length l ≤ i → Filled f l
-fill_end f l₀ l i g h = record { each = λ k m. g.each k (omega arith) }
+pub fill_end : (f : ℕ → ℕ) (l₀ l : List ℕ) (i : ℕ) → Filling f l₀ l i → length l₀ ≤ i → Filled f l
+fill_end f l₀ l i g h = record { each = λ k m. g.each k (omega (arith, g.long)) }
 
 -- ---- what is filled from a part of a case
 pub filled-by : (f : List ℕ → ℕ → ℕ → ℕ) (x y : List ℕ) (fill : ℕ) (l : List ℕ) → x ≡ y → Filled (f x fill) l → Filled (f y fill) l

@@ -14,10 +14,8 @@ pub fn of_octets(buffer: &[u8]) -> u64
     ensures { result ≡ digested 0 buffer.now }
 {
     let mut digest: u64 = 0;
-    let mut i: usize = 0;
-    while i < buffer.len() {
-        digest = step(digest, buffer[i] as u32);
-        i += 1;
+    for octet in buffer {
+        digest = step(digest, *octet as u32);
     }
     digest
 }
@@ -27,10 +25,8 @@ pub fn of_numbers(buffer: &[u32]) -> u64
     ensures { result ≡ digested 0 buffer.now }
 {
     let mut digest: u64 = 0;
-    let mut i: usize = 0;
-    while i < buffer.len() {
-        digest = step(digest, buffer[i]);
-        i += 1;
+    for number in buffer {
+        digest = step(digest, *number);
     }
     digest
 }

@@ -183,10 +183,8 @@ fn lent_number(given: &[u8], fill: u8, i: usize) -> u32
 fn fill_octets(given: &[u8], fill: u8, room: &mut [u8])
     ensures { Filled (lent_octet given.now fill) room.new }
 {
-    let mut i: usize = 0;
-    while i < room.len() {
-        room[i] = lent_octet(given, fill, i);
-        i += 1;
+    for (i, octet) in room.iter_mut().enumerate() {
+        *octet = lent_octet(given, fill, i);
     }
 }
 
@@ -194,10 +192,8 @@ fn fill_octets(given: &[u8], fill: u8, room: &mut [u8])
 fn fill_numbers(given: &[u8], fill: u8, room: &mut [u32])
     ensures { Filled (lent_number given.now fill) room.new }
 {
-    let mut i: usize = 0;
-    while i < room.len() {
-        room[i] = lent_number(given, fill, i);
-        i += 1;
+    for (i, number) in room.iter_mut().enumerate() {
+        *number = lent_number(given, fill, i);
     }
 }
 

@@ -66,11 +66,9 @@ fn put_more(n: usize, out: &mut [u8], pos: usize) -> usize
     ensures { Wrote (digits n) pos out.old out.new result }
 {
     let powers: [usize; 4] = [10, 100, 1000, 10000];
-    let mut k = width(n) - 1;
     let mut left = n;
     let mut i = pos;
-    while k > 0 {
-        k -= 1;
+    for k in (0..width(n) - 1).rev() {
         left = put_digit(left, powers[k], out, i);
         i += 1;
     }

@@ -35,8 +35,7 @@ pub fn number_at(src: &[u8], at: usize) -> Option<Number>
     ensures { Numbered src.now (number 0 (drop at src.now)) at result }
 {
     let mut value: usize = 0;
-    let mut i = at;
-    while i < src.len() {
+    for i in at..src.len() {
         let b = src[i];
         if b < b'0' {
             return Some(Number { value, next: i });
@@ -48,9 +47,11 @@ pub fn number_at(src: &[u8], at: usize) -> Option<Number>
         if value > src.len() {
             return None;
         }
-        i += 1;
     }
-    Some(Number { value, next: i })
+    Some(Number {
+        value,
+        next: src.len(),
+    })
 }
 
 // A decimal, whose first digit is at `at`: 0 stands alone.

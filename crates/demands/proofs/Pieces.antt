@@ -19,6 +19,7 @@ use Rattle.model.proofs.Numbered.{reading-numbered}
 use Rattle.answers.specs.Cases.{outcome, Reading}
 use Rattle.answers.specs.Refusals.{number_of}
 use Rattle.answers.specs.declared.refusal.Refusal.{Refusal}
+use Rattle.answers.specs.declared.refusal.Refusal.TheVariants.{NotOwn}
 use Rattle.pieces.specs.Feeding.{kept, sheet_after, state_after, same_sizes, Piece}
 use Rattle.pieces.specs.Ending.{in_sheet, End}
 use Rattle.pieces.specs.Handed.{Handed}
@@ -33,10 +34,10 @@ use Rattle.demands.proofs.Placed.{canonical-text, read-tells}
 -- handed back or not
 
 pub another-size : {x : State} {piece sheet after : List ℕ} {lent : ℕ} {r : Fed} → same_sizes x (length sheet) lent ≡ false → Piece x piece sheet lent after r
-    → (r.number ≡ refusal_not_own) × (r.octets ≡ 0) × (r.state ≡ x) × (after ≡ sheet)
+    → (r.taken ≡ Err NotOwn) × (r.state ≡ x) × (after ≡ sheet)
 another-size z p =
     let e = p.resized z in
-    (ap (λ (y : Fed). y.number) e.0, ap (λ (y : Fed). y.octets) e.0, ap (λ (y : Fed). y.state) e.0, e.1)
+    (ap (λ (y : Fed). y.taken) e.0, ap (λ (y : Fed). y.state) e.0, e.1)
 
 pub another-size-at-the-end : {x : State} {sheet table table' : List ℕ} {lent : ℕ} {r : Reading} → same_sizes x (length sheet) lent ≡ false → End x sheet lent table table' r
     → outcome r sheet table' ≡ unchanged refusal_not_own sheet table

@@ -1,7 +1,7 @@
 -- A piece and the end, handed out as numbers.
 use Prim.Native.Nat.{ℕ, ◌≤◌, ◌<◌}
 use native.Mathlib.Omega.{arith}
-use mathlib.Core.Path.{◌≡◌, refl, ap, ◌∙◌, subst}
+use mathlib.Core.Path.{◌≡◌, refl, ap, ◌∙◌, subst, sym}
 use mathlib.Core.List.{List, [], ◌++◌}
 use lib.ListN.{length}
 use Rattle.model.specs.Answers.{unchanged, reading}
@@ -14,6 +14,10 @@ use Rattle.pieces.specs.Feeding.{state_after, InTurn, Piece}
 use Rattle.pieces.proofs.Coding.{comes_back}
 use Rattle.pieces.proofs.Turns.{turn-start}
 use Rattle.pieces.specs.declared.state.State.{State}
+use Rattle.answers.proofs.Judged.{ok-err, ok-equal, err-equal}
+use Rattle.answers.specs.Refusals.{number_of}
+use Rattle.answers.specs.declared.refusal.Refusal.{Refusal}
+use Rattle.std.specs.Prelude.{Ok, Err}
 use Rattle.pieces.specs.declared.state.Fed.{Fed}
 use Rattle.etglavino_c.specs.Pointers.{HandsPlaced}
 use Rattle.etglavino_c.specs.Piecing.{PieceAt, piece_at, PieceOut, EndOut}
@@ -26,20 +30,20 @@ module _ (before piece sheet : List ℕ) (lent : ℕ) (x : State) (e : x ≡ sta
   p = subst (λ (y : State). Piece y piece sheet lent after r) e q
 
   -- the numbers of the state stay
-  pub piece-refused : 0 < r.number → PieceOut before piece sheet lent after before r.number r.octets
-  piece-refused h =
+  pub piece-refused : (f : Refusal) → r.taken ≡ Err f → PieceOut before piece sheet lent after before (number_of f) 0
+  piece-refused f z =
       record {
-        resized = λ z. let f = p.resized z in λ i. piece_at before (f.1 i) (f.0 i).number (f.0 i).octets;
-        goes_on = λ first s t. let z : r.number ≡ 0 = ap (λ (y : Fed). y.number) (p.goes_on first s t).0 in absurd (omega arith);
+        resized = λ y. let g = p.resized y in λ i. piece_at before (g.1 i) (number_of (err-equal (sym z ∙ ap (λ (w : Fed). w.taken) g.0) i)) 0;
+        goes_on = λ first s t. ok-err (sym (ap (λ (w : Fed). w.taken) (p.goes_on first s t).0) ∙ z);
       }
 
-  pub piece-taken : r.number ≤ 0 → (y : List ℕ) → y ≡ state_numbers r.state → PieceOut before piece sheet lent after y 0 r.octets
-  piece-taken h y f =
+  pub piece-taken : (n : ℕ) → r.taken ≡ Ok n → (y : List ℕ) → y ≡ state_numbers r.state → PieceOut before piece sheet lent after y 0 n
+  piece-taken n z y f =
       record {
-        resized = λ z. let n : r.number ≡ refusal_not_own = ap (λ (w : Fed). w.number) (p.resized z).0 in absurd (omega arith);
+        resized = λ y. ok-err (sym z ∙ ap (λ (w : Fed). w.taken) (p.resized y).0);
         goes_on = λ first s t.
             let g = p.goes_on first s t in
-            λ i. piece_at ((f ∙ ap (λ (w : Fed). state_numbers w.state) g.0) i) (g.1 i) 0 (g.0 i).octets;
+            λ i. piece_at ((f ∙ ap (λ (w : Fed). state_numbers w.state) g.0) i) (g.1 i) 0 (ok-equal (sym z ∙ ap (λ (w : Fed). w.taken) g.0) i);
       }
 
 module _ (state sheet : List ℕ) (lent : ℕ) (table table' : List ℕ) (r : Reading) (n p len count : ℕ) (h : HandsPlaced r n len count p) where

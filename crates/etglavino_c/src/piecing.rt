@@ -34,13 +34,18 @@ pub extern "C" fn etg_pieces_feed(
 {
     let before = state_in(state);
     let fed = before.feed(piece, canonical, table_size);
-    *taken = fed.octets;
-    if fed.number > 0 {
-        return fed.number;
+    match fed.taken {
+        Ok(octets) => {
+            *taken = octets;
+            let after = fed.state;
+            hand_state(after, state);
+            0
+        }
+        Err(refusal) => {
+            *taken = 0;
+            refusal.number()
+        }
     }
-    let after = fed.state;
-    hand_state(after, state);
-    0
 }
 
 #[unsafe(no_mangle)]

@@ -1,36 +1,19 @@
--- A count doubled until it fills the digits.
-use Prim.Native.Nat.{ℕ, zero, suc, ◌+◌, ◌-◌, ◌*◌, ◌^◌, ◌≤◌, ◌<◌}
+-- A count shifted until it fills the digits.
+use Prim.Native.Nat.{ℕ, zero, suc, ◌+◌, ◌-◌, ◌*◌, ◌%◌, ◌^◌, ◌≤◌, ◌<◌}
 use native.Mathlib.Omega.{arith}
-use native.Mathlib.Nat.{mul_assoc, mul-one, pow-suc, pow-succ'}
-use native.Mathlib.Numerals.{add-one}
-use mathlib.Core.Path.{◌≡◌, refl, sym, ap, ◌∙◌, subst}
+use native.Mathlib.Nat.{mul_assoc, pow-succ', pow-le-pow_right, add-mul, one-mul}
+use mathlib.Core.Path.{◌≡◌, refl, sym, ap, ◌∙◌}
 use mathlib.Core.Bool.{not}
-use lib.Dec.{T}
+use lib.Count.{count_leading_zeros}
+use lib.Dec.{T, lit<}
 use lib.Ieee.{binary64, of_bits, nan_bits}
 use mir.Syntax.{w64}
 use mir.Val.{Fits}
 use borrow.Author.Tests.{le-leb, lt-leb}
-use Rattle.base.proofs.Cases.{picked, unpicked}
+use Rattle.std.proofs.lemmas.Nat.{leading_top, pow-add, pow_pos, mul-le}
+use Rattle.base.proofs.Cases.{by_le, picked, unpicked}
 use Rattle.typed.specs.Quarters.{doublings, bits_by, quarter_bits, hours_of, total_by}
 use Rattle.typed.proofs.Exact.{small-finite}
-
-pub record Doubling (n m k : ℕ) : Type 0 where
-  pub some : 0 < n
-  pub is : m ≡ n * 2 ^ k
-  pub few : k ≤ 52
-  pub fits : m < 2 ^ 53
-  pub enough : 2 ^ 52 ≤ m * 2 ^ (52 - k)
-  pub left : k + doublings (52 - k) m ≡ doublings 52 n
-
-pub doubling-starts : (n : ℕ) → n < 2 ^ 32 → (n ≡ 0 → ⊥) → Doubling n n 0
-doubling-starts n h z = record {
-  some = omega arith;
-  is = sym (mul-one n);
-  few = omega arith;
-  fits = omega arith;
-  enough = omega arith;
-  left = let e : 0 + doublings 52 n ≡ doublings 52 n = omega arith in e;
-}
 
 zero_left : (f m : ℕ) → 2 ^ 52 ≤ m → doublings f m ≡ 0
 unfolding doublings
@@ -41,68 +24,63 @@ one_left : (f m : ℕ) → m < 2 ^ 52 → doublings (suc f) m ≡ suc (doublings
 unfolding doublings
 one_left f m h = unpicked _ _ (lt-leb (2 ^ 52) m h)
 
-module _ (n m k : ℕ) (inv : Doubling n m k) where
-  module _ (h : m < 2 ^ 52) where
-    pub below : k < 52
-    below = by (52 - k) refl
-      where
-        by : (f : ℕ) → 52 - k ≡ f → k < 52
-        by zero e = let g : 2 ^ 52 ≤ m * 2 ^ 0 = subst (λ (x : ℕ). 2 ^ 52 ≤ m * 2 ^ x) e inv.enough in absurd (omega arith)
-        by (suc f) e = omega arith
+-- it is doubled as often as fills the digits, and no more often
+doubled : (k f m : ℕ) → k ≤ f → 2 ^ 52 ≤ m * 2 ^ k → m * 2 ^ k < 2 ^ 53 → doublings f m ≡ k
+doubled zero f m h l u = zero_left f m (omega arith)
+doubled (suc k) zero m h l u = absurd (omega arith)
+doubled (suc k) (suc f) m h l u =
+    let e : m * 2 * 2 ^ k ≡ m * 2 ^ suc k = mul_assoc m 2 (2 ^ k) ∙ ap (λ (x : ℕ). m * x) (sym (pow-succ' 2 k)) in
+    let p : 0 < 2 ^ k = pow_pos k in
+    let s : m * 2 * 1 ≤ m * 2 * 2 ^ k = mul-le (m * 2) 1 (m * 2) (2 ^ k) (omega arith) (omega arith) in
+    one_left f m (omega arith) ∙ ap suc (doubled k f (m * 2) (omega arith) (omega arith) (omega arith))
 
-    pub doubling-mul : Fits w64 (m * 2)
-    doubling-mul = omega arith
+record Filling (n k : ℕ) : Type 0 where
+  few : k ≤ 52
+  low : 2 ^ 52 ≤ n * 2 ^ k
+  high : n * 2 ^ k < 2 ^ 53
 
-    pub doubling-add : Fits w64 (k + 1)
-    doubling-add = omega (arith, below)
+module _ (n : ℕ) (h : n < 2 ^ 32) (z : n ≡ 0 → ⊥) where
+  pub shift-sub : 11 ≤ count_leading_zeros 64 n
+  shift-sub = by (leading_top 64 n (omega arith) (omega arith))
+    where
+      by : (j : ℕ) × (count_leading_zeros 64 n + suc j ≡ 64) × (2 ^ j ≤ n) × (n < 2 ^ suc j) → 11 ≤ count_leading_zeros 64 n
+      by (j, e, l, u) = by_le 32 j (λ (w : 32 ≤ j). let p : 2 ^ 32 ≤ 2 ^ j = pow-le-pow_right (lit< tt) w in absurd (omega arith)) (λ w. omega arith)
 
-    pub doubling-less : 52 - (k + 1) < 52 - k
-    doubling-less = omega (arith, below)
+  filling : Filling n (count_leading_zeros 64 n - 11)
+  filling = by (leading_top 64 n (omega arith) (omega arith))
+    where
+      by : (j : ℕ) × (count_leading_zeros 64 n + suc j ≡ 64) × (2 ^ j ≤ n) × (n < 2 ^ suc j) → Filling n (count_leading_zeros 64 n - 11)
+      by (j, e, l, u) =
+          let s : 11 ≤ count_leading_zeros 64 n = shift-sub in
+          let k : ℕ = count_leading_zeros 64 n - 11 in
+          let a : 2 ^ 52 ≡ 2 ^ j * 2 ^ k = let i : 52 ≡ j + k = omega arith in ap (λ (x : ℕ). 2 ^ x) i ∙ pow-add 2 j k in
+          let b : 2 ^ 53 ≡ 2 ^ suc j * 2 ^ k = let i : 53 ≡ suc j + k = omega arith in ap (λ (x : ℕ). 2 ^ x) i ∙ pow-add 2 (suc j) k in
+          let p : 0 < 2 ^ k = pow_pos k in
+          let c : 2 ^ j * 2 ^ k ≤ n * 2 ^ k = mul-le (2 ^ j) (2 ^ k) n (2 ^ k) l (omega arith) in
+          let d : (n + 1) * 2 ^ k ≤ 2 ^ suc j * 2 ^ k = mul-le (n + 1) (2 ^ k) (2 ^ suc j) (2 ^ k) (omega arith) (omega arith) in
+          record {
+            few = omega arith;
+            low = omega arith;
+            high = omega (arith, add-mul n 1 (2 ^ k), one-mul (2 ^ k));
+          }
 
-    pub doubling-goes : Doubling n (m * 2) (k + 1)
-    doubling-goes =
-        let b : k < 52 = below in
-        let e : 52 - k ≡ suc (52 - (k + 1)) = omega arith in
-        let again : (j : ℕ) → m * 2 * 2 ^ j ≡ m * 2 ^ suc j = λ j. mul_assoc m 2 (2 ^ j) ∙ ap (λ (x : ℕ). m * x) (sym (pow-succ' 2 j)) in
-        record {
-          some = inv.some;
-          is = ap (λ (x : ℕ). x * 2) inv.is ∙ mul_assoc n (2 ^ k) 2 ∙ ap (λ (x : ℕ). n * x) (sym (pow-suc 2 k) ∙ ap (λ (x : ℕ). 2 ^ x) (sym (add-one k)));
-          few = omega arith;
-          fits = omega arith;
-          enough = subst (λ (x : ℕ). 2 ^ 52 ≤ x) (ap (λ (x : ℕ). m * 2 ^ x) e ∙ sym (again (52 - (k + 1)))) inv.enough;
-          left =
-              let z : doublings (52 - k) m ≡ suc (doublings (52 - (k + 1)) (m * 2)) = ap (λ (x : ℕ). doublings x m) e ∙ one_left (52 - (k + 1)) m h in
-              let y : k + doublings (52 - k) m ≡ doublings 52 n = inv.left in
-              omega arith;
-        }
+  kept : n * 2 ^ (count_leading_zeros 64 n - 11) % 2 ^ 64 ≡ n * 2 ^ (count_leading_zeros 64 n - 11)
+  kept = omega (arith, filling.high)
 
-  module _ (h : 2 ^ 52 ≤ m) where
-    ended : k ≡ doublings 52 n
-    ended = let z : doublings (52 - k) m ≡ 0 = zero_left (52 - k) m h in let y : k + doublings (52 - k) m ≡ doublings 52 n = inv.left in omega arith
+  pub bits-add : Fits w64 ((1072 - (count_leading_zeros 64 n - 11)) * 4503599627370496 + n * 2 ^ (count_leading_zeros 64 n - 11) % 18446744073709551616)
+  bits-add = omega (arith, kept, filling.high)
 
-    pub bits-sub : k ≤ 1072
-    bits-sub = omega (arith, inv.few)
+  made : (n : ℕ) → (n ≡ 0 → ⊥) → bits_by n (doublings 52 n) ≡ quarter_bits n
+  unfolding quarter_bits
+  made zero p = absurd (p refl)
+  made (suc n) p = refl
 
-    pub bits-mul : Fits w64 ((1072 - k) * 4503599627370496)
-    bits-mul = omega arith
-
-    pub bits-add : Fits w64 ((1072 - k) * 4503599627370496 + m)
-    bits-add = omega (arith, inv.fits)
-
-    made : (n : ℕ) → 0 < n → bits_by n (doublings 52 n) ≡ quarter_bits n
-    unfolding quarter_bits
-    made zero p = absurd (no p)
-      where
-        no : 0 < 0 → ⊥
-        no p = omega arith
-    made (suc n) p = refl
-
-    pub bits-made : ((1072 - k) * 4503599627370496 + m ≡ quarter_bits n) × ((1072 - k) * 4503599627370496 + m < 1074 * 2 ^ 52)
-    unfolding bits_by
-    bits-made = (
-      ap (λ (x : ℕ). (1072 - k) * 2 ^ 52 + x) inv.is ∙ ap (λ (j : ℕ). bits_by n j) ended ∙ made n inv.some,
-      omega (arith, inv.fits, inv.few),
-    )
+  pub bits-made : ((1072 - (count_leading_zeros 64 n - 11)) * 4503599627370496 + n * 2 ^ (count_leading_zeros 64 n - 11) % 18446744073709551616 ≡ quarter_bits n) × ((1072 - (count_leading_zeros 64 n - 11)) * 4503599627370496 + n * 2 ^ (count_leading_zeros 64 n - 11) % 18446744073709551616 < 1074 * 2 ^ 52)
+  unfolding bits_by
+  bits-made = (
+    ap (λ (x : ℕ). (1072 - (count_leading_zeros 64 n - 11)) * 2 ^ 52 + x) kept ∙ ap (λ (j : ℕ). bits_by n j) (sym (doubled _ 52 n filling.few filling.low filling.high)) ∙ made n z,
+    omega (arith, kept, filling.high, filling.few),
+  )
 
 pub bits-zero : (n : ℕ) → n ≡ 0 → (0 ≡ quarter_bits n) × (0 < 1074 * 2 ^ 52)
 unfolding quarter_bits

@@ -65,13 +65,9 @@ fn bits_of(n: u32) -> u64
     if n == 0 {
         return 0;
     }
-    let mut m = n as u64;
-    let mut k: u64 = 0;
-    while m < DIGITS {
-        m = m * 2;
-        k += 1;
-    }
-    (1072 - k) * DIGITS + m
+    let m = n as u64;
+    let k = m.leading_zeros() - 11;
+    (1072 - k as u64) * DIGITS + (m << k)
 }
 
 // So many quarters: the count, and the double that is a quarter of it.

@@ -5,6 +5,7 @@ use native.Mathlib.Numerals.{add-one}
 use mathlib.Core.Path.{◌≡◌, refl, sym, ap, ap₂, ◌∙◌}
 use mathlib.Core.Bool.{Bool}
 use mathlib.Core.List.{List, ◌++◌}
+use Rattle.std.specs.Prelude.{None}
 use lib.ListN.{length, get_or, take, drop}
 use lib.Seq.{take-take, take-add, drop_at, ext_get_or, get_or-take, length-take-le}
 use Rattle.model.specs.Limits.{max_source}
@@ -52,7 +53,7 @@ module _ (table : List ℕ) (n : ℕ) (lent : width * n ≤ length table) (t : T
 
 module _ (src table : List ℕ) (n : ℕ) (short : length src ≤ max_source) (lent : width * n ≤ length table) where
   -- a record that claims none is no tree's
-  pub unclaimed : (k : ℕ) → k < n → Claimed (record_at table k) 0 → (t : Tree) → OwnTable src table n t → ⊥
+  pub unclaimed : (k : ℕ) → k < n → Claimed (record_at table k) None → (t : Tree) → OwnTable src table n t → ⊥
   unclaimed k h c t o =
       c.no refl (note_of (row_of t k) (parent_of t k))
       (rw (same-records table n lent t o.counted o.same k h)

@@ -27,7 +27,7 @@ use Rattle.tables.proofs.Held.{note-holds}
 use Rattle.tables.proofs.Telling.{holds_row}
 use Rattle.answers.specs.Cases.{placed}
 use Rattle.answers.specs.Cases.{Place, place_at}
-use Rattle.std.specs.Prelude.{Some, None, Ok}
+use Rattle.std.specs.Prelude.{None, Ok}
 use Rattle.lookup.specs.Noted.{Notes, Sheet, Owned, Owning, Readables, ShowsPlace}
 use Rattle.lookup.proofs.Sheets.{tree_of, fitted, within, sheet-of, own_of}
 use Rattle.lookup.proofs.Shown.{table_at, hint-unowned, hint-beyond, hint-other, hint-found, data-unowned, data-beyond, data-found}

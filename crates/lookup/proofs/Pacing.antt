@@ -4,6 +4,7 @@ use native.Mathlib.Omega.{arith}
 use mathlib.Core.Path.{◌≡◌, refl, sym, ap, ◌∙◌, subst}
 use mathlib.Core.Bool.{Bool, true, false, not}
 use mathlib.Core.Option.{Option, some}
+use Rattle.std.specs.Prelude.{Option as Optional, None, Some}
 use mathlib.Core.List.{List}
 use lib.ListN.{length, take, get_or, set, length-set}
 use lib.Seq.{length-take-le, get_or-set_same, get_or-set_other}
@@ -26,7 +27,7 @@ use Rattle.tables.specs.declared.rows.Row as coded
 use Rattle.tables.proofs.Alike.{taken}
 use Rattle.owned.specs.Owned.{Checkable, Checked}
 use Rattle.lookup.specs.Noted.{Notes, Owned}
-use Rattle.lookup.specs.Pacing.{node_of, Sized, Bounded, answers, OwnTable, Judged, Claims, lost, Kept, Passable, Passed, Turnable, Turned, Goes}
+use Rattle.lookup.specs.Pacing.{node_of, Sized, Bounded, answers, Judged, Claims, lost, Passable, Passed, Turnable, Turned, Goes}
 use Rattle.lookup.proofs.Claiming.{unclaimed, judged-by}
 use Rattle.lookup.proofs.Sheets.{no-tree, a-tree, fitted, within, Own, own_of, own-beyond, own-long, own-unlent}
 
@@ -87,23 +88,20 @@ module _ (c : List ℕ) (len : ℕ) (r : List ℕ) (n : ℕ) (notes : List ℕ) 
         high = λ h table l e cl. subst (Judged (take len c) table n notes') (sym (ne_eqb lost (n + len) (λ z. omega (arith, g.few, g.short)))) (f table l e cl);
       }
 
-  pub turn-none : (m : ℕ) → Claimed r m → m ≡ 0 → Turned c len r n notes s notes lost
-  turn-none m v z =
+  pub turn-none : Claimed r None → Turned c len r n notes s notes lost
+  turn-none v =
       refused notes
       (λ table l e cl. record {
         yes = λ i. differ i refl;
-        no = λ i t o. unclaimed (take len c) table n (omega (arith, front, g.short)) l s g.some (subst (λ (x : List ℕ). Claimed x 0) (sym e) (subst (Claimed r) z v)) t o;
+        no = λ i t o. unclaimed (take len c) table n (omega (arith, front, g.short)) l s g.some (subst (λ (x : List ℕ). Claimed x None) (sym e) v) t o;
       })
 
   pub turn-room : s < length notes
   turn-room = omega (arith, g.some, g.fits)
 
-  module _ (m : ℕ) (v : Claimed r m) (d : m ≡ 0 → ⊥) where
+  module _ (m : ℕ) (claim : Claim r m) where
     abbrev after : List ℕ
     after = set notes s m
-
-    claim : Claim r m
-    claim = v.yes d
 
     -- what holds of the notes before, and of this one
     one_more : (P : ℕ → ℕ → Type 0) → ((i : ℕ) → i < s → P i (get_or notes i 0)) → P s m → (i : ℕ) → i < s + 1 → P i (get_or after i 0)
@@ -223,44 +221,30 @@ module _ (c : List ℕ) (len : ℕ) (table : List ℕ) (n e : ℕ) (notes : List
 
 -- ---- one note more, for any record that claims it
 
-module _ (notes : List ℕ) (m s : ℕ) where
-  pub kept-none : m ≡ 0 → Kept notes m s notes lost
-  kept-none z = record { none = λ e. (refl, refl); one = λ d. absurd (d z) }
-
-  pub kept-one : (m ≡ 0 → ⊥) → Kept notes m s (set notes s m) (s + 1)
-  kept-one d = record { none = λ e. absurd (d e); one = λ e. (refl, refl) }
-
 module _ (c : List ℕ) (len n : ℕ) (notes : List ℕ) (m s : ℕ) (g : Passable c len n notes m s) where
   -- with any other record it may be gone on in the same way
   also : (r : List ℕ) → Turnable c len r n notes s
   also r = record { lent = g.ready.lent; short = g.ready.short; some = g.ready.some; few = g.ready.few; fits = g.ready.fits; claimed = g.ready.claimed }
 
-  module _ (notes' : List ℕ) (s' : ℕ) (k : Kept notes m s notes' s') where
-    pub pass-next : (s' ≡ n → ⊥) → Passed c len n notes m s notes' s'
-    pass-next d =
-        by-eq m 0
-        (λ z. record { on = λ r v. rw ((k.none z).0, (k.none z).1) (turn-none c len r n notes s (also r) m v z) })
-        (λ z. record { on = λ r v. rw ((k.one z).0, (k.one z).1) (turn-next c len r n notes s (also r) m v z (omega (arith, (k.one z).1, d, g.ready.some))) })
+  pub pass-room : s < length notes
+  pass-room = turn-room c len g.r n notes s g.ready
 
-    module _ (e : s' ≡ n) where
-      some-note : m ≡ 0 → ⊥
-      some-note z = omega (arith, (k.none z).1, g.ready.few)
+  pub pass-next : (s + 1 ≡ n → ⊥) → Passed c len n notes m s (set notes s m) (s + 1)
+  pass-next d = record { on = λ r v. turn-next c len r n notes s (also r) m v (omega (arith, d, g.ready.some)) }
 
-      at_last : n ≤ s + 1
-      at_last = omega (arith, (k.one some-note).1)
+  module _ (e : s + 1 ≡ n) where
+    at_last : n ≤ s + 1
+    at_last = omega arith
 
-      pub pass-checkable : Checkable (take len c) notes' n
-      pass-checkable = rw (k.one some-note).0 (turn-checkable c len g.r n notes s g.ready m g.claimed some-note at_last)
+    pub pass-checkable : Checkable (take len c) (set notes s m) n
+    pass-checkable = turn-checkable c len g.r n notes s g.ready m g.claimed at_last
 
-      module _ (b : Bool) (x : Checked (take len c) notes' n b) where
-        again : Checked (take len c) (set notes s m) n b
-        again = subst (λ (l : List ℕ). Checked (take len c) l n b) (k.one some-note).0 x
+    module _ (b : Bool) (x : Checked (take len c) (set notes s m) n b) where
+      pub pass-off : b ≡ false → Passed c len n notes m s (set notes s m) lost
+      pass-off f = record { on = λ r v. turn-off c len r n notes s (also r) m v at_last b x f }
 
-        pub pass-off : b ≡ false → Passed c len n notes m s notes' lost
-        pass-off f = record { on = λ r v. rw (k.one some-note).0 (turn-off c len r n notes s (also r) m v some-note at_last b again f) }
-
-        pub pass_on : b ≡ true → Passed c len n notes m s notes' (n + len)
-        pass_on f = record { on = λ r v. rw (k.one some-note).0 (turn_on c len r n notes s (also r) m v some-note at_last b again f) }
+      pub pass_on : b ≡ true → Passed c len n notes m s (set notes s m) (n + len)
+      pass_on f = record { on = λ r v. turn_on c len r n notes s (also r) m v at_last b x f }
 
 -- ---- the loop over a table
 
@@ -268,8 +252,8 @@ pub record Claiming (c : List ℕ) (len : ℕ) (table : List ℕ) (n : ℕ) (not
   pub sized : Sized (length c) len (records table) n n
   pub long : length notes ≡ length notes₀
   pub fits : n ≤ length notes
-  pub claims : k ≤ n → Claims table notes k
-  pub none : n < k → (t : Tree) → OwnTable (take len c) table n t → ⊥
+  pub few : k ≤ n
+  pub claims : Claims table notes k
 
 module _ (c : List ℕ) (len : ℕ) (table : List ℕ) (n : ℕ) where
   pub claims-none : (notes : List ℕ) (e : ℕ) → Bounded (length c) len (records table) n e → e ≡ 0 → Owned c len table n notes false
@@ -282,8 +266,8 @@ module _ (c : List ℕ) (len : ℕ) (table : List ℕ) (n : ℕ) where
         sized = subst (Sized (length c) len (records table) n) s.is s;
         long = refl;
         fits = omega (arith, s.few, g.enough);
-        claims = λ l i h. absurd (omega arith);
-        none = λ h. absurd (omega arith);
+        few = omega arith;
+        claims = λ i h. absurd (omega arith);
       }
 
   module _ (notes₀ notes : List ℕ) (k : ℕ) (j : Claiming c len table n notes₀ notes k) where
@@ -293,18 +277,12 @@ module _ (c : List ℕ) (len : ℕ) (table : List ℕ) (n : ℕ) where
     pub claims-long : length notes ≡ length notes₀
     claims-long = j.long
 
-    -- past the last: some record claimed none
-    pub claims-lost : n < k → Owned c len table n notes false
-    claims-lost h =
-        owned-judged c len table n notes j.sized.lent j.sized.short j.sized.recorded false
-        (record { yes = λ e. differ e refl; no = λ e. j.none h })
-
-    module _ (h : n ≤ k) (l : k ≤ n) where
+    module _ (h : n ≤ k) where
       same : k ≡ n
-      same = omega arith
+      same = omega (arith, j.few)
 
       all : Claims table notes n
-      all = subst (Claims table notes) same (j.claims l)
+      all = subst (Claims table notes) same j.claims
 
       pub claims-checkable : Checkable (take len c) notes n
       claims-checkable =
@@ -327,36 +305,27 @@ module _ (c : List ℕ) (len : ℕ) (table : List ℕ) (n : ℕ) where
       pub claims-room : (k < length notes) × (k ≤ max_source)
       claims-room = (omega (arith, j.fits), omega (arith, j.sized.few))
 
-      module _ (row : coded.Row) (t : RowAt table k row) (parent : ℕ) (u : parent ≡ get_or table (k * width + 8) 0) (m : ℕ) (v : Claimed (record_list row parent) m) (notes' : List ℕ) (k' : ℕ) (x : Kept notes m k notes' k') where
-        here : Claimed (record_at table k) m
-        here = subst (λ (r : List ℕ). Claimed r m) (sym (taken table k row parent claims-record.1 t u)) v
+      module _ (row : coded.Row) (t : RowAt table k row) (parent : ℕ) (u : parent ≡ get_or table (k * width + 8) 0) (o : Optional ℕ) (v : Claimed (record_list row parent) o) where
+        here : Claimed (record_at table k) o
+        here = subst (λ (r : List ℕ). Claimed r o) (sym (taken table k row parent claims-record.1 t u)) v
 
-        pub claims-less : n - k' < n - k
-        claims-less = by-eq m 0 (λ z. omega (arith, (x.none z).1, j.sized.few)) (λ z. omega (arith, (x.one z).1))
+        pub claims-lost : o ≡ None → Owned c len table n notes false
+        claims-lost z =
+            owned-judged c len table n notes j.sized.lent j.sized.short j.sized.recorded false
+            (record {
+              yes = λ e. differ e refl;
+              no = λ e. unclaimed (take len c) table n src-short (omega (arith, j.sized.recorded)) k h (subst (Claimed (record_at table k)) z here);
+            })
 
-        pub claims-on : Claiming c len table n notes₀ notes' k'
-        claims-on = by-eq m 0 (λ z. off z) (λ z. on z)
-          where
-            off : m ≡ 0 → Claiming c len table n notes₀ notes' k'
-            off z =
-                record {
-                  sized = j.sized;
-                  long = ap length (x.none z).0 ∙ j.long;
-                  fits = omega (arith, ap length (x.none z).0, j.fits);
-                  claims = λ l. absurd (omega (arith, (x.none z).1, j.sized.few));
-                  none = λ l. unclaimed (take len c) table n src-short (omega (arith, j.sized.recorded)) k h (subst (Claimed (record_at table k)) z here);
-                }
-
-            on : (m ≡ 0 → ⊥) → Claiming c len table n notes₀ notes' k'
-            on z =
-                record {
-                  sized = j.sized;
-                  long = ap length (x.one z).0 ∙ length-set notes k m ∙ j.long;
-                  fits = omega (arith, ap length (x.one z).0, length-set notes k m, j.fits);
-                  claims = λ l. rw ((x.one z).0, (x.one z).1)
-                      (λ i q.
-                      by-eq i k
-                      (λ e. rw e (subst (Claim (record_at table k)) (sym (get_or-set_same notes k m 0 (omega (arith, j.fits)))) (here.yes z)))
-                      (λ e. subst (Claim (record_at table i)) (sym (get_or-set_other notes k i m 0 e)) (j.claims (omega arith) i (omega arith))));
-                  none = λ l. absurd (omega (arith, (x.one z).1));
-                }
+        pub claims-on : (m : ℕ) → o ≡ Some m → Claiming c len table n notes₀ (set notes k m) (k + 1)
+        claims-on m z =
+            record {
+              sized = j.sized;
+              long = length-set notes k m ∙ j.long;
+              fits = omega (arith, length-set notes k m, j.fits);
+              few = omega arith;
+              claims = λ i q.
+                  by-eq i k
+                  (λ e. rw e (subst (Claim (record_at table k)) (sym (get_or-set_same notes k m 0 (omega (arith, j.fits)))) (here.yes m z)))
+                  (λ e. subst (Claim (record_at table i)) (sym (get_or-set_other notes k i m 0 e)) (j.claims i (omega arith)));
+            }

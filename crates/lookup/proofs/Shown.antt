@@ -22,7 +22,7 @@ use Rattle.lookup.specs.Numbers.{InRecord}
 use Rattle.lookup.proofs.Sheets.{tree_of, none_of, Own, own_of, own-lent}
 use Rattle.answers.specs.Cases.{Place, place_at}
 use Rattle.answers.specs.declared.Part.{Part}
-use Rattle.std.specs.Prelude.{Some, None, Ok}
+use Rattle.std.specs.Prelude.{Some, None}
 
 -- ---- a number of a row
 

@@ -5,10 +5,7 @@ use mathlib.Core.Path.{◌≡◌, refl, sym, ap, ◌∙◌}
 use mathlib.Core.Bool.{Bool, true, false}
 use mathlib.Core.List.{List}
 use lib.ListN.{length}
-use lib.Dec.{ltb}
-use borrow.Author.Tests.{ltb-true}
 use Rattle.base.specs.Choice.{both, equal}
-use Rattle.base.proofs.Cases.{untrue}
 use Rattle.base.proofs.Lists.{equal-same}
 use Rattle.model.specs.Answers.{the}
 use Rattle.model.specs.Compare.{same}
@@ -19,17 +16,11 @@ use Rattle.canonical.specs.declared.Item.TheVariants.{Plain}
 use Rattle.sheets.specs.Places.{start_of, end_of, StringAt}
 use Rattle.sheets.proofs.Items.{string-item}
 use Rattle.lookup.specs.Alike.{kind_of, hint_or, data_of, matches}
-use Rattle.lookup.specs.Strings.{Both, Span, spanned}
+use Rattle.lookup.specs.Strings.{Span, spanned}
 use Rattle.lookup.specs.Tokens.{part_of, lexeme_of, TokenAt}
 use Rattle.lookup.proofs.Matching.{atoms}
 use Rattle.lookup.proofs.SideBySide.{Matching, left-reads, right-reads, token-plain, match-differs, match-on}
 use Rattle.lookup.specs.declared.alike.Token.{Token}
-
-pub both-none : (left right : ℕ) → Both left right false
-both-none left right = record { left = λ e. untrue e; right = λ e. untrue e }
-
-pub both_some : (left right : ℕ) → (left ≡ 0 → ⊥) → Both left right (ltb 0 right)
-both_some left right n = record { left = λ e. omega arith; right = λ e. ltb-true 0 right e }
 
 pub spans-equal : (a b : List ℕ) (r q s e f l : ℕ) → s ≡ start_of r → e ≡ end_of r → f ≡ start_of q → l ≡ end_of q → (t : Bool) → t ≡ equal (part_of a s e) (part_of b f l) → t ≡ equal (spanned a r) (spanned b q)
 spans-equal a b r q s e f l x y z w t k = rw (sym x, sym y, sym z, sym w) k
@@ -45,13 +36,12 @@ atoms-match : (x d e : List ℕ) → matches x (atom d) (atom e) ≡ equal d e
 unfolding matches kind_of hint_or data_of
 atoms-match x d e = ap (λ (t : Bool). both t (equal d e)) (equal-same x)
 
-module _ (a b x : List ℕ) (i j : ℕ) (w : Matching a b x i j) (h : i < length a) (l : j < length b) (r q : ℕ) (u : StringAt a i r) (v : StringAt b j q)
-    (so : Bool) (f : Both r q so) (y : so ≡ true) where
+module _ (a b x : List ℕ) (i j : ℕ) (w : Matching a b x i j) (h : i < length a) (l : j < length b) (r q : ℕ) (u : StringAt a i (Some r)) (v : StringAt b j (Some q)) where
   left-token : TokenAt a i (token_of r)
-  left-token = token-plain a i (left-reads a b x i j w h) (Some (Plain (start_of r) (end_of r))) (string-item a i h r u (f.left y)) (Plain (start_of r) (end_of r)) refl (start_of r) (end_of r) refl
+  left-token = token-plain a i (left-reads a b x i j w h) (Some (Plain (start_of r) (end_of r))) (string-item a i h r u) (Plain (start_of r) (end_of r)) refl (start_of r) (end_of r) refl
 
   right-token : TokenAt b j (token_of q)
-  right-token = token-plain b j (right-reads a b x i j w h l) (Some (Plain (start_of q) (end_of q))) (string-item b j l q v (f.right y)) (Plain (start_of q) (end_of q)) refl (start_of q) (end_of q) refl
+  right-token = token-plain b j (right-reads a b x i j w h l) (Some (Plain (start_of q) (end_of q))) (string-item b j l q v) (Plain (start_of q) (end_of q)) refl (start_of q) (end_of q) refl
 
   pub left-span : Span (length a) r
   left-span = record { ordered = left-token.lies.ordered; ended = left-token.lies.ended }

@@ -1,5 +1,5 @@
 -- A sheet and its records gone through one record at a time: each claims a note, and once all have, the octets bear the notes out or don't.
-use Rattle.std.specs.Prelude.{ℕ, ◌+◌, ◌*◌, ◌≤◌, ◌<◌, ◌≡◌, Bool, true, false, not, List, length, take, get_or, set, eqb}
+use Rattle.std.specs.Prelude.{ℕ, ◌+◌, ◌*◌, ◌≤◌, ◌<◌, ◌≡◌, Bool, true, false, not, List, length, take, get_or, eqb}
 use Rattle.std.proofs.Math.Option.{some}
 use Rattle.base.specs.Choice.{pick, is_none}
 use Rattle.model.specs.Answers.{own_tree}
@@ -8,7 +8,7 @@ use Rattle.model.specs.Limits.{most_nodes, max_canonical, max_depth}
 use Rattle.model.specs.Table.{width, table_of, records}
 use Rattle.model.specs.Tree.{Tree, nodes, depth}
 use Rattle.walk.specs.Events.{record_at}
-use Rattle.tables.specs.Claimed.{record_by, Claim, Claimed}
+use Rattle.tables.specs.Claimed.{record_by, Claim}
 use Rattle.tables.specs.Told.{Holds}
 use Rattle.lookup.specs.Noted.{Owned}
 
@@ -63,11 +63,6 @@ Claims table notes k = (i : ℕ) → i < k → Claim (record_at table i) (get_or
 abbrev pub lost : ℕ
 lost = 18446744073709551615
 
--- a note is kept, where there is one
-pub record Kept (notes : List ℕ) (m s : ℕ) (notes' : List ℕ) (s' : ℕ) : Type 0 where
-  pub none : m ≡ 0 → (notes' ≡ notes) × (s' ≡ lost)
-  pub one : (m ≡ 0 → ⊥) → (notes' ≡ set notes s m) × (s' ≡ s + 1)
-
 -- (of the record r nothing is asked: any may come)
 pub record Turnable (c : List ℕ) (len : ℕ) (r : List ℕ) (n : ℕ) (notes : List ℕ) (s : ℕ) : Type 0 where
   pub lent : len ≤ length c
@@ -83,15 +78,15 @@ pub record Turned (c : List ℕ) (len : ℕ) (r : List ℕ) (n : ℕ) (notes : L
   pub low : s' < n → (table : List ℕ) → record_at table s ≡ r → Claims table notes s → Claims table notes' s'
   pub high : n ≤ s' → (table : List ℕ) → width * n ≤ length table → record_at table s ≡ r → Claims table notes s → Judged (take len c) table n notes' (eqb s' (n + len))
 
--- the note m is one that a record can claim, if it is one
+-- the note m is one that a record can claim
 pub record Passable (c : List ℕ) (len n : ℕ) (notes : List ℕ) (m s : ℕ) : Type 0 where
   pub r : List ℕ
   pub ready : Turnable c len r n notes s
-  pub claimed : Claimed r m
+  pub claimed : Claim r m
 
 -- for every record that claims it
 pub record Passed (c : List ℕ) (len n : ℕ) (notes : List ℕ) (m s : ℕ) (notes' : List ℕ) (s' : ℕ) : Type 0 where
-  pub on : (r : List ℕ) → Claimed r m → Turned c len r n notes s notes' s'
+  pub on : (r : List ℕ) → Claim r m → Turned c len r n notes s notes' s'
 
 pub record Low (c : List ℕ) (len : ℕ) (table : List ℕ) (n e : ℕ) (notes : List ℕ) (s : ℕ) : Type 0 where
   pub sized : Sized (length c) len (records table) n e

@@ -6,7 +6,7 @@ ghost use Rattle.model.specs.Decode.{decode₁};
 ghost use Rattle.model.specs.Answers.{the};
 ghost use Rattle.lookup.specs.Alike.{matches};
 ghost use Rattle.lookup.specs.Tokens.{mark, lexeme_of, hint_in, part_of, Lies, Readable, TokenAt, Sheets};
-ghost use Rattle.lookup.specs.Strings.{Both, Span, spanned};
+ghost use Rattle.lookup.specs.Strings.{Span, spanned};
 
 use super::parts::parts_equal;
 use canonical::Item;
@@ -138,13 +138,6 @@ fn tokens_match(a: &[u8], left: Token, b: &[u8], right: Token, default_hint: &[u
     }
 }
 
-// Whether two spans are both there.
-fn both_there(left: usize, right: usize) -> bool
-    ensures { Both left right result }
-{
-    if left == 0 { false } else { right > 0 }
-}
-
 // Whether two strings without hints have the same octets.
 fn spans_match(a: &[u8], left: usize, b: &[u8], right: usize) -> bool
     requires { Span (length a.now) left × Span (length b.now) right }
@@ -171,15 +164,15 @@ pub fn alike(a: &[u8], b: &[u8], default_hint: &[u8]) -> bool
             return false;
         }
         // Strings without hints are nearly all there is.
-        let span = string_at(a, i);
-        let other = string_at(b, j);
-        if both_there(span, other) {
-            if spans_match(a, span, b, other) {
-                i = end_of(span);
-                j = end_of(other);
-                continue;
+        if let Some(span) = string_at(a, i) {
+            if let Some(other) = string_at(b, j) {
+                if spans_match(a, span, b, other) {
+                    i = end_of(span);
+                    j = end_of(other);
+                    continue;
+                }
+                return false;
             }
-            return false;
         }
         let left = token_at(a, i);
         let right = token_at(b, j);

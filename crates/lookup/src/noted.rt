@@ -2,7 +2,7 @@
 ghost use Rattle.std.specs.Prelude.{length as size};
 ghost use Rattle.lookup.specs.Noted.{Notes, Owned, Readables, ShowsPlace};
 
-use crate::turns::{bound, kept};
+use crate::turns::bound;
 use answers::Part;
 use tables::rows::{parent_at, row_at};
 
@@ -26,27 +26,28 @@ pub fn own_notes(
         let row = row_at(table, k);
         let parent = parent_at(table, k);
         if row.kind == 0 {
-            k = kept(notes, tables::plain_claim(row, parent), k);
+            let Some(note) = tables::plain_claim(row, parent) else {
+                return false;
+            };
+            notes[k] = note;
+            k += 1;
             continue;
         }
-        k = kept(
-            notes,
-            tables::other_claim(
-                row.kind,
-                row.start,
-                row.end,
-                row.nodes,
-                row.hint_start,
-                row.hint_end,
-                row.data_start,
-                row.data_end,
-                parent,
-            ),
-            k,
-        );
-    }
-    if k > nodes {
-        return false;
+        let Some(note) = tables::other_claim(
+            row.kind,
+            row.start,
+            row.end,
+            row.nodes,
+            row.hint_start,
+            row.hint_end,
+            row.data_start,
+            row.data_end,
+            parent,
+        ) else {
+            return false;
+        };
+        notes[k] = note;
+        k += 1;
     }
     let part = &canonical[..len];
     owned::own(part, nodes, notes)

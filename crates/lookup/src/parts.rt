@@ -16,10 +16,8 @@ fn block_equal(a: &[u8], b: &[u8], at: usize) -> bool
     ensures { Block a.now b.now at 16 result }
 {
     let mut so = true;
-    let mut k: usize = 0;
-    while k < 16 {
+    for k in 0..16 {
         so = still(so, a[at + k], b[at + k]);
-        k += 1;
     }
     so
 }
@@ -29,12 +27,10 @@ fn rest_equal(a: &[u8], b: &[u8], from: usize) -> bool
     requires { Agree a.now b.now from }
     ensures { result ≡ equal a.now b.now }
 {
-    let mut i = from;
-    while i < a.len() {
+    for i in from..a.len() {
         if a[i] != b[i] {
             return false;
         }
-        i += 1;
     }
     true
 }

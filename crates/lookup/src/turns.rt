@@ -1,8 +1,7 @@
 // A sheet and its records gone through one record at a time, for whoever holds the records.
-ghost use Rattle.std.specs.Prelude.{◌≡◌, ◌≤◌, ◌<◌, length};
-ghost use Rattle.model.specs.Limits.{max_source};
+ghost use Rattle.std.specs.Prelude.{◌≡◌};
 ghost use Rattle.tables.specs.Rows.{record_list};
-ghost use Rattle.lookup.specs.Pacing.{node_of, Bounded, answers, Kept, Passable, Passed, Turnable, Turned};
+ghost use Rattle.lookup.specs.Pacing.{node_of, Bounded, answers, Passable, Passed, Turnable, Turned};
 
 use tables::Row;
 
@@ -38,20 +37,7 @@ pub fn node_of(state: usize) -> usize
     state
 }
 
-// A note kept, and the state after it.
-pub fn kept(notes: &mut [usize], note: usize, state: usize) -> usize
-    requires state_in_bounds { state < length notes.old }
-    requires state_le_max_source { state ≤ max_source }
-    ensures { Kept notes.old note state notes.new result }
-{
-    if note == 0 {
-        return LOST;
-    }
-    notes[state] = note;
-    state + 1
-}
-
-// The same; after the last one the octets bear the notes out or don't.
+// A note kept, and the state after it; after the last one the octets bear the notes out or don't.
 fn passed(
     canonical: &[u8],
     len: usize,
@@ -63,7 +49,8 @@ fn passed(
     requires { Passable canonical.now len nodes notes.old note state }
     ensures { Passed canonical.now len nodes notes.old note state notes.new result }
 {
-    let next = kept(notes, note, state);
+    notes[state] = note;
+    let next = state + 1;
     if next != nodes {
         return next;
     }
@@ -88,10 +75,12 @@ pub fn turn(
     ensures { Turned canonical.now len (record_list row parent) nodes notes.old state notes.new result }
 {
     if row.kind == 0 {
-        let note = tables::plain_claim(row, parent);
+        let Some(note) = tables::plain_claim(row, parent) else {
+            return LOST;
+        };
         return passed(canonical, len, notes, nodes, note, state);
     }
-    let note = tables::other_claim(
+    let Some(note) = tables::other_claim(
         row.kind,
         row.start,
         row.end,
@@ -101,7 +90,9 @@ pub fn turn(
         row.data_start,
         row.data_end,
         parent,
-    );
+    ) else {
+        return LOST;
+    };
     passed(canonical, len, notes, nodes, note, state)
 }
 

@@ -7,6 +7,8 @@ use mathlib.Core.Path.{◌≡◌, refl, sym, ap, ◌∙◌, subst}
 use mathlib.Core.Bool.{false}
 use mathlib.Core.List.{List}
 use lib.ListN.{length, get_or, drop}
+use Rattle.std.specs.Prelude.{Option, Some, None}
+use Rattle.std.proofs.lemmas.Option.{none-some, same_Some}
 use lib.Dec.{eqb, leb}
 use borrow.Author.Tests.{eq-eqb, ne_eqb, le-leb, lt-leb}
 use Rattle.base.specs.Choice.{both}
@@ -23,7 +25,7 @@ use Rattle.sheets.specs.Places.{shift, span_by, start_of, end_of, StringAt, Hint
 use Rattle.sheets.proofs.Items.{hint-places, other_item, unhinted-item, hint-inside, unfollowed-item, hinted-item}
 use Rattle.sheets.proofs.Packing.{body-span, string-digit}
 use Rattle.tables.specs.Told.{start_part, end_part, third_part, parent_part}
-use Rattle.owned.specs.Going.{Closes, Meetable, Near, Begins, Begun, Unread, Unmet, Hints}
+use Rattle.owned.specs.Going.{Closes, Meetable, Near, Begins, Begun, Unread, Unmet, Hinting, Hints}
 
 -- ---- the innermost list ends
 
@@ -57,10 +59,10 @@ module _ (src : List ℕ) (m at up : ℕ) where
       → get_or src at 0 ≡ 48 + (end_part m - start_part m) → get_or src (at + 1) 0 ≡ 58 → Near src m at up (eqb (m / (shift * shift)) (up * shift))
   near-so g s e b n d c =
       by-eq (m / (shift * shift)) (up * shift)
-      (λ i. subst (Near src m at up) (sym (eq-eqb _ _ i)) (record { on = λ z. record { span = span_by (start_part m) (end_part m); reads = reads; some = omega arith; is = omega arith } }))
+      (λ i. subst (Near src m at up) (sym (eq-eqb _ _ i)) (record { on = λ z. record { span = span_by (start_part m) (end_part m); reads = reads; is = omega arith } }))
       (λ i. subst (Near src m at up) (sym (ne_eqb _ _ i)) near-off)
     where
-      reads : StringAt src at (span_by (start_part m) (end_part m))
+      reads : StringAt src at (Some (span_by (start_part m) (end_part m)))
       reads =
           string-digit src at (omega arith) (omega arith) (omega arith) c _
           (body-span src (at + 1) (get_or src at 0 - 48) (record { inside = omega arith; short = omega (arith, g.short); is = c }) _ (omega arith) (omega arith))
@@ -89,35 +91,35 @@ module _ (m at up opened : ℕ) where
 -- ---- a string with a hint
 
 module _ (src : List ℕ) (at up : ℕ) where
-  abbrev Met : ℕ → Type 0
-  Met next = (m : ℕ) → Hints src m at up next
+  abbrev Met : Option ℕ → Type 0
+  Met r = (m : ℕ) → Hints src m at up r
 
-  none-met : strict_lexeme (drop at src) ≡ refused → Met 0
-  none-met e = λ m. record { on = λ d. absurd (d refl); off = λ z l rest f. never (sym e ∙ f) }
+  none-met : strict_lexeme (drop at src) ≡ refused → Met None
+  none-met e = λ m. record { on = λ x d. absurd (none-some x d); off = λ z l rest f. never (sym e ∙ f) }
 
   module _ (h : at < length src) (u : Unread src at) where
-    pub hints-other : (get_or src at 0 ≡ 91 → ⊥) → Met 0
+    pub hints-other : (get_or src at 0 ≡ 91 → ⊥) → Met None
     unfolding ItemAt
-    hints-other c = none-met (other_item src at h u.unopened u.unshut 0 u.none (omega arith) c)
+    hints-other c = none-met (other_item src at h u.unopened u.unshut u.none c)
 
-    module _ (b : get_or src at 0 ≡ 91) (x : ℕ) (v : StringAt src (at + 1) x) where
-      pub hints-unhinted : x ≡ 0 → Met 0
+    module _ (b : get_or src at 0 ≡ 91) where
+      pub hints-unhinted : StringAt src (at + 1) None → Met None
       unfolding ItemAt
-      hints-unhinted z = none-met (unhinted-item src at h u.unopened u.unshut b x v z)
+      hints-unhinted v = none-met (unhinted-item src at h u.unopened u.unshut b v)
 
-      module _ (z : x ≡ 0 → ⊥) (to : ℕ) (et : to ≡ end_of x) where
+      module _ (x : ℕ) (v : StringAt src (at + 1) (Some x)) (to : ℕ) (et : to ≡ end_of x) where
         pub hints-inside : to ≤ length src
-        hints-inside = hint-inside src at h u.unopened u.unshut b x v z to et
+        hints-inside = hint-inside src at h u.unopened u.unshut b x v to et
 
-        module _ (d : ℕ) (t : HintAfter src to d) where
-          pub hints-unfollowed : d ≡ 0 → Met 0
-          unfolding ItemAt
-          hints-unfollowed y = none-met (unfollowed-item src at h u.unopened u.unshut b x v z to et d t y)
+        pub hints-unfollowed : HintAfter src to None → Met None
+        unfolding ItemAt
+        hints-unfollowed t = none-met (unfollowed-item src at h u.unopened u.unshut b x v to et t)
 
-          module _ (y : d ≡ 0 → ⊥) (from : ℕ) (ef : from ≡ start_of x) where
+        module _ (d : ℕ) (t : HintAfter src to (Some d)) where
+          module _ (from : ℕ) (ef : from ≡ start_of x) where
             hintedly : Hintedly src at from to (start_of d) (end_of d)
             unfolding ItemAt
-            hintedly = rw (et, ef) (hinted-item src at h u.unopened u.unshut b x v z to et d t y)
+            hintedly = rw (et, ef) (hinted-item src at h u.unopened u.unshut b x v to et d t)
 
             places : (at < from) × (from ≤ to) × (to < start_of d) × (start_of d ≤ end_of d) × (end_of d ≤ length src)
             places = hint-places src at from to (start_of d) (end_of d) hintedly
@@ -132,27 +134,27 @@ module _ (src : List ℕ) (at up : ℕ) where
                 ∙ omega (arith, places)
 
             module _ (m : ℕ) where
-              pub hints-apart : (m ≡ d + from * (shift * shift) + up * (shift * shift * shift) → ⊥) → Hints src m at up 0
+              pub hints-apart : (m ≡ d + from * (shift * shift) + up * (shift * shift * shift) → ⊥) → Hints src m at up None
               unfolding Unmet
-              hints-apart f = record { on = λ d. absurd (d refl); off = λ z l rest g. by l rest (sym hintedly.reads ∙ g) }
+              hints-apart f = record { on = λ x d. absurd (none-some x d); off = λ z l rest g. by l rest (sym hintedly.reads ∙ g) }
                 where
                   by : (l : Lexeme) (rest : List ℕ) → got (hinting hintedly.hint hintedly.octets) (drop (end_of d) src) ≡ got l rest → Unmet l m at up
                   by l rest g =
                       let i : hinting hintedly.hint hintedly.octets ≡ l = cc in
                       subst (λ (l : Lexeme). Unmet l m at up) i (λ e. f (e ∙ same-note))
 
-              pub hints-so : m ≡ d + from * (shift * shift) + up * (shift * shift * shift) → (end : ℕ) → end ≡ end_of d → Hints src m at up end
-              hints-so f end ee =
-                  let p = places in
-                  record {
-                    on = λ z. record {
-                      hint = hintedly.hint;
-                      octets = hintedly.octets;
-                      reads = rw ee hintedly.reads;
-                      ends = ee ∙ hintedly.ends ∙ ap (λ (i : ℕ). body_end (i + 1) hintedly.octets) hintedly.hint_ends;
-                      further = omega (arith, p);
-                      within = omega (arith, p);
-                      is = f ∙ sym same-note;
-                    };
-                    off = λ z. absurd (omega (arith, p));
-                  }
+              pub hints-so : m ≡ d + from * (shift * shift) + up * (shift * shift * shift) → (end : ℕ) → end ≡ end_of d → Hints src m at up (Some end)
+              hints-so f end ee = record { on = λ x z. subst (Hinting src m at up) (same_Some end x z) met; off = λ z. absurd (none-some end (sym z)) }
+                where
+                  met : Hinting src m at up end
+                  met =
+                      let p = places in
+                      record {
+                        hint = hintedly.hint;
+                        octets = hintedly.octets;
+                        reads = rw ee hintedly.reads;
+                        ends = ee ∙ hintedly.ends ∙ ap (λ (i : ℕ). body_end (i + 1) hintedly.octets) hintedly.hint_ends;
+                        further = omega (arith, p);
+                        within = omega (arith, p);
+                        is = f ∙ sym same-note;
+                      }

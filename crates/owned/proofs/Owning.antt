@@ -6,6 +6,7 @@ use native.Mathlib.Omega.{arith}
 use mathlib.Core.Path.{◌≡◌, refl, sym, ap, ◌∙◌, subst}
 use mathlib.Core.Bool.{Bool, true, false}
 use mathlib.Core.List.{List}
+use Rattle.std.specs.Prelude.{Option, Some, None}
 use lib.ListN.{length, get_or, drop}
 use lib.Seq.{get_or-drop}
 use lib.Dec.{eqb, leb}
@@ -131,8 +132,8 @@ module _ (src notes : List ℕ) (n at up opened k : ℕ) (o : Owning src notes n
           shut-on f p e =
               on src notes n (at + 1) p (opened - 1) k (close-on src notes n at up opened k w q x y h b z r c f p e) (omega arith) (close-some src notes n at up opened k w q x y h b z)
 
-    pub own-unread : (get_or src at 0 ≡ 41 → ⊥) → (s : ℕ) → StringAt src at s → s ≤ 0 → (get_or src at 0 ≡ 40 → ⊥) → Unread src at
-    own-unread b s v z a = let e : s ≡ 0 = omega arith in record { unopened = a; unshut = b; none = subst (StringAt src at) e v }
+    pub own-unread : (get_or src at 0 ≡ 41 → ⊥) → StringAt src at None → (get_or src at 0 ≡ 40 → ⊥) → Unread src at
+    own-unread b v a = record { unopened = a; unshut = b; none = v }
 
     module _ (f : k < n) where
       pub own_meets : Meetable at up (length src)
@@ -149,10 +150,10 @@ module _ (src notes : List ℕ) (n at up opened k : ℕ) (o : Owning src notes n
 
       -- ---- a string without a hint
 
-      module _ (s : ℕ) (v : StringAt src at s) (p : 0 < s) where
+      module _ (s : ℕ) (v : StringAt src at (Some s)) where
         plainly : Plainly src at (start_of s) (end_of s)
         unfolding ItemAt
-        plainly = string-item src at h s v p
+        plainly = string-item src at h s v
 
         places : (at < start_of s) × (start_of s ≤ end_of s) × (end_of s ≤ length src)
         places = plain-places src at (start_of s) (end_of s) plainly
@@ -198,10 +199,10 @@ module _ (src notes : List ℕ) (n at up opened k : ℕ) (o : Owning src notes n
         nearly = c.on e
 
         pub near-less : length src - m % shift < length src - at
-        near-less = plain-less nearly.span nearly.reads nearly.some nearly.is
+        near-less = plain-less nearly.span nearly.reads nearly.is
 
         pub near_on : Standing src notes n (m % shift) up opened (k + 1)
-        near_on = plain-on nearly.span nearly.reads nearly.some nearly.is
+        near_on = plain-on nearly.span nearly.reads nearly.is
 
       -- ---- a list begins
 
@@ -214,8 +215,8 @@ module _ (src notes : List ℕ) (n at up opened k : ℕ) (o : Owning src notes n
 
       -- ---- a string with a hint
 
-      module _ (next : ℕ) (c : Hints src m at up next) where
-        pub hint-off : next ≡ 0 → Checked src notes n false
+      module _ (r : Option ℕ) (c : Hints src m at up r) where
+        pub hint-off : r ≡ None → Checked src notes n false
         unfolding Next Unmet
         hint-off z =
             refuse src notes n at up opened k w
@@ -227,9 +228,9 @@ module _ (src notes : List ℕ) (n at up opened k : ℕ) (o : Owning src notes n
             by (atom x) rest d v = d
             by (hinting h x) rest d v = d (note-is m (hint_row at h x) up (w.given.claimed k f) (v.0 ∙ ap (recorded (hint_row at h x)) w.top))
 
-        module _ (z : next ≡ 0 → ⊥) where
+        module _ (next : ℕ) (z : r ≡ Some next) where
           met : Hinting src m at up next
-          met = c.on z
+          met = c.on next z
 
           pub hint-less : length src - next < length src - at
           hint-less = omega (arith, met.further, met.within)

@@ -1,5 +1,5 @@
 -- Octets and claimed notes gone through side by side: where a loop over them stands, and what a turn of it does.
-use Rattle.std.specs.Prelude.{ℕ, ◌+◌, ◌*◌, ◌-◌, ◌≤◌, ◌<◌, ◌≡◌, Bool, true, false, List, [], ◌∷◌, length, drop, get_or, eqb}
+use Rattle.std.specs.Prelude.{ℕ, ◌+◌, ◌*◌, ◌-◌, ◌≤◌, ◌<◌, ◌≡◌, Bool, true, false, List, [], ◌∷◌, length, drop, get_or, eqb, Option, Some, None}
 use Rattle.base.specs.Choice.{both}
 use Rattle.model.specs.Count.{shut_by}
 use Rattle.model.specs.Lexemes.{Lexeme, opening, closing, atom, hinting, strict_lexeme}
@@ -68,8 +68,7 @@ pub record Meetable (at up len : ℕ) : Type 0 where
 -- a string without a hint stands there, and this is its note
 pub record Nearly (src : List ℕ) (m at up : ℕ) : Type 0 where
   pub span : ℕ
-  pub reads : StringAt src at span
-  pub some : 0 < span
+  pub reads : StringAt src at (Some span)
   pub is : m ≡ span + up * (shift * shift * shift)
 
 -- it is so where it is told; of other nodes nothing is said
@@ -92,7 +91,7 @@ pub record Begun (m at up opened : ℕ) (so : Bool) : Type 0 where
 pub record Unread (src : List ℕ) (at : ℕ) : Type 0 where
   pub unopened : get_or src at 0 ≡ 40 → ⊥
   pub unshut : get_or src at 0 ≡ 41 → ⊥
-  pub none : StringAt src at 0
+  pub none : StringAt src at None
 
 -- no other lexeme stands there, and of one the note is another
 unfoldable pub Unmet : Lexeme → ℕ → ℕ → ℕ → Type 0
@@ -111,6 +110,6 @@ pub record Hinting (src : List ℕ) (m at up next : ℕ) : Type 0 where
   pub within : next ≤ length src
   pub is : m ≡ note_of (hint_row at hint octets) up
 
-pub record Hints (src : List ℕ) (m at up next : ℕ) : Type 0 where
-  pub on : (next ≡ 0 → ⊥) → Hinting src m at up next
-  pub off : next ≡ 0 → (l : Lexeme) (rest : List ℕ) → strict_lexeme (drop at src) ≡ got l rest → Unmet l m at up
+pub record Hints (src : List ℕ) (m at up : ℕ) (r : Option ℕ) : Type 0 where
+  pub on : (next : ℕ) → r ≡ Some next → Hinting src m at up next
+  pub off : r ≡ None → (l : Lexeme) (rest : List ℕ) → strict_lexeme (drop at src) ≡ got l rest → Unmet l m at up

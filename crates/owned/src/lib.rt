@@ -79,28 +79,21 @@ fn near(src: &[u8], note: usize, at: usize, up: usize) -> bool
     note / THIRD == up * SHIFT
 }
 
-// Neither a parenthesis nor a string without a hint stands at a place: where the string with a hint ends that stands there with this note,
-// or 0.
-fn hints(src: &[u8], note: usize, at: usize, up: usize) -> usize
+// Neither a parenthesis nor a string without a hint stands at a place: where the string with a hint ends that stands there with this note.
+fn hints(src: &[u8], note: usize, at: usize, up: usize) -> Option<usize>
     requires meetable { Meetable at up (length src.now) }
     requires unread { Unread src.now at }
     ensures { Hints src.now note at up result }
 {
     if src[at] != b'[' {
-        return 0;
+        return None;
     }
-    let h = string_at(src, at + 1);
-    if h == 0 {
-        return 0;
-    }
-    let d = after_hint(src, end_of(h));
-    if d == 0 {
-        return 0;
-    }
+    let h = string_at(src, at + 1)?;
+    let d = after_hint(src, end_of(h))?;
     if note == d + start_of(h) * THIRD + up * TOP {
-        return end_of(d);
+        return Some(end_of(d));
     }
-    0
+    None
 }
 
 // Whether, where a tree is whole, octets and nodes are at their end.
@@ -156,8 +149,7 @@ pub fn own(src: &[u8], nodes: usize, notes: &[usize]) -> bool
             return false;
         }
         let note = notes[seen];
-        let s = string_at(src, at);
-        if s > 0 {
+        if let Some(s) = string_at(src, at) {
             if note == s + up * TOP {
                 seen += 1;
                 at = note % SHIFT;
@@ -175,10 +167,9 @@ pub fn own(src: &[u8], nodes: usize, notes: &[usize]) -> bool
             }
             return false;
         }
-        let next = hints(src, note, at, up);
-        if next == 0 {
+        let Some(next) = hints(src, note, at, up) else {
             return false;
-        }
+        };
         seen += 1;
         at = next;
     }

@@ -5,6 +5,7 @@ use mathlib.Core.List.{List, ◌++◌}
 use lib.ListN.{length}
 use Rattle.model.specs.Answers.{reading}
 use Rattle.answers.specs.Cases.{outcome}
+use Rattle.std.specs.Prelude.{Ok}
 use Rattle.answers.specs.Cases.{Reading}
 use Rattle.pieces.specs.Feeding.{sheet_after, state_after, InTurn, Piece}
 use Rattle.pieces.specs.Handed.{Handed, starts, fed}
@@ -24,9 +25,9 @@ never-by-the-cutting h k = ((in-turn h).x-is ∙ sym (in-turn k).x-is, (in-turn 
 
 -- S 13.3: the octets taken so far, up to 32,769
 pub told-so-far : {first : List ℕ} {lent : ℕ} {s : List ℕ} {x : State} {sheet piece after : List ℕ} {r : Fed} → Handed first lent s x sheet → Piece x piece sheet lent after r
-    → (r.number ≡ 0) × (r.octets ≡ min (length (s ++ piece)) 32769)
+    → r.taken ≡ Ok (min (length (s ++ piece)) 32769)
 unfolding state_after
-told-so-far {first} {lent} {s} h p = let e = (p.goes_on first s (in-turn h)).0 in (ap (λ (f : Fed). f.number) e, ap (λ (f : Fed). f.octets) e)
+told-so-far {first} {lent} {s} h p = let e = (p.goes_on first s (in-turn h)).0 in ap (λ (f : Fed). f.taken) e
 
 -- S 13.3: they stand at the front of the sheet, as many as it has room for, and 16,384 at most
 pub begins-with : {first : List ℕ} {lent : ℕ} {s : List ℕ} {x : State} {sheet : List ℕ} → Handed first lent s x sheet → sheet ≡ sheet_after first s

@@ -18,7 +18,7 @@ use Rattle.model.specs.Tree.{Tree, canon, nodes, depth}
 use Rattle.model.proofs.Exact.{canon-sound}
 use Rattle.walk.specs.Extent.{Measures}
 use Rattle.walk.specs.Extent.{Measured}
-use Rattle.walk.specs.Extent.{Whole, Refused}
+use Rattle.walk.specs.Extent.{Refused}
 use Rattle.std.specs.Prelude.{Ok, Err}
 use Rattle.answers.specs.Cases.{outcome}
 use Rattle.answers.specs.Cases.{Reading}

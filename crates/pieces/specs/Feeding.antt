@@ -1,12 +1,13 @@
 -- Text in pieces (S 13): what state and sheet are after the octets fed so far, and what a piece does.
-use Rattle.std.specs.Prelude.{ℕ, ◌+◌, ◌-◌, min, ◌≡◌, Bool, false, List, ◌++◌, length, take, drop, leb, eqb}
+use Rattle.std.specs.Prelude.{ℕ, ◌+◌, ◌-◌, min, ◌≡◌, Bool, false, List, ◌++◌, length, take, drop, leb, eqb, Ok, Err}
 use Rattle.std.proofs.lemmas.List.Edits.{sets}
 use Rattle.base.specs.Choice.{pick, both}
-use Rattle.model.specs.Limits.{no_refusal, refusal_not_own, max_canonical}
+use Rattle.model.specs.Limits.{max_canonical}
 use Rattle.model.specs.Automaton.{start, run}
 use Rattle.pieces.specs.Capped.{cap, capped}
 use Rattle.pieces.specs.Tracks.{meant, coded}
 use Rattle.pieces.specs.declared.state.State.{State}
+use Rattle.answers.specs.declared.refusal.Refusal.TheVariants.{NotOwn}
 use Rattle.pieces.specs.declared.state.Fed.{Fed}
 use Rattle.pieces.specs.declared.track.Track.{Track}
 
@@ -42,13 +43,13 @@ pub record InTurn (first : List ℕ) (lent : ℕ) (s : List ℕ) (x : State) (sh
 unfoldable pub same_sizes : State → ℕ → ℕ → Bool
 same_sizes x room lent = both (eqb room x.room) (eqb lent x.lent)
 
--- S 13.2: 7, and a count of 0
+-- S 13.2: 7, and no count
 abbrev pub sent_back : State → Fed
-sent_back x = record { state = x; number = refusal_not_own; octets = 0 }
+sent_back x = record { state = x; taken = Err NotOwn }
 
 -- S 13.3: the octets taken so far
 abbrev pub taken : State → Fed
-taken x = record { state = x; number = no_refusal; octets = x.fed }
+taken x = record { state = x; taken = Ok x.fed }
 
 -- a piece, fed in a state, into a sheet; with the sheet afterwards, and the answer. With other states, or a sheet changed between, only the
 -- sizes are compared, and the rest is left open (S 13.6)

@@ -7,8 +7,9 @@ ghost use Rattle.pieces.specs.Feeding.{space, state_after, sent_back, Piece, sto
 
 use crate::numbers;
 use crate::track::Track;
+use answers::Refusal;
 
-#[derive(Clone, Copy)]
+#[derive(Clone, Copy, Debug, PartialEq, Eq)]
 pub struct State {
     // where the text stands, once it has gone past the sheet
     pub track: Track,
@@ -19,12 +20,11 @@ pub struct State {
     pub lent: usize,
 }
 
-// The state after a piece, the number (S 13.2), and the octets taken so far.
-#[derive(Clone, Copy)]
+// The state after a piece, and the octets taken so far, or why the piece was sent back (S 13.2).
+#[derive(Clone, Copy, Debug, PartialEq, Eq)]
 pub struct Fed {
     pub state: State,
-    pub number: u32,
-    pub octets: usize,
+    pub taken: Result<usize, Refusal>,
 }
 
 // How many octets of a text a sheet of this size holds.
@@ -39,11 +39,8 @@ pub fn follow(from: Track, text: &[u8]) -> Track
     ensures { meant result ≡ run capped (meant from) text.now }
 {
     let mut track = from;
-    let mut i: usize = 0;
-    while i < text.len() {
-        let octet = text[i];
-        track = track.step(octet);
-        i += 1;
+    for octet in text {
+        track = track.step(*octet);
     }
     track
 }
@@ -103,8 +100,7 @@ impl State {
     {
         Fed {
             state: self,
-            number: 7,
-            octets: 0,
+            taken: Err(Refusal::NotOwn),
         }
     }
 
@@ -127,8 +123,7 @@ impl State {
         self.fed = octets;
         Fed {
             state: self,
-            number: 0,
-            octets,
+            taken: Ok(octets),
         }
     }
 }

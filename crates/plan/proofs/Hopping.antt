@@ -1,7 +1,7 @@
 -- Node counts hopped over, by notes.
 use Prim.Native.Nat.{ℕ, suc, ◌+◌, ◌-◌, ◌≤◌, ◌<◌}
 use native.Mathlib.Omega.{arith}
-use mathlib.Core.Path.{◌≡◌, refl, sym, ap, ◌∙◌}
+use mathlib.Core.Path.{◌≡◌, sym, ap, ◌∙◌}
 use mathlib.Core.List.{List}
 use lib.ListN.{length, get_or}
 use lib.Dec.{ltb}
@@ -38,36 +38,36 @@ module _ (notes : List ℕ) (node : ℕ) where
   pub count-list : list_mark ≤ third_part (get_or notes node 0) → Counts notes node (third_part (get_or notes node 0) - list_mark)
   count-list h = record { is = list_count _ _ (third_part (get_or notes node 0)) h; few = omega arith }
 
--- ---- the loop: hopping on from here gives what hopping from the start gives
-pub record Hopping (notes : List ℕ) (end k from left j : ℕ) : Type 0 where
-  pub same : element (row_at notes) end left j ≡ element (row_at notes) end k from
+-- ---- the loop: hopping on from here, where so many of k elements are past, gives what hopping from the start gives
+pub record Hopping (notes : List ℕ) (end k from past j : ℕ) : Type 0 where
+  pub same : element (row_at notes) end (k - past) j ≡ element (row_at notes) end k from
   pub near : j ≤ end + shift
 
 module _ (notes : List ℕ) (end k from : ℕ) (g : Hoppable (length notes) end from) where
-  pub hop-start : Hopping notes end k from k from
-  hop-start = record { same = refl; near = omega (arith, g.near) }
+  pub hop-start : Hopping notes end k from 0 from
+  hop-start = let z : k - 0 ≡ k = omega arith in record { same = ap (λ (n : ℕ). element (row_at notes) end n from) z; near = omega (arith, g.near) }
 
-  module _ (left j : ℕ) (v : Hopping notes end k from left j) where
-    pub hop-past : 0 < left → end ≤ j → Hops notes end k from None
+  module _ (past j : ℕ) (v : Hopping notes end k from past j) where
+    pub hop-past : past < k → end ≤ j → Hops notes end k from None
     unfolding Hops element
     hop-past h l =
-        let z : left ≡ suc (left - 1) = omega arith in
+        let z : k - past ≡ suc (k - (past + 1)) = omega arith in
         sym v.same ∙ ap (λ (n : ℕ). element (row_at notes) end n j) z ∙ unpicked _ _ (le-ltb j end l)
 
-    pub hop-end : left ≤ 0 → Hops notes end k from (Some j)
+    pub hop-end : k ≤ past → Hops notes end k from (Some j)
     unfolding Hops element
-    hop-end h = let z : left ≡ 0 = omega arith in sym v.same ∙ ap (λ (n : ℕ). element (row_at notes) end n j) z
+    hop-end h = let z : k - past ≡ 0 = omega arith in sym v.same ∙ ap (λ (n : ℕ). element (row_at notes) end n j) z
 
-    module _ (h : 0 < left) (l : j < end) where
+    module _ (h : past < k) (l : j < end) where
       pub hop-inside : j < length notes
       hop-inside = omega (arith, g.fits)
 
-      pub hop-on : (c : ℕ) → Counts notes j c → Hopping notes end k from (left - 1) (j + c)
+      pub hop-on : (c : ℕ) → Counts notes j c → Hopping notes end k from (past + 1) (j + c)
       unfolding element
       hop-on c n =
-          let z : left ≡ suc (left - 1) = omega arith in
+          let z : k - past ≡ suc (k - (past + 1)) = omega arith in
           record {
-            same = ap (λ (i : ℕ). element (row_at notes) end (left - 1) (j + i)) n.is
+            same = ap (λ (i : ℕ). element (row_at notes) end (k - (past + 1)) (j + i)) n.is
                 ∙ sym (picked _ _ (lt-ltb j end l)) ∙ sym (ap (λ (i : ℕ). element (row_at notes) end i j) z) ∙ v.same;
             near = omega (arith, n.few);
           }

@@ -1,5 +1,5 @@
 -- The plan: what is found, resized and judged.
-use Prim.Native.Nat.{ℕ, ◌≤◌, ◌<◌}
+use Prim.Native.Nat.{ℕ}
 use native.Mathlib.Omega.{arith}
 use mathlib.Core.Path.{◌≡◌, refl, sym, ap, ap₂, ◌∙◌, subst}
 use mathlib.Core.Bool.{Bool, true, false, not}
@@ -29,7 +29,6 @@ use Rattle.plan.proofs.Resizing.{resizable, long-is, nodes-are, deep-where}
 use Rattle.plan.specs.declared.Asked.{Asked}
 use Rattle.walk.specs.declared.Extent.{Extent}
 use Rattle.plan.specs.declared.Spot.{Spot}
-use Rattle.plan.specs.declared.Plan.{Plan}
 use Rattle.std.specs.Prelude.{Ok, Err, ⊤}
 use Rattle.answers.specs.declared.refusal.Refusal.{Refusal}
 use Rattle.answers.specs.Cases.{Judging, Judges}

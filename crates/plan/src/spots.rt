@@ -15,12 +15,10 @@ fn level(notes: &[usize], node: usize) -> usize
     ensures { Levels notes.now node result }
 {
     let mut level: usize = 0;
-    let mut j: usize = 0;
-    while j < node {
+    for j in 0..node {
         if tables::over(notes, j, node - j) {
             level += 1;
         }
-        j += 1;
     }
     level
 }
@@ -61,14 +59,12 @@ fn hop(notes: &[usize], end: usize, k: usize, from: usize) -> Option<usize>
     requires { Hoppable (length notes.now) end from }
     ensures { Hops notes.now end k from result }
 {
-    let mut left = k;
     let mut j = from;
-    while left > 0 {
+    for _ in 0..k {
         if j >= end {
             return None;
         }
         j += count_of(notes, j);
-        left -= 1;
     }
     Some(j)
 }

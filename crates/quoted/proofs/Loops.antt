@@ -1,5 +1,5 @@
 -- A quoted string in which nothing is escaped.
-use Prim.Native.Nat.{ℕ, ◌+◌, ◌-◌, ◌≤◌, ◌<◌}
+use Prim.Native.Nat.{ℕ, ◌+◌, ◌-◌, ◌<◌}
 use native.Mathlib.Omega.{arith}
 use mathlib.Core.Path.{◌≡◌, refl, ap, ◌∙◌}
 use mathlib.Core.List.{List, [], append-nil}
@@ -17,10 +17,7 @@ module _ (src : List ℕ) (at j : ℕ) (s : Stretch (marked rules 34) src at (ta
       let z : j + 1 - at - 1 ≡ j - at = omega (arith, s.on) in
       let c : Last (marked rules 34) src j [] (j + 1) = piece-quote src j h _ refl e in
       record {
-        from = omega (arith, s.on);
+        on = omega (arith, s.on);
         within = omega arith;
-        is = λ _. s.more ∙ rw (c.ends, z) (ap (λ (d : List ℕ). got d (drop (j + 1) src)) (append-nil (take (j - at) (drop at src))));
+        is = s.more ∙ rw (c.ends, z) (ap (λ (d : List ℕ). got d (drop (j + 1) src)) (append-nil (take (j - at) (drop at src))));
       }
-
-pub unescaped-none : (src : List ℕ) (at : ℕ) → at ≤ length src → Unescaped src at at
-unescaped-none src at h = record { from = omega arith; within = h; is = λ g. absurd (omega arith) }

@@ -25,8 +25,8 @@ Quotes src at (Some (Gone next)) = Chunk (marked rules 34) src at [] next
 Quotes src at (Some (Quote next)) = Last (marked rules 34) src at [] next
 Quotes src at None = marked rules 34 (drop at src) ≡ refused
 
--- the string whose octets begin at a place has nothing escaped and ends at r, its mark included; or it is another
+-- the string whose octets begin at a place has nothing escaped and ends at r, its mark included
 pub record Unescaped (src : List ℕ) (at r : ℕ) : Type 0 where
-  pub from : at ≤ r
+  pub on : at < r
   pub within : r ≤ length src
-  pub is : at < r → marked rules 34 (drop at src) ≡ got (take (r - at - 1) (drop at src)) (drop r src)
+  pub is : marked rules 34 (drop at src) ≡ got (take (r - at - 1) (drop at src)) (drop r src)

@@ -1,7 +1,7 @@
 // Quoted strings, from after their opening mark: a piece at a place, and runs of octets that stand for themselves.
 #![tactic(auto)]
 
-ghost use Rattle.std.specs.Prelude.{◌-◌, ◌≤◌, length, take, drop};
+ghost use Rattle.std.specs.Prelude.{◌-◌, ◌≤◌, length, take, drop, IfSome};
 ghost use Rattle.model.specs.Grammar.{rules};
 ghost use Rattle.model.specs.Strings.{marked};
 ghost use Rattle.scan.specs.Marks.{Stretch};
@@ -42,16 +42,16 @@ pub fn plain_end(src: &[u8], at: usize) -> usize
     class_end(src, at, src.len(), octets::SPACE)
 }
 
-// The place after the closing mark of a string in which nothing is escaped; `at` itself where it is another.
-pub fn unescaped_end(src: &[u8], at: usize) -> usize
+// The place after the closing mark of a string in which nothing is escaped.
+pub fn unescaped_end(src: &[u8], at: usize) -> Option<usize>
     requires { at ≤ length src.now }
-    ensures { Unescaped src.now at result }
+    ensures { IfSome result (Unescaped src.now at) }
 {
     let end = plain_end(src, at);
     if end < src.len() {
         if src[end] == b'"' {
-            return end + 1;
+            return Some(end + 1);
         }
     }
-    at
+    None
 }

@@ -12,8 +12,7 @@ pub fn skip_at(src: &[u8], at: usize) -> usize
     requires { at ≤ length src.now }
     ensures { Skipped src.now at result }
 {
-    let mut i = at;
-    while i < src.len() {
+    for i in at..src.len() {
         let c = class_of(src[i]);
         if c < octets::BLANK {
             return i;
@@ -21,9 +20,8 @@ pub fn skip_at(src: &[u8], at: usize) -> usize
         if c > octets::SPACE {
             return i;
         }
-        i += 1;
     }
-    i
+    src.len()
 }
 
 // The end of octets of the class `low` and above, from `at` on and before `end`: one by one.
@@ -31,14 +29,12 @@ fn class_rest(src: &[u8], at: usize, end: usize, low: u8) -> usize
     requires { (at ≤ end) × (end ≤ length src.now) }
     ensures { Reach src.now at end low result }
 {
-    let mut i = at;
-    while i < end {
+    for i in at..end {
         if class_of(src[i]) < low {
             return i;
         }
-        i += 1;
     }
-    i
+    end
 }
 
 // The same, by fours, and then what is left.
@@ -78,10 +74,9 @@ pub fn copy(src: &[u8], from: usize, len: usize, out: &mut [u8], pos: usize) -> 
     requires { (from + len ≤ length src.now) × (pos + len ≤ length out.old) }
     ensures { Wrote (take len (drop from src.now)) pos out.old out.new result }
 {
-    let mut k: usize = 0;
-    while k < len {
+    // std's copy is a call, and slower for runs of a few octets.
+    for k in 0..len {
         out[pos + k] = src[from + k];
-        k += 1;
     }
     pos + len
 }

@@ -8,8 +8,7 @@ fn digits_on(src: &[u8], at: usize) -> usize
     requires { (at ≤ length src.now) × (length src.now ≤ max_source) }
     ensures { DigitsOn src.now at result }
 {
-    let mut i = at;
-    while i < src.len() {
+    for i in at..src.len() {
         let b = src[i];
         if b == b':' {
             return src.len();
@@ -20,9 +19,8 @@ fn digits_on(src: &[u8], at: usize) -> usize
         if b > b'9' {
             return i;
         }
-        i += 1;
     }
-    i
+    src.len()
 }
 
 // At a place where no verbatim string stands.

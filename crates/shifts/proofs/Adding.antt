@@ -1,5 +1,5 @@
 -- Lines added up, one after the other.
-use Prim.Native.Nat.{ℕ, zero, suc, ◌+◌, ◌-◌, ◌*◌, ◌≤◌, ◌<◌}
+use Prim.Native.Nat.{ℕ, zero, suc, ◌+◌, ◌*◌, ◌≤◌, ◌<◌}
 use native.Mathlib.Omega.{arith}
 use mathlib.Core.Path.{◌≡◌, refl, sym, ap, ap₂, ◌∙◌}
 use mathlib.Core.List.{List, [], ◌∷◌}
@@ -79,9 +79,6 @@ module _ (c notes : List ℕ) (count node : ℕ) (k : KnownAt c notes count node
   pub stop-fits : Fits w64 (node + row.nodes)
   stop-fits = omega (arith, row-counted c notes count node k row is, k.known.many)
 
-  pub start_fits : Fits w64 (node + 1)
-  start_fits = omega (arith, k.inside, k.known.many)
-
   pub adding-starts : row.kind ≡ 2 → Adding c notes count node (node + row.nodes) (node + 1) 0 0
   unfolding sum_at elements
   adding-starts a =
@@ -134,9 +131,6 @@ module _ (c notes : List ℕ) (count node stop at n q : ℕ) (inv : Adding c not
         pub quarters-fit : Fits w32 (q + m)
         quarters-fit = omega (arith, inv.place, inv.bound, inv.known.many, inv.few, few)
 
-        pub place-fits : Fits w64 (at + 4)
-        place-fits = omega (arith, inv.bound, inv.known.many)
-
         pub adding-goes : Adding c notes count node stop (at + 4) (n + 1) (q + m)
         adding-goes =
             record {
@@ -171,5 +165,8 @@ module _ (c notes : List ℕ) (count node stop at n q : ℕ) (inv : Adding c not
         row = λ m e. no-row m e;
       }
 
-pub adding-less : (stop at : ℕ) → at < stop → stop - (at + 4) < stop - at
-adding-less stop at h = omega arith
+-- nothing follows the line at `at`
+pub adding-last : (c notes : List ℕ) (count node stop at n q : ℕ) → Adding c notes count node stop at n q → at < stop → (r : Count) → CountAt c notes count at r
+    → (m : ℕ) → r ≡ Some m → stop ≤ at + 4 → SumAt c notes count node (all_lines (n + 1) (q + m))
+adding-last c notes count node stop at n q inv more r v m e h =
+    adding-ends c notes count node stop (at + 4) (n + 1) (q + m) (adding-goes c notes count node stop at n q inv more r v m e) h

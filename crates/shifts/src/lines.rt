@@ -57,10 +57,9 @@ pub fn sum_at(canonical: &[u8], notes: &[usize], nodes: usize, node: usize) -> R
         });
     }
     let stop = node + row.nodes as usize;
-    let mut at = node + 1;
     let mut lines: usize = 0;
     let mut quarters: u32 = 0;
-    while at < stop {
+    for at in (node + 1..stop).step_by(4) {
         let Some(count) = count_at(canonical, notes, nodes, at) else {
             return Err(Misfit {
                 refusal: Refusal::NotLine,
@@ -69,7 +68,6 @@ pub fn sum_at(canonical: &[u8], notes: &[usize], nodes: usize, node: usize) -> R
         };
         lines += 1;
         quarters += count;
-        at += 4;
     }
     Ok(Added { lines, quarters })
 }

@@ -2,10 +2,11 @@
 use Prim.Native.Nat.{ℕ, ◌+◌, ◌≤◌, ◌<◌}
 use native.Mathlib.Omega.{arith}
 use mathlib.Core.Path.{◌≡◌, refl, sym, ap, ◌∙◌}
-use mathlib.Core.Bool.{Bool, true, false}
+use mathlib.Core.Bool.{Bool, true, false, ◌&&◌}
 use mathlib.Core.List.{List, [], ◌∷◌}
 use lib.ListN.{length, get_or}
-use borrow.Author.Tests.{le-leb, lt-leb, eq-eqb, ne_eqb, eqb-true, eqb-false}
+use borrow.Author.Tests.{le-leb, lt-leb, ne_eqb, eqb-false}
+use Rattle.std.specs.List.{list_all}
 use Rattle.base.specs.Choice.{either, among, every}
 use Rattle.base.proofs.Cases.{by_bool, by_le, by-eq, differ, picked, unpicked, either-cases, neither, among-true, among_in, among-low, among-high}
 use Rattle.model.specs.Octets.{is_token_start, is_token_octet, is_printable}
@@ -27,13 +28,6 @@ over-printed b c k h =
     (λ u. either-cases (among 35 91 b) (among 93 126 b) u
     (λ t. among_in 32 126 b (omega (arith, among-true 35 91 b t)) (omega (arith, among-true 35 91 b t)))
     (λ t. among_in 32 126 b (omega (arith, among-true 93 126 b t)) (omega (arith, among-true 93 126 b t))))
-
-class-printed : (b c : ℕ) → Class b c → (c ≡ 0 → ⊥) → (c ≡ 3 → ⊥) → among 32 126 b ≡ true
-class-printed b c k n m =
-    by_le 4 c (λ h. over-printed b c k h)
-    (λ h. by-eq c 1
-    (λ e. let z : b ≡ 34 = eqb-true b 34 (k.quote ∙ eq-eqb c 1 e) in rw z)
-    (λ f. let z : b ≡ 92 = eqb-true b 92 (k.backslash ∙ eq-eqb c 2 (omega arith)) in rw z))
 
 -- whatever is printable has a class from 4 on, but for the quotation mark and the backslash
 pub class-unprinted : (b c : ℕ) → Class b c → (c < 4) → (c ≡ 1 → ⊥) → (c ≡ 2 → ⊥) → among 32 126 b ≡ false
@@ -140,29 +134,13 @@ module _ (src : List ℕ) (start end : ℕ) (long : end ≤ length src) where
 
 -- ---- whether octets are printable
 
-pub record Printing (src : List ℕ) (start end i : ℕ) : Type 0 where
-  pub within : i ≤ end
-  pub same : every (among 32 126) (cut src start end) ≡ every (among 32 126) (cut src i end)
-
-pub print-start : (src : List ℕ) (start end : ℕ) → start ≤ end → Printing src start end start
-print-start src start end h = record { within = h; same = refl }
-
-module _ (src : List ℕ) (start end : ℕ) (long : end ≤ length src) (i : ℕ) (w : Printing src start end i) where
-  pub print-end : end ≤ i → true ≡ every (among 32 126) (cut src start end)
-  print-end h = sym (w.same ∙ every-none (among 32 126) src end long i h)
-
-  module _ (h : i < end) (c : ℕ) (k : Class (get_or src i 0) c) where
-    stops : c < 4 → (c ≡ 1 → ⊥) → (c ≡ 2 → ⊥) → false ≡ every (among 32 126) (cut src start end)
-    stops l n m = sym (w.same ∙ every-stops (among 32 126) src end long i h (class-unprinted (get_or src i 0) c k l n m))
-
-    pub print-other : c ≡ 0 → false ≡ every (among 32 126) (cut src start end)
-    print-other e = stops (omega arith) (λ z. omega arith) (λ z. omega arith)
-
-    pub print-white : c ≡ 3 → false ≡ every (among 32 126) (cut src start end)
-    print-white e = stops (omega arith) (λ z. omega arith) (λ z. omega arith)
-
-    pub print-on : (c ≡ 0 → ⊥) → (c ≡ 3 → ⊥) → Printing src start end (i + 1)
-    print-on n m = record { within = omega arith; same = w.same ∙ every_here (among 32 126) src end long i h (class-printed (get_or src i 0) c k n m) }
+pub every-all : (test : ℕ → Bool) (s : List ℕ) → list_all test s ≡ every test s
+unfolding every
+every-all test [] = refl
+every-all test (b ∷ s) =
+    by_bool (test b)
+    (λ e. ap (λ (t : Bool). t && list_all test s) e ∙ every-all test s ∙ sym (picked _ _ e))
+    (λ e. ap (λ (t : Bool). t && list_all test s) e ∙ sym (unpicked _ _ e))
 
 -- ---- the spelling
 

@@ -31,18 +31,7 @@ fn printable(src: &[u8], start: usize, end: usize) -> bool
     requires { (start ≤ end) × (end ≤ length src.now) }
     ensures { result ≡ every (among 32 126) (cut src.now start end) }
 {
-    let mut i = start;
-    while i < end {
-        let c = class_of(src[i]);
-        if c == octets::OTHER {
-            return false;
-        }
-        if c == octets::BLANK {
-            return false;
-        }
-        i += 1;
-    }
-    true
+    src[start..end].iter().all(|b| b' ' <= *b && *b <= b'~')
 }
 
 // Two octets; the place after them.
@@ -131,11 +120,9 @@ fn put_pairs(src: &[u8], start: usize, end: usize, out: &mut [u8], pos: usize) -
     requires end_in_bounds { pos + length (hex_all (cut src.now start end)) + 16 ≤ length out.old }
     ensures { Front (hex_all (cut src.now start end)) pos out.old out.new result }
 {
-    let mut i = start;
     let mut o = pos;
-    while i < end {
+    for i in start..end {
         o = put_pair(src[i], out, o);
-        i += 1;
     }
     o
 }

@@ -195,10 +195,10 @@ module _ (notes : List ℕ) (start first up : ℕ) where
     pub put-long : length cur ≡ length notes
     put-long = a.long
 
-    pub put-end : length cur ≤ j → Put notes start first up cur
+    pub put-end : length notes ≤ j → Put notes start first up cur
     put-end h = record { long = a.long; done = λ i k. a.done i (omega (arith, a.long)) }
 
-    module _ (h : j < length cur) where
+    module _ (h : j < length notes) where
       here-is : get_or cur j 0 ≡ get_or notes j 0
       here-is = a.rest j (omega arith)
 
@@ -219,7 +219,7 @@ module _ (notes : List ℕ) (start first up : ℕ) where
             next = sym (unpicked _ _ (ne_eqb (j + 1) 0 (λ z. omega arith)));
             done = λ i k.
                 by-eq i j
-                (λ z. rw z (get_or-set_same cur j v 0 h ∙ e ∙ ap₂ (λ (m u : ℕ). own_note m start u) here-is a.next))
+                (λ z. rw z (get_or-set_same cur j v 0 (omega (arith, a.long)) ∙ e ∙ ap₂ (λ (m u : ℕ). own_note m start u) here-is a.next))
                 (λ z. stored_other cur j v i z ∙ a.done i (omega arith));
             rest = λ i k. stored_other cur j v i (λ z. omega arith) ∙ a.rest i (omega arith);
           }

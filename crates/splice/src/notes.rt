@@ -83,16 +83,11 @@ fn around(notes: &mut [usize], first: usize, end: usize, by: Growth) -> usize
     ensures { Grown notes.old first end by notes.new result }
 {
     let mut up: usize = 0;
-    let mut j: usize = 0;
-    while j < first {
-        // A list ends its turn by itself: no branches meet, and no other note is stored.
+    for j in 0..first {
         if over(notes[j], end) {
             notes[j] = grown(notes[j], by);
             up = j;
-            j += 1;
-            continue;
         }
-        j += 1;
     }
     up
 }
@@ -103,10 +98,8 @@ fn lower(notes: &mut [usize], first: usize, from: usize, to: usize, n: usize, by
     requires to_le_from { to ≤ from }
     ensures { Shifted notes.old first from to n by notes.new }
 {
-    let mut j: usize = 0;
-    while j < n {
+    for j in 0..n {
         notes[to + j] = later(notes[from + j], first, by);
-        j += 1;
     }
 }
 
@@ -116,9 +109,7 @@ fn raise(notes: &mut [usize], first: usize, from: usize, to: usize, n: usize, by
     requires from_le_to { from ≤ to }
     ensures { Shifted notes.old first from to n by notes.new }
 {
-    let mut j = n;
-    while j > 0 {
-        j -= 1;
+    for j in (0..n).rev() {
         notes[to + j] = later(notes[from + j], first, by);
     }
 }
@@ -141,11 +132,9 @@ fn put(notes: &mut [usize], start: usize, first: usize, up: usize)
     ensures { Put notes.old start first up notes.new }
 {
     let mut above = up;
-    let mut j: usize = 0;
-    while j < notes.len() {
-        notes[j] = own(notes[j], start, above);
+    for note in notes {
+        *note = own(*note, start, above);
         above = first;
-        j += 1;
     }
 }
 

@@ -2,32 +2,41 @@
 use Prim.Native.Nat.{ℕ, zero, suc, ◌+◌, ◌*◌, ◌≤◌, ◌<◌}
 use native.Mathlib.Omega.{arith}
 use mathlib.Core.Path.{◌≡◌, refl, sym, ap, ◌∙◌}
-use mathlib.Core.Bool.{false}
-use mathlib.Core.List.{List, [], ◌∷◌}
+use mathlib.Core.Bool.{Bool, true, false, ◌&&◌}
+use mathlib.Core.List.{List}
 use lib.ListN.{length, get_or}
 use lib.Seq.{ext_get_or}
 use lib.Dec.{eqb}
-use borrow.Author.Tests.{eq-eqb, ne_eqb}
-use Rattle.base.specs.Choice.{equal}
+use Rattle.base.specs.Choice.{both, equal}
 use Rattle.base.proofs.Cases.{by-eq}
-use Rattle.base.proofs.Lists.{same-equal}
 use Rattle.model.specs.Table.{width}
 use Rattle.walk.specs.Events.{record_at}
 use Rattle.tables.specs.Rows.{row_list, record_list, RowAt}
 use Rattle.tables.specs.declared.rows.Row.{Row}
-use Rattle.tables.proofs.Records.{unequal, record-at, record-length}
+use Rattle.tables.proofs.Records.{record-at, record-length}
 
--- the k-th differs
-pub apart : (k : ℕ) (one : Row) (up : ℕ) (other : Row) (over : ℕ) → (get_or (record_list one up) k 0 ≡ get_or (record_list other over) k 0 → ⊥) → false ≡ equal (record_list one up) (record_list other over)
-apart k one up other over d = unequal (record_list one up) (record_list other over) k d
+-- nine tests, grouped as a list has them, and as a record and what is around it have them
+nine : (a b c d e f g h i : Bool) → both a (both b (both c (both d (both e (both f (both g (both h (both i true)))))))) ≡ ((a && (b && (c && (d && (e && (f && (g && h))))))) && i)
+nine false b c d e f g h i = refl
+nine true false c d e f g h i = refl
+nine true true false d e f g h i = refl
+nine true true true false e f g h i = refl
+nine true true true true false f g h i = refl
+nine true true true true true false g h i = refl
+nine true true true true true true false h i = refl
+nine true true true true true true true false i = refl
+nine true true true true true true true true false = refl
+nine true true true true true true true true true = refl
 
-pub all_but_last : (one : Row) (up : ℕ) (other : Row) (over : ℕ) → one.kind ≡ other.kind → one.start ≡ other.start → one.end ≡ other.end → one.nodes ≡ other.nodes
-    → one.hint_start ≡ other.hint_start → one.hint_end ≡ other.hint_end → one.data_start ≡ other.data_start → one.data_end ≡ other.data_end
-    → eqb up over ≡ equal (record_list one up) (record_list other over)
-all_but_last one up other over a b c d e f g i =
-    by-eq up over
-    (λ h. eq-eqb _ _ h ∙ sym (same-equal (record_list one up) (record_list other over) (λ t. a t ∷ b t ∷ c t ∷ d t ∷ e t ∷ f t ∷ g t ∷ i t ∷ h t ∷ [])))
-    (λ h. ne_eqb _ _ h ∙ unequal (record_list one up) (record_list other over) 8 h)
+-- their lists are the same where the records and what is around them are
+pub alike : (one : Row) (up : ℕ) (other : Row) (over : ℕ)
+    → equal (record_list one up) (record_list other over)
+    ≡ ((eqb one.kind other.kind && (eqb one.start other.start && (eqb one.end other.end && (eqb one.nodes other.nodes && (eqb one.hint_start other.hint_start
+    && (eqb one.hint_end other.hint_end && (eqb one.data_start other.data_start && eqb one.data_end other.data_end))))))) && eqb up over)
+unfolding equal
+alike one up other over =
+    nine (eqb one.kind other.kind) (eqb one.start other.start) (eqb one.end other.end) (eqb one.nodes other.nodes) (eqb one.hint_start other.hint_start)
+    (eqb one.hint_end other.hint_end) (eqb one.data_start other.data_start) (eqb one.data_end other.data_end) (eqb up over)
 
 -- ---- a record taken from a table
 

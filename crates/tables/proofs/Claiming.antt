@@ -164,13 +164,6 @@ module _ (r : List ℕ) (m : ℕ) (c : Claim r m) where
       let f : note_by (span_by a b) x p ≡ note_by (span_by (a - 1 + 1) (b + 1 - 1)) (list_mark + (x - list_mark)) p = omega (arith, g.begins) in
       whole ∙ f ∙ ap note_from (sym (like _ e)))
 
-pub no-claim-zero : (r : List ℕ) → Claim r 0 → ⊥
-no-claim-zero r c =
-    kinds (start_part 0) (end_part 0) (third_part 0) c.sound
-    (λ z g e. omega (arith, g.begins))
-    (λ z g e. omega arith)
-    (λ z g e. omega arith)
-
 -- ---- the notes of a tree
 
 pub tree-claim : (t : Tree) (k : ℕ) → length (canon t) ≤ max_source → k < nodes t

@@ -1,19 +1,12 @@
 -- The numbers of a record.
 use Prim.Native.Nat.{ℕ, ◌+◌, ◌*◌, ◌≤◌, ◌<◌}
 use native.Mathlib.Omega.{arith}
-use mathlib.Core.Path.{◌≡◌, sym, ap, ◌∙◌}
-use mathlib.Core.Bool.{false}
+use mathlib.Core.Path.{◌≡◌, ap, ◌∙◌}
 use mathlib.Core.List.{List}
 use lib.ListN.{length, drop, get_or, length-drop}
 use lib.Seq.{get_or-take, get_or-drop, length-take-le}
-use Rattle.base.specs.Choice.{equal}
-use Rattle.base.proofs.Cases.{by_bool}
-use Rattle.base.proofs.Lists.{equal-true}
 use Rattle.model.specs.Table.{width}
 use Rattle.walk.specs.Events.{record_at}
-
-pub unequal : (x y : List ℕ) (k : ℕ) → (get_or x k 0 ≡ get_or y k 0 → ⊥) → false ≡ equal x y
-unequal x y k n = by_bool (equal x y) (λ t. absurd (n (ap (λ (l : List ℕ). get_or l k 0) (equal-true x y t)))) (λ t. sym t)
 
 -- the k-th number of a record
 pub record-at : (table : List ℕ) (n k : ℕ) → k < 9 → get_or (record_at table n) k 0 ≡ get_or table (n * 9 + k) 0

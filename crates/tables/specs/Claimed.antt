@@ -1,5 +1,5 @@
 -- The note that a record claims, and what it takes to be one that a note tells.
-use Rattle.std.specs.Prelude.{ℕ, ◌+◌, ◌*◌, ◌-◌, ◌≤◌, ◌<◌, ◌≡◌, List, get_or, eqb}
+use Rattle.std.specs.Prelude.{ℕ, ◌+◌, ◌*◌, ◌-◌, ◌≤◌, ◌<◌, ◌≡◌, List, get_or, eqb, Option, Some, None}
 use Rattle.base.specs.Choice.{pick}
 use Rattle.model.specs.Limits.{max_source}
 use Rattle.model.specs.Table.{recorded}
@@ -21,10 +21,10 @@ pub record Claim (r : List ℕ) (m : ℕ) : Type 0 where
   pub sound : Sound (start_part m) (end_part m) (third_part m)
   pub told : r ≡ record_by m
 
--- it, or 0 where no note does
-pub record Claimed (r : List ℕ) (m : ℕ) : Type 0 where
-  pub yes : (m ≡ 0 → ⊥) → Claim r m
-  pub no : m ≡ 0 → (x : ℕ) → Claim r x → ⊥
+-- it, or None where no note does
+pub record Claimed (r : List ℕ) (o : Option ℕ) : Type 0 where
+  pub yes : (m : ℕ) → o ≡ Some m → Claim r m
+  pub no : o ≡ None → (x : ℕ) → Claim r x → ⊥
 
 -- a string's octets, so few that their number has one digit
 pub record Short (a b : ℕ) : Type 0 where

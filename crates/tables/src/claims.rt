@@ -1,4 +1,4 @@
-// The note of a record, which it claims: whether octets bear it out is not asked here. 0 where no note tells such a record.
+// The note of a record, which it claims: whether octets bear it out is not asked here. None where no note tells such a record.
 ghost use Rattle.std.specs.Prelude.{◌≡◌, [], ◌∷◌};
 ghost use Rattle.tables.specs.Rows.{record_list};
 ghost use Rattle.tables.specs.Claimed.{Claimed, Short};
@@ -9,7 +9,7 @@ use sheets::notes::{LIST, THIRD, TOP};
 use sheets::places::{SHIFT, pack};
 
 // A string's of fewer than ten octets: one digit and a colon stand before them.
-fn short_claim(row: Row, up: u32) -> usize
+fn short_claim(row: Row, up: u32) -> Option<usize>
     requires kind_value { row.kind ≡ 0 }
     requires short { Short row.data_start row.data_end }
     ensures { Claimed (record_list row up) result }
@@ -17,38 +17,38 @@ fn short_claim(row: Row, up: u32) -> usize
     let start = row.data_start as usize;
     let end = row.data_end as usize;
     if row.start as usize + 2 != start {
-        return 0;
+        return None;
     }
     if row.end != row.data_end {
-        return 0;
+        return None;
     }
     if row.nodes != 1 {
-        return 0;
+        return None;
     }
     if row.hint_start != 0 {
-        return 0;
+        return None;
     }
     if row.hint_end != 0 {
-        return 0;
+        return None;
     }
     if up as usize >= SHIFT {
-        return 0;
+        return None;
     }
-    pack(start, end) + up as usize * TOP
+    Some(pack(start, end) + up as usize * TOP)
 }
 
 // A string's. Most have a length of one digit, and are tested apart.
-pub fn plain_claim(row: Row, up: u32) -> usize
+pub fn plain_claim(row: Row, up: u32) -> Option<usize>
     requires { row.kind ≡ 0 }
     ensures { Claimed (record_list row up) result }
 {
     let start = row.data_start as usize;
     let end = row.data_end as usize;
     if end > limits::SOURCE {
-        return 0;
+        return None;
     }
     if start > end {
-        return 0;
+        return None;
     }
     if end - start < 10 {
         return short_claim(row, up);
@@ -56,19 +56,19 @@ pub fn plain_claim(row: Row, up: u32) -> usize
     // Digits and a colon.
     let ahead = decimal::width(end - start) + 1;
     if ahead > start {
-        return 0;
+        return None;
     }
     if up as usize >= SHIFT {
-        return 0;
+        return None;
     }
     if same_row(row, up, plain_row(start - ahead, start, end), up) {
-        return pack(start, end) + up as usize * TOP;
+        return Some(pack(start, end) + up as usize * TOP);
     }
-    0
+    None
 }
 
 // A list's.
-fn list_claim(row: Row, up: u32) -> usize
+fn list_claim(row: Row, up: u32) -> Option<usize>
     requires { row.kind ≡ 2 }
     ensures { Claimed (record_list row up) result }
 {
@@ -76,28 +76,28 @@ fn list_claim(row: Row, up: u32) -> usize
     let end = row.data_end as usize;
     let count = row.nodes as usize;
     if end >= limits::SOURCE {
-        return 0;
+        return None;
     }
     if start == 0 {
-        return 0;
+        return None;
     }
     if start > end + 1 {
-        return 0;
+        return None;
     }
     if count >= LIST {
-        return 0;
+        return None;
     }
     if up as usize >= SHIFT {
-        return 0;
+        return None;
     }
     if same_row(row, up, list_by(start, end, count), up) {
-        return pack(start, end) + (LIST + count) * THIRD + up as usize * TOP;
+        return Some(pack(start, end) + (LIST + count) * THIRD + up as usize * TOP);
     }
-    0
+    None
 }
 
 // A string's with a hint.
-fn hint_claim(row: Row, up: u32) -> usize
+fn hint_claim(row: Row, up: u32) -> Option<usize>
     requires { row.kind ≡ 1 }
     ensures { Claimed (record_list row up) result }
 {
@@ -105,28 +105,28 @@ fn hint_claim(row: Row, up: u32) -> usize
     let end = row.data_end as usize;
     let from = row.hint_start as usize;
     if end > limits::SOURCE {
-        return 0;
+        return None;
     }
     if start > end {
-        return 0;
+        return None;
     }
     if decimal::width(end - start) + 2 > start {
-        return 0;
+        return None;
     }
     let to = hint_end(start, end);
     if from > to {
-        return 0;
+        return None;
     }
     if decimal::width(to - from) + 2 > from {
-        return 0;
+        return None;
     }
     if up as usize >= SHIFT {
-        return 0;
+        return None;
     }
     if same_row(row, up, hinted_by(start, end, from, to), up) {
-        return pack(start, end) + from * THIRD + up as usize * TOP;
+        return Some(pack(start, end) + from * THIRD + up as usize * TOP);
     }
-    0
+    None
 }
 
 // Any other record's. Its numbers come one by one: a record that is passed on whole is stored, and for each string too.
@@ -140,7 +140,7 @@ pub fn other_claim(
     data_start: u32,
     data_end: u32,
     up: u32,
-) -> usize
+) -> Option<usize>
     requires { kind ≡ 0 → ⊥ }
     ensures { Claimed (kind ∷ start ∷ end ∷ nodes ∷ hint_start ∷ hint_end ∷ data_start ∷ data_end ∷ up ∷ []) result }
 {
@@ -160,5 +160,5 @@ pub fn other_claim(
     if kind == 1 {
         return hint_claim(row, up);
     }
-    0
+    None
 }

@@ -18,9 +18,7 @@ pub fn fill(notes: &[usize], count: usize, table: &mut [u32])
     requires { Fillable notes.now count (length table.old) }
     ensures { Filled notes.now count table.old table.new }
 {
-    let mut k: usize = 0;
-    while k < count {
+    for k in 0..count {
         put_row(table, k, row_of(notes, k), parent_of(notes, k));
-        k += 1;
     }
 }

@@ -7,7 +7,7 @@ ghost use Rattle.model.specs.Table.{width, plain_row, hinted_row, list_row};
 ghost use Rattle.tables.specs.Rows.{record_list, RowIs, RowAt};
 
 // A record: 0 string, 1 string with hint, 2 list; offsets are into the canonical octets.
-#[derive(Clone, Copy)]
+#[derive(Clone, Copy, PartialEq, Eq)]
 pub struct Row {
     pub kind: u32,
     pub start: u32,
@@ -100,31 +100,7 @@ pub fn parent_at(table: &[u32], node: usize) -> u32
 pub fn same_row(one: Row, up: u32, other: Row, over: u32) -> bool
     ensures { result ≡ equal (record_list one up) (record_list other over) }
 {
-    if one.kind != other.kind {
-        return false;
-    }
-    if one.start != other.start {
-        return false;
-    }
-    if one.end != other.end {
-        return false;
-    }
-    if one.nodes != other.nodes {
-        return false;
-    }
-    if one.hint_start != other.hint_start {
-        return false;
-    }
-    if one.hint_end != other.hint_end {
-        return false;
-    }
-    if one.data_start != other.data_start {
-        return false;
-    }
-    if one.data_end != other.data_end {
-        return false;
-    }
-    up == over
+    one == other && up == over
 }
 
 // A record stored, with the number of the list around its node.

@@ -19,9 +19,9 @@ use Rattle.marks.specs.Decoded.{Spacious, Decoded, Decodes}
 use Rattle.walk.specs.declared.Extent.{Extent}
 use Rattle.walk.specs.declared.Broken.{Broken}
 use Rattle.walk.proofs.Extents.{place-equal}
-use Rattle.std.specs.Prelude.{Ok, Err}
+use Rattle.std.specs.Prelude.{Option as Optional, Some, None, Ok, Err}
 use Rattle.walk.specs.Extent.{Measured}
-use Rattle.walk.specs.Extent.{Whole, Refused}
+use Rattle.walk.specs.Extent.{Refused}
 use Rattle.walk.specs.Extent.{Measures}
 use Rattle.model.specs.Tree.{Tree}
 use Rattle.sheets.proofs.Noting.{whole-refused}
@@ -94,13 +94,18 @@ module _ (text scratch : List ℕ) (g : Braced text × Lent (length text) (lengt
   pub brace-room : Spacious text 1 0 (length scratch)
   brace-room = record { inside = g.0.more; space = omega (arith, lent-room (length text) (length scratch) g.1) }
 
-  module _ (scratch' : List ℕ) (len next : ℕ) (w : Decodes text (inside text) 1 0 scratch scratch' len next) where
-    pub brace-none : next ≡ 0 → (notes : List ℕ) → Taken (decode₂ rules text) 0 scratch' notes notes (Refused 0)
-    brace-none z notes = taken_none (decode₂ rules text) 0 scratch' notes notes (ap (decode₂ rules) text-is ∙ braces-none (drop 1 text) (w.none z))
+  module _ (scratch' : List ℕ) (len : ℕ) (x : Optional ℕ) (w : Decodes text (inside text) 1 0 scratch scratch' len x) where
+    refused_as : x ≡ None → inside text ≡ refused
+    unfolding Decodes
+    refused_as z = subst (Decodes text (inside text) 1 0 scratch scratch' len) z w
 
-    module _ (n : next ≡ 0 → ⊥) where
+    pub brace-none : x ≡ None → (notes : List ℕ) → Taken (decode₂ rules text) 0 scratch' notes notes (Refused 0)
+    brace-none z notes = taken_none (decode₂ rules text) 0 scratch' notes notes (ap (decode₂ rules) text-is ∙ braces-none (drop 1 text) (refused_as z))
+
+    module _ (next : ℕ) (z : x ≡ Some next) where
       told : Decoded text (inside text) 1 0 scratch scratch' len next
-      told = w.some n
+      unfolding Decodes
+      told = subst (Decodes text (inside text) 1 0 scratch scratch' len) z w
 
       pub brace-more : next < length text → (notes : List ℕ) → Taken (decode₂ rules text) 0 scratch' notes notes (Refused 0)
       brace-more h notes =

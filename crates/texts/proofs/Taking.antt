@@ -21,7 +21,7 @@ use Rattle.walk.specs.declared.Broken.{Broken}
 use Rattle.walk.proofs.Extents.{place-equal}
 use Rattle.std.specs.Prelude.{Ok, Err}
 use Rattle.walk.specs.Extent.{Measured}
-use Rattle.walk.specs.Extent.{Whole, Refused}
+use Rattle.walk.specs.Extent.{Refused}
 use Rattle.scan.specs.Writes.{Wrote}
 use Rattle.blocks.specs.Fronts.{Front}
 use Rattle.blocks.proofs.Laws.{front-wrote}

@@ -107,10 +107,9 @@ fn take_braced(text: &[u8], scratch: &mut [u8], notes: &mut [usize]) -> Measured
     ensures { Taken (decode₂ rules text.now) 0 scratch.new notes.old notes.new result }
 {
     let mut len: usize = 0;
-    let next = marks::base(text, 1, b'}', scratch, 0, &mut len);
-    if next == 0 {
+    let Some(next) = marks::base(text, 1, b'}', scratch, 0, &mut len) else {
         return Err(Broken { place: 0 });
-    }
+    };
     if next < text.len() {
         return Err(Broken { place: 0 });
     }

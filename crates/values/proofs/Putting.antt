@@ -1,20 +1,20 @@
 -- Writing digits and copies.
 use Prim.Native.Nat.{ℕ, zero, suc, ◌+◌, ◌-◌, ◌*◌, ◌/◌, ◌%◌, ◌^◌, ◌≤◌, ◌<◌}
 use native.Mathlib.Omega.{arith}
-use native.Mathlib.Nat.{pow-suc, pow-le-pow_right, mul_assoc, div-div-eq-div-mul, le-div_iff_mul-le, div-lt_iff_lt-mul, one-mul}
-use native.Mathlib.Numerals.{add-one}
+use native.Mathlib.Nat.{pow-suc, pow-le-pow_right}
 use mathlib.Core.Path.{◌≡◌, refl, sym, ap, ◌∙◌, subst}
 use mathlib.Core.Bool.{Bool, true}
 use mathlib.Core.List.{List, [], ◌∷◌, ◌++◌, map, map-append, append_assoc}
+use lib.Count.{count_leading_zeros}
 use lib.Dec.{lit<}
 use lib.ListN.{length, drop, set, length-set}
 use lib.Seq.{drop-cons, drop-set-lt, get_or-set_same}
-use mir.Syntax.{w64}
-use mir.Val.{Fits}
+use Rattle.std.specs.Int.{div_ceil}
+use Rattle.std.proofs.lemmas.Nat.{leading_length, pow-add}
 use Rattle.typed.specs.Octets.{octs, turned}
 use Rattle.typed.specs.Coding as coding
-use Rattle.typed.proofs.Wide.{Wide, scaled, more-is}
-use Rattle.typed.proofs.Base.{by_le, by-eq}
+use Rattle.typed.proofs.Wide.{Wide, more-is}
+use Rattle.typed.proofs.Base.{by_le}
 
 pub octet-turned : (t : Bool) (d : ℕ) → t ≡ true → 255 - d ≡ turned t d
 octet-turned t d e = rw e
@@ -72,43 +72,32 @@ putting-ends out₀ k n t out i m inv h = let z : i ≡ 0 = omega arith in subst
 
 -- ---- the width
 
-pub record Widening (m more rest : ℕ) : Type 0 where
-  pub half : m < 2 ^ 63
-  pub left : rest ≡ m / (128 * 256 ^ more)
-  pub needed : 0 < more → 128 * 256 ^ (more - 1) ≤ m
+octets-bits : (k : ℕ) → 256 ^ k ≡ 2 ^ (8 * k)
+octets-bits zero = refl
+octets-bits (suc k) =
+    let e : 8 * suc k ≡ 8 * k + 8 = omega arith in
+    pow-suc 256 k ∙ ap (λ (x : ℕ). x * 256) (octets-bits k) ∙ sym (ap (λ (x : ℕ). 2 ^ x) e ∙ pow-add 2 (8 * k) 8)
 
-few : (m k : ℕ) → m < 2 ^ 63 → 128 * 256 ^ k ≤ m → k ≤ 6
-few m k h l = by_le k 6 (λ p. p) (λ (p : 6 < k). let w : 256 ^ 7 ≤ 256 ^ k = pow-le-pow_right (lit< tt) p in omega arith)
+-- b bits beside the first seven are k octets
+wide-by : (m b k : ℕ) → m < 2 ^ 63 → m / 128 < 2 ^ b → 2 ^ b ≤ 2 * (m / 128) + 1 → b ≤ 8 * k → (0 < k → 8 * (k - 1) + 1 ≤ b) → Wide k m
+wide-by m b k h l u f n = record { few = few; enough = enough; needed = needed }
+  where
+    few : k ≤ 7
+    few = by_le k 7 (λ p. p) (λ (p : 7 < k). let q : 57 ≤ b = omega (arith, n (omega arith)) in let w : 2 ^ 57 ≤ 2 ^ b = pow-le-pow_right (lit< tt) q in absurd (omega arith))
 
-pub widening-starts : (m : ℕ) → m < 2 ^ 63 → Widening m 0 (m / 128)
-widening-starts m h = record { half = h; left = refl; needed = λ (p : 0 < 0). omega arith }
+    enough : m < 128 * 256 ^ k
+    enough = let w : 2 ^ b ≤ 2 ^ (8 * k) = pow-le-pow_right (lit< tt) f in omega (arith, octets-bits k)
 
-module _ (m more rest : ℕ) (inv : Widening m more rest) where
-  module _ (h : 0 < rest) where
-    reached : 128 * 256 ^ more ≤ m
-    reached = subst (λ (x : ℕ). x ≤ m) (one-mul (128 * 256 ^ more)) ((le-div_iff_mul-le {k = 128 * 256 ^ more} {x = 1} {y = m} (scaled more)).0 (subst (λ (x : ℕ). 1 ≤ x) inv.left h))
+    needed : 0 < k → 128 * 256 ^ (k - 1) ≤ m
+    needed p =
+        let w : 2 ^ (8 * (k - 1) + 1) ≤ 2 ^ b = pow-le-pow_right (lit< tt) (n p) in
+        omega (arith, octets-bits (k - 1), pow-add 2 (8 * (k - 1)) 1)
 
-    pub widening-fits : Fits w64 (more + 1)
-    widening-fits = omega (arith, few m more inv.half reached)
+pub width-is : (m k : ℕ) → m < 2 ^ 63 → k ≡ div_ceil (64 - count_leading_zeros 64 (m / 128)) 8 → (k ≡ coding.more m) × (k ≤ 7)
+width-is m k h e = rw e (more-is _ m h wide, wide.few)
+  where
+    by : (b : ℕ) × (count_leading_zeros 64 (m / 128) + b ≡ 64) × (m / 128 < 2 ^ b) × (2 ^ b ≤ 2 * (m / 128) + 1) → Wide (div_ceil (64 - count_leading_zeros 64 (m / 128)) 8) m
+    by (b, e, l, u) = wide-by m b (div_ceil (64 - count_leading_zeros 64 (m / 128)) 8) h l u (omega arith) (λ p. omega arith)
 
-    pub widening-goes : Widening m (more + 1) (rest / 256)
-    widening-goes = record {
-      half = inv.half;
-      left =
-          ap (λ (x : ℕ). x / 256) inv.left
-          ∙ div-div-eq-div-mul m (128 * 256 ^ more) 256
-          ∙ ap (λ (x : ℕ). m / x) (mul_assoc 128 (256 ^ more) 256 ∙ ap (λ (x : ℕ). 128 * x) (sym (pow-suc 256 more) ∙ ap (λ (x : ℕ). 256 ^ x) (sym (add-one more))));
-      needed = λ p. let e : more ≡ more + 1 - 1 = omega arith in subst (λ (x : ℕ). 128 * 256 ^ x ≤ m) e reached;
-    }
-
-  widening-wide : rest ≤ 0 → Wide more m
-  widening-wide h =
-      let z : m / (128 * 256 ^ more) < 1 = subst (λ (x : ℕ). x < 1) inv.left (omega arith) in
-      let y : m < 128 * 256 ^ more = subst (λ (x : ℕ). m < x) (one-mul (128 * 256 ^ more)) ((div-lt_iff_lt-mul {k = 128 * 256 ^ more} {x = m} {y = 1} (scaled more)).0 z) in
-      record { few = seven; enough = y; needed = inv.needed }
-    where
-      seven : more ≤ 7
-      seven = by-eq more 0 (λ e. omega arith) (λ (n : more ≡ 0 → ⊥). let p : 0 < more = omega arith in omega (arith, few m (more - 1) inv.half (inv.needed p)))
-
-  pub widening-ends : rest ≤ 0 → (more ≡ coding.more m) × (more ≤ 7)
-  widening-ends h = (more-is more m inv.half (widening-wide h), (widening-wide h).few)
+    wide : Wide (div_ceil (64 - count_leading_zeros 64 (m / 128)) 8) m
+    wide = by (leading_length 64 (m / 128) (omega arith))

@@ -77,13 +77,7 @@ fn width(m: u64) -> usize
     requires { m < 2 ^ 63 }
     ensures { (result ≡ more m) × (result ≤ 7) }
 {
-    let mut k: usize = 0;
-    let mut rest = m / 128;
-    while 0 < rest {
-        rest = rest / 256;
-        k += 1;
-    }
-    k
+    (64 - (m / 128).leading_zeros()).div_ceil(8) as usize
 }
 
 // A number's sign and magnitude.

@@ -18,10 +18,8 @@ pub fn number(src: &[u8], start: usize, end: usize, turn: bool) -> u64
     ensures { (result ≡ be 0 (map (turned turn) (slice start end src.now))) × (result < 256 ^ (end - start)) }
 {
     let mut n: u64 = 0;
-    let mut i = start;
-    while i < end {
+    for i in start..end {
         n = n * 256 + digit(src[i], turn);
-        i += 1;
     }
     n
 }
@@ -41,10 +39,8 @@ pub fn put(out: &mut [u8], k: usize, n: u64, turn: bool)
     requires { k ≤ length out.old }
     ensures { out.new ≡ map (turned turn) (octs k n []) ++ drop k out.old }
 {
-    let mut i = k;
     let mut m = n;
-    while 0 < i {
-        i -= 1;
+    for i in (0..k).rev() {
         out[i] = octet(m % 256, turn);
         m = m / 256;
     }

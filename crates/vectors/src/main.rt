@@ -45,12 +45,9 @@ fn next<R: Read, P: Print>(from: &mut R, rt: &P, number: u64, case: &mut [u8]) -
 }
 
 fn all<R: Read, P: Print>(from: &mut R, rt: &P, case: &mut [u8]) -> io::Result<()> {
-    let mut number: u64 = 0;
-    while number < MOST {
-        if next(from, rt, number, case)? {
-            number += 1;
-        } else {
-            return Ok(());
+    for number in 0..MOST {
+        if !next(from, rt, number, case)? {
+            break;
         }
     }
     Ok(())

@@ -5,4 +5,3 @@ pub mod Lefts
 pub mod Writing
 pub mod Groups
 pub mod Putting
-pub mod Hinted

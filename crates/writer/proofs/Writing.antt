@@ -13,16 +13,15 @@ use Rattle.blocks.specs.Fronts.{Front}
 use Rattle.blocks.proofs.Laws.{front-one}
 use Rattle.canonical.specs.Lexed.{ItemAt}
 use Rattle.canonical.proofs.Lexing.{lex-open, lex-close}
-use Rattle.sheets.specs.Places.{start_of, end_of, StringAt}
-use Rattle.sheets.proofs.Items.{string-item}
+use Rattle.sheets.specs.Places.{start_of, end_of, StringAt, HintAfter}
+use Rattle.sheets.proofs.Items.{string-item, other_item, unhinted-item, hint-inside, unfollowed-item, hinted-item}
 use Rattle.spelling.specs.Spelled.{cut}
 use Rattle.spelling.proofs.Filling.{Filling, fill_start, fill-room, fill_on, fill_done}
 use Rattle.writer.specs.Elements.{spelled_one, due_after}
-use Rattle.writer.specs.Hints.{HintAt}
 use Rattle.writer.specs.Sheets.{Sheet, Strings}
 use Rattle.writer.proofs.Lefts.{Left, left-start, left_end, left-never, Rest, after-lexeme}
 use Rattle.writer.proofs.Places.{Next, next-less, open_next, close-next, other_none, plain-order, plain-within, plain-next, hinted-strings, hinted-next}
-use Rattle.std.specs.Prelude.{Some}
+use Rattle.std.specs.Prelude.{None, Some}
 use Rattle.canonical.specs.declared.Item.TheVariants.{Plain, Hinted}
 
 pub record Writing (src : List ℕ) (at : ℕ) (due : Bool) (out₀ out : List ℕ) (o : ℕ) : Type 0 where
@@ -57,9 +56,9 @@ module _ (src : List ℕ) (at : ℕ) (due : Bool) (out₀ out : List ℕ) (o : �
 
   module _ (h : at < length src) where
     -- the string at a place is asked for first
-    module _ (r : ℕ) (v : StringAt src at r) (p : 0 < r) (s e : ℕ) (x : s ≡ start_of r) (y : e ≡ end_of r) where
+    module _ (r : ℕ) (v : StringAt src at (Some r)) (s e : ℕ) (x : s ≡ start_of r) (y : e ≡ end_of r) where
       string : ItemAt src at (Some (Plain s e))
-      string = rw (x, y) (string-item src at h r v p)
+      string = rw (x, y) (string-item src at h r v)
 
       pub string-order : s ≤ e
       string-order = plain-order src at s e string
@@ -99,26 +98,41 @@ module _ (src : List ℕ) (at : ℕ) (due : Bool) (out₀ out : List ℕ) (o : �
       unfolding due_after spelled_one
       close-written = write-by closing (at + 1) closes (set out o 41) (o + 1) (front-one out o 41 close-room)
 
-    module _ (x d : ℕ) (v : HintAt src at x d) where
-      pub no-data : d ≡ 0 → Front (advanced (the (decode₁ src))) 0 out₀ out o
-      no-data z = left-never src at due w.rest w.left h (other_none src at (v.none z))
+    -- no lexeme stands there, which never comes
+    module _ (a : get_or src at 0 ≡ 40 → ⊥) (b : get_or src at 0 ≡ 41 → ⊥) where
+      never : ItemAt src at None → Front (advanced (the (decode₁ src))) 0 out₀ out o
+      never v = left-never src at due w.rest w.left h (other_none src at v)
 
-      module _ (m : d ≡ 0 → ⊥) (from to s e : ℕ) (f : from ≡ start_of x) (q : to ≡ end_of x) (g : s ≡ start_of d) (k : e ≡ end_of d) where
-        hinted : ItemAt src at (Some (Hinted from to s e))
-        hinted = rw (f, q, g, k) (v.some m)
+      pub no-bracket : StringAt src at None → (get_or src at 0 ≡ 91 → ⊥) → Front (advanced (the (decode₁ src))) 0 out₀ out o
+      no-bracket v c = never (other_item src at h a b v c)
 
-        next : Next src at (hinting (cut src from to) (cut src s e)) e
-        next = hinted-next src at from to s e hinted
+      module _ (c : get_or src at 0 ≡ 91) where
+        pub no-hint : StringAt src (at + 1) None → Front (advanced (the (decode₁ src))) 0 out₀ out o
+        no-hint v = never (unhinted-item src at h a b c v)
 
-        pub both-strings : Strings src from to s e
-        both-strings = hinted-strings src at from to s e hinted
+        module _ (x : ℕ) (v : StringAt src (at + 1) (Some x)) (to : ℕ) (q : to ≡ end_of x) where
+          pub hint-within : to ≤ length src
+          hint-within = hint-inside src at h a b c x v to q
 
-        pub both-less : length src - e < length src - at
-        both-less = next-less src at (hinting (cut src from to) (cut src s e)) e next
+          pub no-data : HintAfter src to None → Front (advanced (the (decode₁ src))) 0 out₀ out o
+          no-data t = never (unfollowed-item src at h a b c x v to q t)
 
-        pub both-room : o + length (spelled_one due (hinting (cut src from to) (cut src s e))) + 16 ≤ length out
-        both-room = write-room (hinting (cut src from to) (cut src s e)) e next
+          module _ (d : ℕ) (t : HintAfter src to (Some d)) (from s e : ℕ) (f : from ≡ start_of x) (g : s ≡ start_of d) (k : e ≡ end_of d) where
+            hinted : ItemAt src at (Some (Hinted from to s e))
+            hinted = rw (f, q, g, k) (hinted-item src at h a b c x v to q d t)
 
-        pub both-written : (out' : List ℕ) (p : ℕ) → Front (spelled_one due (hinting (cut src from to) (cut src s e))) o out out' p → Writing src e true out₀ out' p
-        unfolding due_after
-        both-written = write-by (hinting (cut src from to) (cut src s e)) e next
+            next : Next src at (hinting (cut src from to) (cut src s e)) e
+            next = hinted-next src at from to s e hinted
+
+            pub both-strings : Strings src from to s e
+            both-strings = hinted-strings src at from to s e hinted
+
+            pub both-less : length src - e < length src - at
+            both-less = next-less src at (hinting (cut src from to) (cut src s e)) e next
+
+            pub both-room : o + length (spelled_one due (hinting (cut src from to) (cut src s e))) + 16 ≤ length out
+            both-room = write-room (hinting (cut src from to) (cut src s e)) e next
+
+            pub both-written : (out' : List ℕ) (p : ℕ) → Front (spelled_one due (hinting (cut src from to) (cut src s e))) o out out' p → Writing src e true out₀ out' p
+            unfolding due_after
+            both-written = write-by (hinting (cut src from to) (cut src s e)) e next

@@ -1,5 +1,5 @@
 // Form 3 at the front of scratch: one pass over the lexemes. A space is due before an element that is not the first of its list.
-ghost use Rattle.std.specs.Prelude.{◌+◌, ◌≤◌, ◌<◌, length, get_or};
+ghost use Rattle.std.specs.Prelude.{◌+◌, ◌≤◌, ◌<◌, length};
 ghost use Rattle.model.specs.Answers.{the};
 ghost use Rattle.model.specs.Decode.{decode₁};
 ghost use Rattle.model.specs.Lexemes.{opening, atom, hinting};
@@ -8,7 +8,6 @@ ghost use Rattle.blocks.specs.Fronts.{Front};
 ghost use Rattle.spelling.specs.Spelled.{cut};
 ghost use Rattle.writer.specs.Sheets.{Sheet, Strings};
 ghost use Rattle.writer.specs.Elements.{gap, bracketed, spelled_one};
-ghost use Rattle.writer.specs.Hints.{Unplain, HintAt};
 
 use sheets::places::{after_hint, end_of, start_of, string_at};
 use spelling::put_spelled;
@@ -74,21 +73,6 @@ fn put_hinted(
     put_spelled(src, start, end, out, p)
 }
 
-// The spans of a hint and of the string that it belongs to; 0 where there are none.
-fn hint_at(src: &[u8], at: usize) -> [usize; 2]
-    requires { Unplain src.now at }
-    ensures { HintAt src.now at (get_or result 0 0) (get_or result 1 0) }
-{
-    if src[at] != b'[' {
-        return [0, 0];
-    }
-    let hint = string_at(src, at + 1);
-    if hint == 0 {
-        return [0, 0];
-    }
-    [hint, after_hint(src, end_of(hint))]
-}
-
 // Form 3 of a sheet; the place after it.
 pub fn put_advanced(src: &[u8], out: &mut [u8]) -> usize
     requires sheet { Sheet src.now }
@@ -99,8 +83,7 @@ pub fn put_advanced(src: &[u8], out: &mut [u8]) -> usize
     let mut o: usize = 0;
     let mut due = false;
     while at < src.len() {
-        let span = string_at(src, at);
-        if span > 0 {
+        if let Some(span) = string_at(src, at) {
             let end = end_of(span);
             o = put_plain(src, due, start_of(span), end, out, o);
             due = true;
@@ -121,24 +104,19 @@ pub fn put_advanced(src: &[u8], out: &mut [u8]) -> usize
             at += 1;
             continue;
         }
-        let spans = hint_at(src, at);
-        let hint = spans[0];
-        let data = spans[1];
-        // A sheet has no other lexeme, so that this never comes.
-        if data == 0 {
+        // A sheet has no lexeme but a string with a hint here, so that none of these returns is taken.
+        if b != b'[' {
             return o;
         }
+        let Some(hint) = string_at(src, at + 1) else {
+            return o;
+        };
+        let to = end_of(hint);
+        let Some(data) = after_hint(src, to) else {
+            return o;
+        };
         let end = end_of(data);
-        o = put_hinted(
-            src,
-            due,
-            start_of(hint),
-            end_of(hint),
-            start_of(data),
-            end,
-            out,
-            o,
-        );
+        o = put_hinted(src, due, start_of(hint), to, start_of(data), end, out, o);
         due = true;
         at = end;
     }

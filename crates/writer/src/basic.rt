@@ -63,6 +63,7 @@ fn put_letters(src: &[u8], out: &mut [u8], pos: usize) -> usize
 {
     let mut i: usize = 0;
     let mut o = pos;
+    // A `for` would count groups, and have each group's place and that of the rest by a product: no plainer.
     while src.len() - i >= 3 {
         o = put_group(src, i, out, o);
         i += 3;

@@ -100,86 +100,86 @@ shape_of-notes-in_default c = search (convert-notes, arith)
 pub returns-in_default : goal.returns-in_default
 returns-in_default c = search (held-refused, arith)
 
-pub hinted-next-requires : goal.hinted-next-requires
-hinted-next-requires c = (search rules, search (node-spare, arith), search rules)
+pub hinted-after-requires : goal.hinted-after-requires
+hinted-after-requires c = (search rules, search (node-spare, arith), search rules)
 
-pub simple-next-requires : goal.simple-next-requires
-simple-next-requires c = search (spare-room, node-spare, arith)
+pub simple-after-requires : goal.simple-after-requires
+simple-after-requires c = search (spare-room, node-spare, arith)
 
-pub shape_of-notes-then-next-eq0 : goal.shape_of-notes-then-next-eq0
-shape_of-notes-then-next-eq0 c = search (convert-notes, arith)
+pub shape_of-notes-in_default-after : goal.shape_of-notes-in_default-after
+shape_of-notes-in_default-after c = search (convert-notes, arith)
 
-pub returns-then-next-eq0 : goal.returns-then-next-eq0
-returns-then-next-eq0 c =
-    let strung : Nodes c.args.src.now c.skip_at-i.result c.wrap-o.result c.loop-starts.out c.if-b-eq91.out c.if-b-eq91.mid c.if-b-eq91.end c.if-b-eq91.next =
+pub returns-in_default-after : goal.returns-in_default-after
+returns-in_default-after c =
+    let strung : Nodes c.args.src.now c.skip_at-i.result c.wrap-o.result c.loop-starts.out c.if-b-eq91.out c.if-b-eq91.mid c.if-b-eq91.end c.if-b-eq91.after =
     elim c.if-b-eq91.branch [
-      | then-b-eq91 w ↦ rw (w.out-is, w.mid-is, w.end-is, w.next-is) w.hinted-next.ensures
+      | then-b-eq91 w ↦ rw (w.out-is, w.mid-is, w.end-is, w.after-is) w.hinted-after.ensures
       | else-b-eq91 w ↦
-          rw (w.out-is, w.mid-is, w.end-is, w.next-is)
-          (node-plain _ _ _ _ (search rules) (search (node-spare, arith)) (search rules) (search rules) w.if-b-eq91.false _ _ _ w.simple-next.ensures)
+          rw (w.out-is, w.mid-is, w.end-is, w.after-is)
+          (node-plain _ _ _ _ (search rules) (search (node-spare, arith)) (search rules) (search rules) w.if-b-eq91.false _ _ _ w.simple-after.ensures)
     ]
     in
-    node-none _ _ _ _ _ _ _ _ _ _ _ _ _ c.loop-starts.invariant _ c.skip_at-i.ensures _ c.closed.ensures c.if-closed.false c.if-i-src-2.false _ c.wrap-o.ensures _ c.opens.ensures c.if-opens.false _ _ _ _ strung c.if-next-eq0.true _
+    node-none _ _ _ _ _ _ _ _ _ _ _ _ _ c.loop-starts.invariant _ c.skip_at-i.ensures _ c.closed.ensures c.if-closed.false c.if-i-src-2.false _ c.wrap-o.ensures _ c.opens.ensures c.if-opens.false _ _ _ _ strung c.in_default-after.is _
 
 pub up_of-up-requires : goal.up_of-up-requires
 up_of-up-requires c = search (convert-numbers, arith)
 
 pub keep_string-requires : goal.keep_string-requires
 keep_string-requires c =
-    let strung : Nodes c.args.src.now c.skip_at-i.result c.wrap-o.result c.loop-starts.out c.if-b-eq91.out c.if-b-eq91.mid c.if-b-eq91.end c.if-b-eq91.next =
+    let strung : Nodes c.args.src.now c.skip_at-i.result c.wrap-o.result c.loop-starts.out c.if-b-eq91.out c.if-b-eq91.mid c.if-b-eq91.end c.if-b-eq91.after =
     elim c.if-b-eq91.branch [
-      | then-b-eq91 w ↦ rw (w.out-is, w.mid-is, w.end-is, w.next-is) w.hinted-next.ensures
+      | then-b-eq91 w ↦ rw (w.out-is, w.mid-is, w.end-is, w.after-is) w.hinted-after.ensures
       | else-b-eq91 w ↦
-          rw (w.out-is, w.mid-is, w.end-is, w.next-is)
-          (node-plain _ _ _ _ (search rules) (search (node-spare, arith)) (search rules) (search rules) w.if-b-eq91.false _ _ _ w.simple-next.ensures)
+          rw (w.out-is, w.mid-is, w.end-is, w.after-is)
+          (node-plain _ _ _ _ (search rules) (search (node-spare, arith)) (search rules) (search rules) w.if-b-eq91.false _ _ _ w.simple-after.ensures)
     ]
     in
-    node-keepable _ _ _ _ _ _ _ _ _ _ _ _ _ c.loop-starts.invariant _ c.skip_at-i.ensures _ c.closed.ensures c.if-closed.false c.if-i-src-2.false _ c.wrap-o.ensures _ c.opens.ensures c.if-opens.false _ _ _ _ strung c.if-next-eq0.false c.up_of-up.result c.up_of-up.ensures
+    node-keepable _ _ _ _ _ _ _ _ _ _ _ _ _ c.loop-starts.invariant _ c.skip_at-i.ensures _ c.closed.ensures c.if-closed.false c.if-i-src-2.false _ c.wrap-o.ensures _ c.opens.ensures c.if-opens.false _ _ _ _ strung _ c.in-Some-after.is c.up_of-up.result c.up_of-up.ensures
 
 pub overflow_sub-size : goal.overflow_sub-size
 overflow_sub-size c =
-    let strung : Nodes c.args.src.now c.skip_at-i.result c.wrap-o.result c.loop-starts.out c.if-b-eq91.out c.if-b-eq91.mid c.if-b-eq91.end c.if-b-eq91.next =
+    let strung : Nodes c.args.src.now c.skip_at-i.result c.wrap-o.result c.loop-starts.out c.if-b-eq91.out c.if-b-eq91.mid c.if-b-eq91.end c.if-b-eq91.after =
     elim c.if-b-eq91.branch [
-      | then-b-eq91 w ↦ rw (w.out-is, w.mid-is, w.end-is, w.next-is) w.hinted-next.ensures
+      | then-b-eq91 w ↦ rw (w.out-is, w.mid-is, w.end-is, w.after-is) w.hinted-after.ensures
       | else-b-eq91 w ↦
-          rw (w.out-is, w.mid-is, w.end-is, w.next-is)
-          (node-plain _ _ _ _ (search rules) (search (node-spare, arith)) (search rules) (search rules) w.if-b-eq91.false _ _ _ w.simple-next.ensures)
+          rw (w.out-is, w.mid-is, w.end-is, w.after-is)
+          (node-plain _ _ _ _ (search rules) (search (node-spare, arith)) (search rules) (search rules) w.if-b-eq91.false _ _ _ w.simple-after.ensures)
     ]
     in
-    node-from _ _ _ _ _ _ _ _ _ _ _ _ _ c.loop-starts.invariant _ c.skip_at-i.ensures _ c.closed.ensures c.if-closed.false c.if-i-src-2.false _ c.wrap-o.ensures _ c.opens.ensures c.if-opens.false _ _ _ _ strung c.if-next-eq0.false
+    node-from _ _ _ _ _ _ _ _ _ _ _ _ _ c.loop-starts.invariant _ c.skip_at-i.ensures _ c.closed.ensures c.if-closed.false c.if-i-src-2.false _ c.wrap-o.ensures _ c.opens.ensures c.if-opens.false _ _ _ _ strung _ c.in-Some-after.is
 
 pub overflow_add-size-in-loop-starts : goal.overflow_add-size-in-loop-starts
 overflow_add-size-in-loop-starts c =
-    let strung : Nodes c.args.src.now c.skip_at-i.result c.wrap-o.result c.loop-starts.out c.if-b-eq91.out c.if-b-eq91.mid c.if-b-eq91.end c.if-b-eq91.next =
+    let strung : Nodes c.args.src.now c.skip_at-i.result c.wrap-o.result c.loop-starts.out c.if-b-eq91.out c.if-b-eq91.mid c.if-b-eq91.end c.if-b-eq91.after =
     elim c.if-b-eq91.branch [
-      | then-b-eq91 w ↦ rw (w.out-is, w.mid-is, w.end-is, w.next-is) w.hinted-next.ensures
+      | then-b-eq91 w ↦ rw (w.out-is, w.mid-is, w.end-is, w.after-is) w.hinted-after.ensures
       | else-b-eq91 w ↦
-          rw (w.out-is, w.mid-is, w.end-is, w.next-is)
-          (node-plain _ _ _ _ (search rules) (search (node-spare, arith)) (search rules) (search rules) w.if-b-eq91.false _ _ _ w.simple-next.ensures)
+          rw (w.out-is, w.mid-is, w.end-is, w.after-is)
+          (node-plain _ _ _ _ (search rules) (search (node-spare, arith)) (search rules) (search rules) w.if-b-eq91.false _ _ _ w.simple-after.ensures)
     ]
     in
-    node-fits _ _ _ _ _ _ _ _ _ _ _ _ _ c.loop-starts.invariant _ c.skip_at-i.ensures _ c.closed.ensures c.if-closed.false c.if-i-src-2.false _ c.wrap-o.ensures _ c.opens.ensures c.if-opens.false _ _ _ _ strung c.if-next-eq0.false
+    node-fits _ _ _ _ _ _ _ _ _ _ _ _ _ c.loop-starts.invariant _ c.skip_at-i.ensures _ c.closed.ensures c.if-closed.false c.if-i-src-2.false _ c.wrap-o.ensures _ c.opens.ensures c.if-opens.false _ _ _ _ strung _ c.in-Some-after.is
 
 pub loop-starts-smaller : goal.loop-starts-smaller
 loop-starts-smaller c =
-    let strung : Nodes c.args.src.now c.skip_at-i.result c.wrap-o.result c.loop-starts.out c.if-b-eq91.out c.if-b-eq91.mid c.if-b-eq91.end c.if-b-eq91.next =
+    let strung : Nodes c.args.src.now c.skip_at-i.result c.wrap-o.result c.loop-starts.out c.if-b-eq91.out c.if-b-eq91.mid c.if-b-eq91.end c.if-b-eq91.after =
     elim c.if-b-eq91.branch [
-      | then-b-eq91 w ↦ rw (w.out-is, w.mid-is, w.end-is, w.next-is) w.hinted-next.ensures
+      | then-b-eq91 w ↦ rw (w.out-is, w.mid-is, w.end-is, w.after-is) w.hinted-after.ensures
       | else-b-eq91 w ↦
-          rw (w.out-is, w.mid-is, w.end-is, w.next-is)
-          (node-plain _ _ _ _ (search rules) (search (node-spare, arith)) (search rules) (search rules) w.if-b-eq91.false _ _ _ w.simple-next.ensures)
+          rw (w.out-is, w.mid-is, w.end-is, w.after-is)
+          (node-plain _ _ _ _ (search rules) (search (node-spare, arith)) (search rules) (search rules) w.if-b-eq91.false _ _ _ w.simple-after.ensures)
     ]
     in
-    node-less _ _ _ _ _ _ _ _ _ _ _ _ _ c.loop-starts.invariant _ c.skip_at-i.ensures _ c.closed.ensures c.if-closed.false c.if-i-src-2.false _ c.wrap-o.ensures _ c.opens.ensures c.if-opens.false _ _ _ _ strung c.if-next-eq0.false
+    node-less _ _ _ _ _ _ _ _ _ _ _ _ _ c.loop-starts.invariant _ c.skip_at-i.ensures _ c.closed.ensures c.if-closed.false c.if-i-src-2.false _ c.wrap-o.ensures _ c.opens.ensures c.if-opens.false _ _ _ _ strung _ c.in-Some-after.is
 
 pub loop-starts-preserved : goal.loop-starts-preserved
 loop-starts-preserved c =
-    let strung : Nodes c.args.src.now c.skip_at-i.result c.wrap-o.result c.loop-starts.out c.if-b-eq91.out c.if-b-eq91.mid c.if-b-eq91.end c.if-b-eq91.next =
+    let strung : Nodes c.args.src.now c.skip_at-i.result c.wrap-o.result c.loop-starts.out c.if-b-eq91.out c.if-b-eq91.mid c.if-b-eq91.end c.if-b-eq91.after =
     elim c.if-b-eq91.branch [
-      | then-b-eq91 w ↦ rw (w.out-is, w.mid-is, w.end-is, w.next-is) w.hinted-next.ensures
+      | then-b-eq91 w ↦ rw (w.out-is, w.mid-is, w.end-is, w.after-is) w.hinted-after.ensures
       | else-b-eq91 w ↦
-          rw (w.out-is, w.mid-is, w.end-is, w.next-is)
-          (node-plain _ _ _ _ (search rules) (search (node-spare, arith)) (search rules) (search rules) w.if-b-eq91.false _ _ _ w.simple-next.ensures)
+          rw (w.out-is, w.mid-is, w.end-is, w.after-is)
+          (node-plain _ _ _ _ (search rules) (search (node-spare, arith)) (search rules) (search rules) w.if-b-eq91.false _ _ _ w.simple-after.ensures)
     ]
     in
-    node-on _ _ _ _ _ _ _ _ _ _ _ _ _ c.loop-starts.invariant _ c.skip_at-i.ensures _ c.closed.ensures c.if-closed.false c.if-i-src-2.false _ c.wrap-o.ensures _ c.opens.ensures c.if-opens.false _ _ _ _ strung c.if-next-eq0.false c.up_of-up.result c.up_of-up.ensures _ c.keep_string.ensures
+    node-on _ _ _ _ _ _ _ _ _ _ _ _ _ c.loop-starts.invariant _ c.skip_at-i.ensures _ c.closed.ensures c.if-closed.false c.if-i-src-2.false _ c.wrap-o.ensures _ c.opens.ensures c.if-opens.false _ _ _ _ strung _ c.in-Some-after.is c.up_of-up.result c.up_of-up.ensures _ c.keep_string.ensures

@@ -5,26 +5,26 @@ use Rattle.owned.proofs.hints.Goals as goal
 pub returns-then-src-at-ne91 : goal.returns-then-src-at-ne91
 returns-then-src-at-ne91 c = search (hints-other, arith)
 
-pub returns-then-h-eq0 : goal.returns-then-h-eq0
-returns-then-h-eq0 c = search (hints-unhinted, arith)
+pub returns-in_err-h : goal.returns-in_err-h
+returns-in_err-h c = rw c.from_residual.ensures (search (hints-unhinted, c.in_err-h.ensures, arith))
 
-pub after_hint-d-requires : goal.after_hint-d-requires
-after_hint-d-requires c = search (hints-inside, arith)
+pub after_hint-requires : goal.after_hint-requires
+after_hint-requires c = search (hints-inside, c.in_ok-h.ensures, arith)
 
-pub returns-then-d-eq0 : goal.returns-then-d-eq0
-returns-then-d-eq0 c = search (hints-unfollowed, arith)
+pub returns-in_err-d : goal.returns-in_err-d
+returns-in_err-d c = rw c.from_residual-in_err-d.ensures (search (hints-unfollowed, c.in_ok-h.ensures, c.in_err-d.ensures, arith))
 
 pub overflow_mul-start_of : goal.overflow_mul-start_of
-overflow_mul-start_of c = omega (arith, hints-fit _ _ _ c.requires.meetable.inside c.requires.unread c.if-src-at-ne91.false _ c.string_at-h.ensures c.if-h-eq0.false _ c.end_of.ensures _ c.after_hint-d.ensures c.if-d-eq0.false _ c.start_of.ensures c.requires.meetable)
+overflow_mul-start_of c = omega (arith, hints-fit _ _ _ c.requires.meetable.inside c.requires.unread c.if-src-at-ne91.false _ c.in_ok-h.ensures _ c.end_of.ensures _ c.in_ok-d.ensures _ c.start_of.ensures c.requires.meetable)
 
 pub overflow_add-d : goal.overflow_add-d
-overflow_add-d c = omega (arith, hints-fit _ _ _ c.requires.meetable.inside c.requires.unread c.if-src-at-ne91.false _ c.string_at-h.ensures c.if-h-eq0.false _ c.end_of.ensures _ c.after_hint-d.ensures c.if-d-eq0.false _ c.start_of.ensures c.requires.meetable)
+overflow_add-d c = omega (arith, hints-fit _ _ _ c.requires.meetable.inside c.requires.unread c.if-src-at-ne91.false _ c.in_ok-h.ensures _ c.end_of.ensures _ c.in_ok-d.ensures _ c.start_of.ensures c.requires.meetable)
 
 pub overflow_add-d-2 : goal.overflow_add-d-2
-overflow_add-d-2 c = omega (arith, hints-fit _ _ _ c.requires.meetable.inside c.requires.unread c.if-src-at-ne91.false _ c.string_at-h.ensures c.if-h-eq0.false _ c.end_of.ensures _ c.after_hint-d.ensures c.if-d-eq0.false _ c.start_of.ensures c.requires.meetable)
+overflow_add-d-2 c = omega (arith, hints-fit _ _ _ c.requires.meetable.inside c.requires.unread c.if-src-at-ne91.false _ c.in_ok-h.ensures _ c.end_of.ensures _ c.in_ok-d.ensures _ c.start_of.ensures c.requires.meetable)
 
 pub returns-then-note-d : goal.returns-then-note-d
-returns-then-note-d c = search (hints-so, arith)
+returns-then-note-d c = search (hints-so, c.in_ok-h.ensures, c.in_ok-d.ensures, arith)
 
 pub returns : goal.returns
-returns c = search (hints-apart, arith)
+returns c = search (hints-apart, c.in_ok-h.ensures, c.in_ok-d.ensures, arith)

@@ -1,3 +1,4 @@
+use mathlib.Core.Path.{refl}
 use native.Mathlib.Omega.{arith}
 use Rattle.owned.proofs.Owning.{own-start, stand-on, stand-last, own-up, own-inside, own-short, own-full, shut_none, shut-ready, shut-off, shut-on, own_meets, own-few, own-unread, own-note, own-fits, plain-off, plain-less, plain-on, near-less, near_on, begin-off, begin-on, hint-off, hint-less, hint-on}
 use Rattle.owned.proofs.own.Goals as goal
@@ -76,8 +77,8 @@ bounds-notes-seen-in-loop-nodes c =
     let o = stand-on _ _ _ _ _ _ _ c.loop-nodes.invariant _ c.closed.ensures c.if-closed.false in
     own-note _ _ _ _ _ _ _ o c.if-at-src.false c.if-seen-nodes-2.false
 
-pub string_at-s-requires : goal.string_at-s-requires
-string_at-s-requires c =
+pub string_at-requires : goal.string_at-requires
+string_at-requires c =
     let o = stand-on _ _ _ _ _ _ _ c.loop-nodes.invariant _ c.closed.ensures c.if-closed.false in
     own-inside _ _ _ _ _ _ _ o
 
@@ -89,22 +90,22 @@ overflow_mul-up c =
 pub overflow_add-s : goal.overflow_add-s
 overflow_add-s c =
     let o = stand-on _ _ _ _ _ _ _ c.loop-nodes.invariant _ c.closed.ensures c.if-closed.false in
-    own-fits _ _ _ _ _ _ _ o c.if-at-src.false c.if-seen-nodes-2.false _ c.string_at-s.ensures c.if-s-gt0.true
+    own-fits _ _ _ _ _ _ _ o c.if-at-src.false c.if-seen-nodes-2.false _ c.in-Some.ensures
 
 pub loop-nodes-smaller-then-note-s : goal.loop-nodes-smaller-then-note-s
 loop-nodes-smaller-then-note-s c =
     let o = stand-on _ _ _ _ _ _ _ c.loop-nodes.invariant _ c.closed.ensures c.if-closed.false in
-    plain-less _ _ _ _ _ _ _ o c.if-at-src.false c.if-seen-nodes-2.false _ c.string_at-s.ensures c.if-s-gt0.true c.if-note-s.true
+    plain-less _ _ _ _ _ _ _ o c.if-at-src.false c.if-seen-nodes-2.false _ c.in-Some.ensures c.if-note-s.true
 
 pub loop-nodes-preserved-then-note-s : goal.loop-nodes-preserved-then-note-s
 loop-nodes-preserved-then-note-s c =
     let o = stand-on _ _ _ _ _ _ _ c.loop-nodes.invariant _ c.closed.ensures c.if-closed.false in
-    plain-on _ _ _ _ _ _ _ o c.if-at-src.false c.if-seen-nodes-2.false _ c.string_at-s.ensures c.if-s-gt0.true c.if-note-s.true
+    plain-on _ _ _ _ _ _ _ o c.if-at-src.false c.if-seen-nodes-2.false _ c.in-Some.ensures c.if-note-s.true
 
-pub returns-then-s-gt0 : goal.returns-then-s-gt0
-returns-then-s-gt0 c =
+pub returns-in-Some : goal.returns-in-Some
+returns-in-Some c =
     let o = stand-on _ _ _ _ _ _ _ c.loop-nodes.invariant _ c.closed.ensures c.if-closed.false in
-    plain-off _ _ _ _ _ _ _ o c.if-at-src.false c.if-seen-nodes-2.false _ c.string_at-s.ensures c.if-s-gt0.true c.if-note-s.false
+    plain-off _ _ _ _ _ _ _ o c.if-at-src.false c.if-seen-nodes-2.false _ c.in-Some.ensures c.if-note-s.false
 
 pub begins-requires : goal.begins-requires
 begins-requires c =
@@ -121,22 +122,22 @@ returns-then-b-eq40 c =
     let o = stand-on _ _ _ _ _ _ _ c.loop-nodes.invariant _ c.closed.ensures c.if-closed.false in
     begin-off _ _ _ _ _ _ _ o c.if-at-src.false c.if-seen-nodes-2.false c.if-b-eq40.true _ c.begins.ensures c.if-begins.false
 
-pub hints-next-requires : goal.hints-next-requires
-hints-next-requires c =
+pub hints-requires : goal.hints-requires
+hints-requires c =
     let o = stand-on _ _ _ _ _ _ _ c.loop-nodes.invariant _ c.closed.ensures c.if-closed.false in
-    record { meetable = own_meets _ _ _ _ _ _ _ o c.if-at-src.false c.if-seen-nodes-2.false; unread = own-unread _ _ _ _ _ _ _ o c.if-at-src.false c.if-b-eq41.false _ c.string_at-s.ensures c.if-s-gt0.false c.if-b-eq40.false }
+    record { meetable = own_meets _ _ _ _ _ _ _ o c.if-at-src.false c.if-seen-nodes-2.false; unread = own-unread _ _ _ _ _ _ _ o c.if-at-src.false c.if-b-eq41.false c.in_default.ensures c.if-b-eq40.false }
 
-pub returns-then-next-eq0 : goal.returns-then-next-eq0
-returns-then-next-eq0 c =
+pub returns-in_default-hints : goal.returns-in_default-hints
+returns-in_default-hints c =
     let o = stand-on _ _ _ _ _ _ _ c.loop-nodes.invariant _ c.closed.ensures c.if-closed.false in
-    hint-off _ _ _ _ _ _ _ o c.if-at-src.false c.if-seen-nodes-2.false _ c.hints-next.ensures c.if-next-eq0.true
+    hint-off _ _ _ _ _ _ _ o c.if-at-src.false c.if-seen-nodes-2.false _ c.in_default-hints.ensures refl
 
 pub loop-nodes-smaller : goal.loop-nodes-smaller
 loop-nodes-smaller c =
     let o = stand-on _ _ _ _ _ _ _ c.loop-nodes.invariant _ c.closed.ensures c.if-closed.false in
-    hint-less _ _ _ _ _ _ _ o c.if-at-src.false c.if-seen-nodes-2.false _ c.hints-next.ensures c.if-next-eq0.false
+    hint-less _ _ _ _ _ _ _ o c.if-at-src.false c.if-seen-nodes-2.false _ c.in-Some-hints.ensures _ refl
 
 pub loop-nodes-preserved : goal.loop-nodes-preserved
 loop-nodes-preserved c =
     let o = stand-on _ _ _ _ _ _ _ c.loop-nodes.invariant _ c.closed.ensures c.if-closed.false in
-    hint-on _ _ _ _ _ _ _ o c.if-at-src.false c.if-seen-nodes-2.false _ c.hints-next.ensures c.if-next-eq0.false
+    hint-on _ _ _ _ _ _ _ o c.if-at-src.false c.if-seen-nodes-2.false _ c.in-Some-hints.ensures _ refl

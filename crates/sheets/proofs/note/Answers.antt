@@ -28,13 +28,13 @@ pub up_of-up-requires : goal.up_of-up-requires
 up_of-up-requires c = search (note-stack, arith)
 
 pub keep-requires : goal.keep-requires
-keep-requires c = search (plain-small, arith)
+keep-requires c = search (plain-small, c.in-Some.ensures, arith)
 
-pub loop-starts-smaller-then-s-gt0 : goal.loop-starts-smaller-then-s-gt0
-loop-starts-smaller-then-s-gt0 c = search (plain-less, arith)
+pub loop-starts-smaller-in-Some : goal.loop-starts-smaller-in-Some
+loop-starts-smaller-in-Some c = search (plain-less, c.in-Some.ensures, arith)
 
-pub loop-starts-preserved-then-s-gt0 : goal.loop-starts-preserved-then-s-gt0
-loop-starts-preserved-then-s-gt0 c = plain-on _ _ _ _ _ _ _ _ _ c.loop-starts.invariant c.closed.result c.closed.ensures c.if-closed.false c.if-at-src-2.false c.string_at-s.result c.string_at-s.ensures c.if-s-gt0.true c.end_of-at.result c.end_of-at.ensures c.up_of-up.result c.up_of-up.ensures _ c.keep.ensures
+pub loop-starts-preserved-in-Some : goal.loop-starts-preserved-in-Some
+loop-starts-preserved-in-Some c = plain-on _ _ _ _ _ _ _ _ _ c.loop-starts.invariant c.closed.result c.closed.ensures c.if-closed.false c.if-at-src-2.false _ c.in-Some.ensures c.end_of-at.result c.end_of-at.ensures c.up_of-up.result c.up_of-up.ensures _ c.keep.ensures
 
 pub loop-starts-preserved-then-b-eq40 : goal.loop-starts-preserved-then-b-eq40
 loop-starts-preserved-then-b-eq40 c = search (open-on, arith)
@@ -55,34 +55,34 @@ pub shape_of-notes-then-b-ne91 : goal.shape_of-notes-then-b-ne91
 shape_of-notes-then-b-ne91 c = search (note-long, arith)
 
 pub returns-then-b-ne91 : goal.returns-then-b-ne91
-returns-then-b-ne91 c = search (other-refused, arith)
+returns-then-b-ne91 c = search (other-refused, c.in_default.ensures, arith)
 
-pub shape_of-notes-then-h-eq0 : goal.shape_of-notes-then-h-eq0
-shape_of-notes-then-h-eq0 c = search (note-long, arith)
+pub shape_of-notes-in_default-string_at : goal.shape_of-notes-in_default-string_at
+shape_of-notes-in_default-string_at c = search (note-long, arith)
 
-pub returns-then-h-eq0 : goal.returns-then-h-eq0
-returns-then-h-eq0 c = search (unhinted-refused, arith)
+pub returns-in_default-string_at : goal.returns-in_default-string_at
+returns-in_default-string_at c = search (unhinted-refused, c.in_default-string_at.ensures, arith)
 
-pub after_hint-d-requires : goal.after_hint-d-requires
-after_hint-d-requires c = (hint-room _ _ _ _ _ _ _ _ _ c.loop-starts.invariant c.closed.result c.closed.ensures c.if-closed.false c.if-at-src-2.false c.if-b-eq40.false c.if-b-eq41.false c.if-b-ne91.false c.string_at-h.result c.string_at-h.ensures c.if-h-eq0.false c.end_of-to.result c.end_of-to.ensures, search rules)
+pub after_hint-requires : goal.after_hint-requires
+after_hint-requires c = (hint-room _ _ _ _ _ _ _ _ _ c.loop-starts.invariant c.closed.result c.closed.ensures c.if-closed.false c.if-at-src-2.false c.if-b-eq40.false c.if-b-eq41.false c.if-b-ne91.false _ c.in-Some-string_at.ensures c.end_of-to.result c.end_of-to.ensures, search rules)
 
 pub hint_begins-place-requires : goal.hint_begins-place-requires
-hint_begins-place-requires c = (hint-room _ _ _ _ _ _ _ _ _ c.loop-starts.invariant c.closed.result c.closed.ensures c.if-closed.false c.if-at-src-2.false c.if-b-eq40.false c.if-b-eq41.false c.if-b-ne91.false c.string_at-h.result c.string_at-h.ensures c.if-h-eq0.false c.end_of-to.result c.end_of-to.ensures, search rules)
+hint_begins-place-requires c = (hint-room _ _ _ _ _ _ _ _ _ c.loop-starts.invariant c.closed.result c.closed.ensures c.if-closed.false c.if-at-src-2.false c.if-b-eq40.false c.if-b-eq41.false c.if-b-ne91.false _ c.in-Some-string_at.ensures c.end_of-to.result c.end_of-to.ensures, search rules)
 
-pub shape_of-notes-then-d-eq0 : goal.shape_of-notes-then-d-eq0
-shape_of-notes-then-d-eq0 c = search (note-long, arith)
+pub shape_of-notes-in_default-after_hint : goal.shape_of-notes-in_default-after_hint
+shape_of-notes-in_default-after_hint c = search (note-long, arith)
 
-pub returns-then-d-eq0 : goal.returns-then-d-eq0
-returns-then-d-eq0 c = search (unfollowed-refused, arith)
+pub returns-in_default-after_hint : goal.returns-in_default-after_hint
+returns-in_default-after_hint c = search (unfollowed-refused, c.in-Some-string_at.ensures, c.in_default-after_hint.ensures, arith)
 
 pub up_of-up-requires-in-loop-starts : goal.up_of-up-requires-in-loop-starts
 up_of-up-requires-in-loop-starts c = search (note-stack, arith)
 
 pub keep-requires-in-loop-starts : goal.keep-requires-in-loop-starts
-keep-requires-in-loop-starts c = search (hint-small, arith)
+keep-requires-in-loop-starts c = search (hint-small, c.in-Some-string_at.ensures, c.in-Some-after_hint.ensures, arith)
 
 pub loop-starts-smaller : goal.loop-starts-smaller
-loop-starts-smaller c = search (hint-less, arith)
+loop-starts-smaller c = search (hint-less, c.in-Some-string_at.ensures, c.in-Some-after_hint.ensures, arith)
 
 pub loop-starts-preserved : goal.loop-starts-preserved
-loop-starts-preserved c = hint-on _ _ _ _ _ _ _ _ _ c.loop-starts.invariant c.closed.result c.closed.ensures c.if-closed.false c.if-at-src-2.false c.if-b-eq40.false c.if-b-eq41.false c.if-b-ne91.false c.string_at-h.result c.string_at-h.ensures c.if-h-eq0.false c.end_of-to.result c.end_of-to.ensures c.after_hint-d.result c.after_hint-d.ensures c.if-d-eq0.false c.start_of.result c.start_of.ensures c.end_of-at-in-loop-starts.result c.end_of-at-in-loop-starts.ensures c.up_of-up-in-loop-starts.result c.up_of-up-in-loop-starts.ensures _ c.keep-in-loop-starts.ensures
+loop-starts-preserved c = hint-on _ _ _ _ _ _ _ _ _ c.loop-starts.invariant c.closed.result c.closed.ensures c.if-closed.false c.if-at-src-2.false c.if-b-eq40.false c.if-b-eq41.false c.if-b-ne91.false _ c.in-Some-string_at.ensures c.end_of-to.result c.end_of-to.ensures _ c.in-Some-after_hint.ensures c.start_of.result c.start_of.ensures c.end_of-at-in-loop-starts.result c.end_of-at-in-loop-starts.ensures c.up_of-up-in-loop-starts.result c.up_of-up-in-loop-starts.ensures _ c.keep-in-loop-starts.ensures

@@ -1,18 +1,12 @@
-use native.Mathlib.Omega.{arith}
-use Rattle.spelling.proofs.Judging.{print-start, print-other, print-white, print-on, print-end}
+use Rattle.std.proofs.Common.{ℕ, List, ◌∙◌, rules, tests}
+use Rattle.std.proofs.lemmas.Iterator.{YieldsList-from_slice}
+use Rattle.std.proofs.lemmas.Iterator.Search.{all_from_yields_List}
+use Rattle.base.specs.Choice.{among}
+use Rattle.spelling.specs.Spelled.{cut}
+use Rattle.spelling.proofs.Judging.{every-all}
 use Rattle.spelling.proofs.printable.Goals as goal
 
-pub loop-i-init : goal.loop-i-init
-loop-i-init c = search (print-start, arith)
-
-pub returns-then-c-eq-OTHER : goal.returns-then-c-eq-OTHER
-returns-then-c-eq-OTHER c = search (print-other, arith)
-
-pub returns-then-c-eq-BLANK : goal.returns-then-c-eq-BLANK
-returns-then-c-eq-BLANK c = search (print-white, arith)
-
-pub loop-i-preserved : goal.loop-i-preserved
-loop-i-preserved c = search (print-on, arith)
-
 pub returns : goal.returns
-returns c = search (print-end, arith)
+returns c =
+    let part : List ℕ = cut c.args.src.now c.args.start c.args.end in
+    all_from_yields_List (among 32 126) _ _ c.all.result c.all.ensures.ran (YieldsList-from_slice part cc) (λ x b q k. search (rules, tests)) ∙ every-all (among 32 126) part

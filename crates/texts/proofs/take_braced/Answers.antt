@@ -3,11 +3,11 @@ use Rattle.texts.proofs.Braces.{brace-room, brace-none, brace-more, brace-lent, 
 use native.Mathlib.Omega.{arith}
 use Rattle.texts.proofs.take_braced.Goals as goal
 
-pub base-next-requires : goal.base-next-requires
-base-next-requires c = (search (brace-room, arith), search brace)
+pub base-requires : goal.base-requires
+base-requires c = (search (brace-room, arith), search brace)
 
-pub returns-then-next-eq0 : goal.returns-then-next-eq0
-returns-then-next-eq0 c = search (brace-none, arith)
+pub returns-in_default : goal.returns-in_default
+returns-in_default c = search (brace-none, arith)
 
 pub returns-then-next-text : goal.returns-then-next-text
 returns-then-next-text c = search (brace-more, arith)

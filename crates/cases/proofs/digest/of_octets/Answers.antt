@@ -2,11 +2,11 @@ use native.Mathlib.Omega.{arith}
 use Rattle.cases.proofs.Digests.{digest-start, digest-on, digest-end}
 use Rattle.cases.proofs.digest.of_octets.Goals as goal
 
-pub loop-i-init : goal.loop-i-init
-loop-i-init c = search (digest-start, arith)
+pub loop-octet-init : goal.loop-octet-init
+loop-octet-init c = search (digest-start, arith)
 
-pub loop-i-preserved : goal.loop-i-preserved
-loop-i-preserved c = search (digest-on, arith)
+pub loop-octet-preserved : goal.loop-octet-preserved
+loop-octet-preserved c = search (digest-on, arith)
 
 pub returns : goal.returns
 returns c = search (digest-end, arith)

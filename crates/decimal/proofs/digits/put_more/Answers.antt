@@ -2,8 +2,8 @@ use native.Mathlib.Omega.{arith}
 use Rattle.decimal.proofs.Writing.{some-width, more-first, more-inside, more-below, more-power, more-large, more-again, more-octet, more-digit, more-last}
 use Rattle.decimal.proofs.digits.put_more.Goals as goal
 
-pub overflow_sub-k : goal.overflow_sub-k
-overflow_sub-k c = search (some-width, arith)
+pub overflow_step-k : goal.overflow_step-k
+overflow_step-k c = search (some-width, arith)
 
 pub loop-k-init : goal.loop-k-init
 loop-k-init c = search (more-first, arith)

@@ -3,6 +3,3 @@ use Rattle.decimal.proofs.digits.put_more.Given as goal
 
 abbrev pub invariant-loop-k : goal.invariant-loop-k
 invariant-loop-k l = More l.n l.pos l.initial.out l.powers l.out l.k l.left l.i
-
-abbrev pub decreases-loop-k : goal.decreases-loop-k
-decreases-loop-k l = l.k

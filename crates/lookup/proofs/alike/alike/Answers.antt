@@ -10,16 +10,16 @@ pub returns-then-j-b : goal.returns-then-j-b
 returns-then-j-b c = search (match-short, arith)
 
 pub spans_match-requires : goal.spans_match-requires
-spans_match-requires c = (left-span _ _ _ _ _ c.loop-i.invariant c.loop-i-test.true c.if-j-b.false c.string_at-span.result c.string_at-other.result c.string_at-span.ensures c.string_at-other.ensures c.both_there.result c.both_there.ensures c.if-both_there.true, right-span _ _ _ _ _ c.loop-i.invariant c.loop-i-test.true c.if-j-b.false c.string_at-span.result c.string_at-other.result c.string_at-span.ensures c.string_at-other.ensures c.both_there.result c.both_there.ensures c.if-both_there.true)
+spans_match-requires c = (left-span _ _ _ _ _ c.loop-i.invariant c.loop-i-test.true c.if-j-b.false _ _ c.in-Some.ensures c.in-Some-string_at.ensures, right-span _ _ _ _ _ c.loop-i.invariant c.loop-i-test.true c.if-j-b.false _ _ c.in-Some.ensures c.in-Some-string_at.ensures)
 
 pub loop-i-smaller-then-spans_match : goal.loop-i-smaller-then-spans_match
-loop-i-smaller-then-spans_match c = search (spans-less, arith)
+loop-i-smaller-then-spans_match c = search (spans-less, c.in-Some.ensures, c.in-Some-string_at.ensures, arith)
 
 pub loop-i-preserved-then-spans_match : goal.loop-i-preserved-then-spans_match
-loop-i-preserved-then-spans_match c = search (spans_on, arith)
+loop-i-preserved-then-spans_match c = search (spans_on, c.in-Some.ensures, c.in-Some-string_at.ensures, arith)
 
-pub returns-then-both_there : goal.returns-then-both_there
-returns-then-both_there c = search (spans-differ, arith)
+pub returns-in-Some-string_at : goal.returns-in-Some-string_at
+returns-in-Some-string_at c = search (spans-differ, c.in-Some.ensures, c.in-Some-string_at.ensures, arith)
 
 pub token_at-left-requires : goal.token_at-left-requires
 token_at-left-requires c = search (left-reads, arith)

@@ -1,4 +1,3 @@
-use Rattle.sheets.proofs.Packing.{further}
 use Rattle.sheets.proofs.Beginnings.{far-start, far-end, far-colon, far-low, far-high, far-on}
 use native.Mathlib.Omega.{arith}
 use Rattle.sheets.proofs.begins.digits_on.Goals as goal
@@ -14,9 +13,6 @@ returns-then-b-lt48 c = search (far-low, arith)
 
 pub returns-then-b-gt57 : goal.returns-then-b-gt57
 returns-then-b-gt57 c = search (far-high, arith)
-
-pub loop-i-smaller : goal.loop-i-smaller
-loop-i-smaller c = search (further, arith)
 
 pub loop-i-preserved : goal.loop-i-preserved
 loop-i-preserved c = search (far-on, arith)

@@ -1,4 +1,3 @@
-use Rattle.sheets.proofs.Packing.{further}
 use Rattle.sheets.proofs.Packing.{zero-none, first-huge, first-digit, digits-end, digits-colon, digits_low, digits-high, digits-huge, digits_more}
 use native.Mathlib.Omega.{arith}
 use Rattle.sheets.proofs.places.longer.Goals as goal
@@ -23,9 +22,6 @@ returns-then-b-gt57 c = search (digits-high, arith)
 
 pub returns-then-n-src-2 : goal.returns-then-n-src-2
 returns-then-n-src-2 c = search (digits-huge, arith)
-
-pub loop-i-smaller : goal.loop-i-smaller
-loop-i-smaller c = search (further, arith)
 
 pub loop-i-preserved : goal.loop-i-preserved
 loop-i-preserved c = search (digits_more, arith)

@@ -1,5 +1,5 @@
 use Rattle.shifts.proofs.Inside.{known-readable}
-use Rattle.shifts.proofs.Adding.{sum-string, stop-fits, start_fits, adding-starts, line-in, sum-bad, count_fits, quarters-fit, place-fits, adding-goes, adding-ends, adding-less}
+use Rattle.shifts.proofs.Adding.{sum-string, stop-fits, adding-starts, line-in, sum-bad, count_fits, quarters-fit, adding-goes, adding-ends, adding-last}
 use native.Mathlib.Omega.{arith}
 use Rattle.shifts.proofs.lines.sum_at.Goals as goal
 
@@ -11,9 +11,6 @@ returns-then-row-ne2 c = search (sum-string, arith)
 
 pub overflow_add-stop : goal.overflow_add-stop
 overflow_add-stop c = search (stop-fits, arith)
-
-pub overflow_add-at : goal.overflow_add-at
-overflow_add-at c = search (start_fits, arith)
 
 pub loop-at-init : goal.loop-at-init
 loop-at-init c = search (adding-starts, arith)
@@ -27,17 +24,14 @@ overflow_add-lines c = search (count_fits, arith)
 pub overflow_add-quarters : goal.overflow_add-quarters
 overflow_add-quarters c = search (quarters-fit, arith)
 
-pub overflow_add-at-in-loop-at : goal.overflow_add-at-in-loop-at
-overflow_add-at-in-loop-at c = search (place-fits, arith)
-
-pub loop-at-smaller : goal.loop-at-smaller
-loop-at-smaller c = search (adding-less, arith)
-
 pub loop-at-preserved : goal.loop-at-preserved
 loop-at-preserved c = search (adding-goes, arith)
 
 pub returns-in_default : goal.returns-in_default
 returns-in_default c = search (sum-bad, arith)
 
-pub returns : goal.returns
-returns c = search (adding-ends, arith)
+pub returns-else-row-ne2 : goal.returns-else-row-ne2
+returns-else-row-ne2 c = search (adding-ends, arith)
+
+pub returns-in-Some : goal.returns-in-Some
+returns-in-Some c = adding-last _ _ _ _ _ _ _ _ c.loop-at.invariant c.loop-at-test.true _ c.count_at.ensures _ c.in-Some.is (omega arith)
