@@ -29,43 +29,43 @@
  * both ways and gives the same answers.
  *
  * Stack that a call takes at most, in octets (x86-64), besides what the C
- * library's memset and memcpy take. Measured with the kit before rattle-kit-13f.
- *   etg_read                 120,296
- *   etg_read_records         134,728
- *   etg_write                 35,096
- *   etg_replace              120,648
- *   etg_replace_records      134,568
- *   etg_insert               120,648
- *   etg_insert_records       134,568
- *   etg_remove               120,664
- *   etg_remove_records       134,584
- *   etg_same                   2,408
- *   etg_hint                  65,808
- *   etg_hint_records          79,904
- *   etg_data                  65,808
- *   etg_data_records          79,904
- *   etg_spool_open             2,392
- *   etg_spool_add_start        2,440
- *   etg_spool_add_step            32
+ * library's memset and memcpy take. Measured with rattle-kit-13f.
+ *   etg_read                 119,656
+ *   etg_read_records         121,848
+ *   etg_write                 33,176
+ *   etg_replace              120,824
+ *   etg_replace_records      122,424
+ *   etg_insert               120,808
+ *   etg_insert_records       122,424
+ *   etg_remove               120,808
+ *   etg_remove_records       122,424
+ *   etg_same                   2,376
+ *   etg_hint                  65,856
+ *   etg_hint_records          67,552
+ *   etg_data                  65,856
+ *   etg_data_records          67,552
+ *   etg_spool_open             2,376
+ *   etg_spool_add_start        2,456
+ *   etg_spool_add_step            48
  *   etg_spool_add_commits          8
- *   etg_spool_add              2,440
- *   etg_value                 65,888
- *   etg_value_records         79,888
- *   etg_put_value                 24
- *   etg_line                  66,080
- *   etg_line_records          80,032
- *   etg_total                     72
- *   etg_week                  65,976
- *   etg_week_records          79,960
- *   etg_extract              137,576
- *   etg_extract_own          137,432
- *   etg_extract_records      151,432
- *   etg_extract_own_records  151,448
- *   etg_split                    184
+ *   etg_spool_add              2,472
+ *   etg_value                 65,968
+ *   etg_value_records         67,536
+ *   etg_put_value                 48
+ *   etg_line                  65,936
+ *   etg_line_records          67,584
+ *   etg_total                     56
+ *   etg_week                  65,920
+ *   etg_week_records          67,632
+ *   etg_extract              137,000
+ *   etg_extract_own          136,968
+ *   etg_extract_records      138,616
+ *   etg_extract_own_records  138,664
+ *   etg_split                    120
  *   etg_pieces_start               8
- *   etg_pieces_feed              328
- *   etg_pieces_end            67,864
- *   etg_pieces_end_records    67,800
+ *   etg_pieces_feed              424
+ *   etg_pieces_end            68,008
+ *   etg_pieces_end_records    67,832
  *
  * Refusals. Every function but those that find a hint or data, that split a
  * run of sheets, or that go on with an addition to a spool, returns one of
