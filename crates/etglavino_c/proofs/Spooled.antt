@@ -5,7 +5,7 @@ use mathlib.Core.Bool.{Bool, true, false}
 use mathlib.Core.List.{List, [], ◌∷◌}
 use lib.Dec.{eqb}
 use Rattle.model.specs.Answers.{part, octets_at}
-use Rattle.spools.specs.Adding.{Adding as State, Start, nowhere, Added as Whole, unadded_at, stepping, committing, adding}
+use Rattle.spools.specs.Adding.{Adding as State, Start, Added as Whole, unadded_at, stepping, committing, adding}
 use Rattle.spools.specs.Spool.{Opening as Shown, unopened_at, opening}
 use Rattle.spools.proofs.Numbered.{opening-numbered, opening-unplaced, adding-numbered, adding-unplaced}
 use Rattle.answers.specs.Refusals.{number_of, place_in}
@@ -14,6 +14,7 @@ use Rattle.std.specs.Prelude.{Ok, Err, ⊤}
 use Rattle.spool.specs.Cases.{Opening, Starting, Added, opened, state_of, start_of, step_of, added_of}
 use Rattle.spool.specs.declared.Contents.{Contents}
 use Rattle.spool.specs.declared.Adding.{Adding}
+use Rattle.spool.specs.declared.Unstarted.{Unstarted}
 use Rattle.etglavino_c.specs.Pointers.{flag}
 use Rattle.etglavino_c.specs.Spooling.{opening_of, state_in, state_numbers, begun, begun_of, stepped, stepped_of, adding_of}
 
@@ -47,9 +48,9 @@ module _ (r : Starting) (o : Start) (e : start_of r ≡ o) where
   unfolding start_of begun_of
   start-accepted s x q h = ap (begun 0) h ∙ sym (ap (λ (r : Starting). begun_of (start_of r)) q) ∙ ap begun_of e
 
-  pub start-refused : (f : Refusal) → r ≡ Err f → (s : Adding) → state_of s ≡ nowhere → (x : List ℕ) → x ≡ state_numbers (state_of s) → begun (number_of f) x ≡ begun_of o
+  pub start-refused : (u : Unstarted) (x : List ℕ) → r ≡ Err u → x ≡ state_numbers (state_of u.state) → begun (number_of u.refusal) x ≡ begun_of o
   unfolding start_of begun_of
-  start-refused f q s n x h = ap (begun (number_of f)) (h ∙ ap state_numbers n) ∙ sym (ap (λ (r : Starting). begun_of (start_of r)) q) ∙ ap begun_of e
+  start-refused u x q h = ap (begun (number_of u.refusal)) h ∙ sym (ap (λ (r : Starting). begun_of (start_of r)) q) ∙ ap begun_of e
 
 module _ (state area sheet : List ℕ) (a : Adding) (i : state_of a ≡ state_in state) where
   pub step-handed : (b : Adding) (after x : List ℕ) (n : ℕ) → step_of b after ≡ stepping (state_of a) area sheet → x ≡ state_numbers (state_of b) → n ≡ flag b.done

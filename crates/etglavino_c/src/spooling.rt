@@ -82,9 +82,9 @@ pub extern "C" fn etg_spool_add_start(
             hand_state(fresh, state);
             0
         }
-        Err(refusal) => {
-            hand_state(Adding::nowhere(), state);
-            refusal.number()
+        Err(unstarted) => {
+            hand_state(unstarted.state, state);
+            unstarted.refusal.number()
         }
     }
 }

@@ -7,7 +7,7 @@ use mathlib.Core.List.{List, ◌++◌}
 use lib.ListN.{length, length-append, take}
 use lib.Seq.{length-take-le}
 use Rattle.base.proofs.Cases.{differ}
-use Rattle.spools.specs.Adding.{Start, nowhere, started, starting, stored, stores, adding}
+use Rattle.spools.specs.Adding.{Start, started, starting, stored, stores, adding}
 use Rattle.spools.specs.Groups.{groups}
 use Rattle.spools.specs.Rules.{Addable}
 use Rattle.spools.specs.Spool.{entry}
@@ -16,6 +16,7 @@ use Rattle.spools.proofs.Opened.{spool-sound}
 use Rattle.spool.specs.Cases.{state_of, Starting, start_of, added_of}
 use Rattle.spool.specs.Whole.{Room}
 use Rattle.spool.specs.declared.Adding.{Adding}
+use Rattle.spool.specs.declared.Unstarted.{Unstarted}
 use Rattle.std.specs.Prelude.{⊤, Ok, Err}
 use Rattle.answers.specs.Refusals.{number_of, place_in}
 use Rattle.answers.specs.declared.refusal.Refusal.{Refusal}
@@ -54,11 +55,14 @@ module _ (area sheet : List ℕ) (len : ℕ) (r : Starting) (w : start_of r ≡ 
         ap (λ (z : List ℕ). record { accepted = true; number = 0; place = 0; area = z }) (h ∙ ap (λ (n : ℕ). stored area (stores (length area) n (entry (take len sheet)))) at-is)
         ∙ sym (adding-of area sheet len addable)
 
-  pub add-refused : (f : Refusal) → r ≡ Err f → added_of (Err f) area ≡ adding area sheet len
+  pub add-refused : (u : Unstarted) → r ≡ Err u → added_of (Err u.refusal) area ≡ adding area sheet len
   unfolding start_of added_of
-  add-refused f e = of (number_of f) refl
+  add-refused u e = of (number_of f) refl
     where
-      v : starting area sheet len ≡ record { accepted = false; number = number_of f; place = place_in f; state = nowhere }
+      f : Refusal
+      f = u.refusal
+
+      v : starting area sheet len ≡ record { accepted = false; number = number_of f; place = place_in f; state = state_of u.state }
       v = sym w ∙ ap start_of e
 
       of : (n : ℕ) → number_of f ≡ n → record { accepted = false; number = number_of f; place = place_in f; area = area } ≡ adding area sheet len

@@ -12,20 +12,27 @@ use Rattle.model.specs.Answers.{sheet_tree, Part, part, octets_at}
 use Rattle.model.specs.Limits.{max_canonical}
 use Rattle.model.specs.Tree.{Tree}
 use Rattle.spools.specs.Rules.{Addable, NoRoom}
-use Rattle.spools.specs.Adding.{fresh, started, starting}
+use Rattle.spools.specs.Adding.{Adding, fresh, nowhere, started, starting}
 use Rattle.spools.specs.Spool.{entry, shows, Opening as Shown, opening}
 use Rattle.spools.proofs.Damaged.{spool-damage}
 use Rattle.spools.proofs.Judged.{none_of, some_of, sheet-of-lent, sheet-of-small, damaged-10, bad-7, room-6, start-of, start-refused, opening_of, opening-none}
 use Rattle.spools.proofs.Placed.{part-octets}
 use Rattle.answers.specs.Shown.{shown_at}
 use Rattle.spool.proofs.Storing.{entry-long}
-use Rattle.spool.specs.Cases.{opened, start_of}
+use Rattle.spool.specs.Cases.{opened, start_of, Unbegun}
 use Rattle.groups.specs.Octets.{Long}
 use Rattle.spool.specs.Opens.{Found, Unfound, Surveys}
 use Rattle.std.specs.Prelude.{Result, Ok, Err}
+use Rattle.answers.specs.Refusals.{number_of, place_in}
 use Rattle.answers.specs.declared.refusal.Refusal.{Refusal}
 use Rattle.answers.specs.declared.refusal.Refusal.TheVariants.{Size, NotOwn}
 use Rattle.spool.specs.declared.Survey.{Survey}
+use Rattle.spool.specs.declared.Unstarted.{Unstarted}
+
+-- ---- what a refused start means
+refused_by : (f : Refusal) (u : Unstarted) → Unbegun f u → start_of (Err u) ≡ record { accepted = false; number = number_of f; place = place_in f; state = nowhere }
+unfolding start_of
+refused_by f u v = ap₂ (λ (g : Refusal) (s : Adding). record { accepted = false; number = number_of g; place = place_in g; state = s }) v.row v.state
 
 -- ---- the sheet that is to be added
 module _ (sheet : List ℕ) (len : ℕ) (b : Bool) (t : b ≡ not (is_none (sheet_tree sheet len))) where
@@ -98,15 +105,15 @@ module _ (area : List ℕ) (k : ℕ) (r : Result Survey Refusal) (w : Surveys ar
 
     -- ---- a start
     module _ (sheet : List ℕ) (len : ℕ) (b : Bool) (t : b ≡ not (is_none (sheet_tree sheet len))) where
-      pub start-bad : b ≡ false → start_of (Err NotOwn) ≡ starting area sheet len
-      unfolding start_of
-      start-bad g =
-          sym (start-refused area sheet len 7 ((bad-7 area sheet len).1 (record { old = found.old; opened = found.opened; bad = bad sheet len b t g })) (omega arith))
+      pub start-bad : (u : Unstarted) → Unbegun NotOwn u → b ≡ false → start_of (Err u) ≡ starting area sheet len
+      start-bad u v g =
+          refused_by NotOwn u v
+          ∙ sym (start-refused area sheet len 7 ((bad-7 area sheet len).1 (record { old = found.old; opened = found.opened; bad = bad sheet len b t g })) (omega arith))
 
-      pub start-no-room : (n : ℕ) → b ≡ true → Long len n → length area - rest < n → start_of (Err Size) ≡ starting area sheet len
-      unfolding start_of
-      start-no-room n g l h =
-          good sheet len b t g
+      pub start-no-room : (x : Unstarted) → Unbegun Size x → (n : ℕ) → b ≡ true → Long len n → length area - rest < n → start_of (Err x) ≡ starting area sheet len
+      start-no-room x y n g l h =
+          refused_by Size x y
+          ∙ good sheet len b t g
           (λ u f.
           let z : length (entry (take len sheet)) ≡ n = entry-long sheet len n l (sheet-of-lent sheet len u f) in
           let v : NoRoom area sheet len = record { old = found.old; opened = found.opened; tree = u; good = f; longer = omega (arith, rest-is) } in
@@ -122,11 +129,11 @@ module _ (area : List ℕ) (k : ℕ) (r : Result Survey Refusal) (w : Surveys ar
           let q : length area - length found.old.rest ≡ rest = omega (arith, rest-is, found.within) in
           sym (start-of area sheet len v ∙ ap (λ (m : ℕ). started (fresh m len)) q))
 
-  pub start-damaged : (sheet : List ℕ) (len : ℕ) (f : Refusal) → r ≡ Err f → start_of (Err f) ≡ starting area sheet len
-  unfolding start_of
-  start-damaged sheet len f e =
+  pub start-damaged : (sheet : List ℕ) (len : ℕ) (f : Refusal) → r ≡ Err f → (u : Unstarted) → Unbegun f u → start_of (Err u) ≡ starting area sheet len
+  start-damaged sheet len f e u v =
       let d = damaged f e in
-      rw d.row (sym (start-refused area sheet len 10 ((damaged-10 area sheet len).1 (spool-damage area d.none_opened)) (omega arith)))
+      refused_by f u v
+      ∙ rw d.row (sym (start-refused area sheet len 10 ((damaged-10 area sheet len).1 (spool-damage area d.none_opened)) (omega arith)))
 
   pub open-damaged : (f : Refusal) → r ≡ Err f → opened (Err f) area ≡ opening area k
   unfolding opened

@@ -1,7 +1,7 @@
 -- An answer's meaning settles the answer: two answers that mean the same are the same, so that an acceptance and a refusal never are.
 use Prim.Native.Nat.{ℕ}
 use native.Mathlib.Omega.{arith}
-use mathlib.Core.Path.{◌≡◌, sym, ap}
+use mathlib.Core.Path.{◌≡◌, sym, ap, ap₂}
 use mathlib.Core.Bool.{true, false}
 use mathlib.Core.List.{List}
 use Rattle.spools.specs.Adding.{Start, Added as Whole}
@@ -30,7 +30,10 @@ unfolding start_of
 start-injective (Ok a) (Ok b) e = ap (λ (a : Adding). Ok a) (state-injective a b (ap (λ (o : Start). o.state) e))
 start-injective (Ok a) (Err g) e = apart (ap (λ (o : Start). o.accepted) e)
 start-injective (Err f) (Ok b) e = apart (sym (ap (λ (o : Start). o.accepted) e))
-start-injective (Err f) (Err g) e = ap (λ (f : Refusal). Err f) (refusal-injective f g (ap (λ (o : Start). o.number) e) (ap (λ (o : Start). o.place) e))
+start-injective (Err a) (Err b) e =
+    ap₂ (λ (f : Refusal) (s : Adding). Err (record { refusal = f; state = s }))
+    (refusal-injective a.refusal b.refusal (ap (λ (o : Start). o.number) e) (ap (λ (o : Start). o.place) e))
+    (state-injective a.state b.state (ap (λ (o : Start). o.state) e))
 
 pub added-injective : (x y : List ℕ) (r s : Added) → added_of r x ≡ added_of s y → r ≡ s
 unfolding added_of

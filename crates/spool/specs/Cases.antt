@@ -8,12 +8,13 @@ use Rattle.answers.specs.Refusals.{number_of, place_in}
 use Rattle.answers.specs.declared.refusal.Refusal.{Refusal}
 use Rattle.spool.specs.declared.Contents.{Contents}
 use Rattle.spool.specs.declared.Adding.{Adding}
+use Rattle.spool.specs.declared.Unstarted.{Unstarted}
 
 abbrev pub Opening : Type 0
 Opening = Result Contents Refusal
 
 abbrev pub Starting : Type 0
-Starting = Result Adding Refusal
+Starting = Result Adding Unstarted
 
 abbrev pub Added : Type 0
 Added = Result ⊤ Refusal
@@ -27,10 +28,10 @@ opened (Err f) area = unopened_at (number_of f) (place_in f)
 abbrev pub state_of : Adding → spools.Adding
 state_of a = record { at = a.at; octets = a.octets; made = a.made; done = a.done }
 
--- the answer of a start; a refused one hands out a state that is done
+-- the answer of a start
 unfoldable pub start_of : Starting → spools.Start
 start_of (Ok s) = spools.started (state_of s)
-start_of (Err f) = record { accepted = false; number = number_of f; place = place_in f; state = spools.nowhere }
+start_of (Err u) = record { accepted = false; number = number_of u.refusal; place = place_in u.refusal; state = state_of u.state }
 
 -- the state that a step hands back, and the area
 abbrev pub step_of : Adding → List ℕ → spools.Step
@@ -44,3 +45,8 @@ added_of (Err f) area = spools.unadded_at (number_of f) (place_in f) area
 -- a state that goes no further
 pub record Halts (a r : Adding) : Type 0 where
   pub state : state_of r ≡ spools.halted (state_of a)
+
+-- a start refused with f: the state that it hands out stores nothing (S 9.4)
+pub record Unbegun (f : Refusal) (u : Unstarted) : Type 0 where
+  pub row : u.refusal ≡ f
+  pub state : state_of u.state ≡ spools.nowhere

@@ -6,7 +6,7 @@ use Rattle.spool.proofs.start.Goals as goal
 pub returns-in_err-found : goal.returns-in_err-found
 returns-in_err-found c =
     let p = err_from_is_err_and c.from_residual.result c.from_residual.ensures.1 in
-    rw (p.1, p.2) (start-damaged _ _ _ c.go_through.ensures _ _ _ c.in_err-found.was)
+    rw p.1 (start-damaged _ _ _ c.go_through.ensures _ _ _ c.in_err-found.was _ p.2)
 
 pub returns-then-not-sheet : goal.returns-then-not-sheet
 returns-then-not-sheet c = search (start-bad, c.in_ok-found.was, arith)
