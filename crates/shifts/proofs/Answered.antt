@@ -98,7 +98,7 @@ module _ (c notes : List ℕ) (count node : ℕ) (own : Bool) where
       unfolding node_value the
       value-is len table t e g = ap (λ (x : Option Tree). value_in (typed_row c (row_of (the x) node))) e ∙ ap value_in (sym (v.is t g))
 
-      value-given : (x : Value) → r ≡ Some x → Values c notes count node own (Ok x)
+      pub value-given : (x : Value) → r ≡ Some x → Values c notes count node own (Ok x)
       unfolding valuing
       value-given x q =
           record {
@@ -106,7 +106,7 @@ module _ (c notes : List ℕ) (count node : ℕ) (own : Bool) where
                 the-tree y len table o (λ t e g. sym (a-node c len table count node _ _ _ t e h ∙ value-some (node_value c len table count node) x (value-is len table t e g ∙ ap value_in q)));
           }
 
-      value-refused : r ≡ None → Values c notes count node own (Err NotTyped)
+      pub value-refused : r ≡ None → Values c notes count node own (Err NotTyped)
       unfolding valuing valued
       value-refused q =
           record {

@@ -28,7 +28,7 @@ fn typed_row(canonical: &[u8], row: Row) -> Option<Value>
         return None;
     }
     let kind = row_kind(canonical, row);
-    values::value_of(
+    values::value_by(
         kind,
         canonical,
         row.data_start as usize,

@@ -61,8 +61,21 @@ pub fn kind_of(src: &[u8], start: usize, end: usize) -> Kind
     Kind::Raw
 }
 
+// The value of the octets from `start` up to `end`, of the kind with this number: 1 `f32`, 2 `f64`, 3 `int`; with any other it is raw.
+pub fn value_of(kind: u8, src: &[u8], start: usize, end: usize) -> Option<Value>
+    requires { (start ≤ end) × (end ≤ length src.now) }
+    ensures { result ≡ value_at kind src.now start end }
+{
+    match kind {
+        1 => value_by(Kind::Single, src, start, end),
+        2 => value_by(Kind::Double, src, start, end),
+        3 => value_by(Kind::Whole, src, start, end),
+        _ => value_by(Kind::Raw, src, start, end),
+    }
+}
+
 // The value of the octets from `start` up to `end`, of the kind `kind`.
-pub fn value_of(kind: Kind, src: &[u8], start: usize, end: usize) -> Option<Value>
+pub fn value_by(kind: Kind, src: &[u8], start: usize, end: usize) -> Option<Value>
     requires { (start ≤ end) × (end ≤ length src.now) }
     ensures { result ≡ value_at (coded kind) src.now start end }
 {

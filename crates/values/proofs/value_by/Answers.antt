@@ -1,5 +1,5 @@
 use Rattle.values.proofs.ByKind.{kind-raw, kind-single, kind-double, kind-whole}
-use Rattle.values.proofs.value_of.Goals as goal
+use Rattle.values.proofs.value_by.Goals as goal
 
 pub returns-in-Single : goal.returns-in-Single
 returns-in-Single c = search kind-single
