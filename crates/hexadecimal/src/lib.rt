@@ -5,7 +5,7 @@ ghost use Rattle.std.specs.Prelude.{◌≤◌, ◌<◌, length};
 ghost use Rattle.model.specs.Octets.{hexval};
 ghost use Rattle.hexadecimal.specs.Pairs.{Pairs, Digit};
 
-use octets::hex_of;
+use octets::class_of;
 use scan::skip_at;
 
 // An octet, or the closing mark.
@@ -16,6 +16,7 @@ pub enum Pair {
 }
 
 // The next octet, with whitespace on the way, or the end.
+#[inline(always)]
 pub fn pair_at(src: &[u8], at: usize) -> Option<Pair>
     requires { at ≤ length src.now }
     ensures { Pairs src.now at result }
@@ -25,11 +26,16 @@ pub fn pair_at(src: &[u8], at: usize) -> Option<Pair>
     if a == b'#' {
         return Some(Pair::Hash { next: i + 1 });
     }
-    let h = hex_of(a)?;
+    if class_of(a) < octets::HEX {
+        return None;
+    }
     let j = skip_at(src, i + 1);
-    let l = hex_of(*src.get(j)?)?;
+    let b = *src.get(j)?;
+    if class_of(b) < octets::HEX {
+        return None;
+    }
     Some(Pair::Two {
-        octet: h * 16 + l,
+        octet: value(a) * 16 + value(b),
         next: j + 1,
     })
 }

@@ -8,8 +8,7 @@ ghost use Rattle.radix64.specs.declared.steps.Group.TheVariants.{Rest};
 ghost use Rattle.radix64.specs.Steps.{Closing, Letters, Groups, allowed};
 
 use super::bits;
-use octets::letter_of;
-use scan::skip_at;
+use octets::{class_of, letter_of};
 
 // A letter, a pad or the closing mark.
 #[derive(Clone, Copy, Debug, PartialEq, Eq)]
@@ -38,29 +37,40 @@ pub enum Group {
     },
 }
 
-// The next letter, pad or mark.
+// The next letter, pad or mark, with whitespace on the way.
+#[inline(always)]
 pub fn letter_at(src: &[u8], at: usize, mark: u8) -> Option<Letter>
     requires { (at ≤ length src.now) × Closing mark }
     ensures { Letters mark src.now at result }
 {
-    let i = skip_at(src, at);
-    let x = *src.get(i)?;
-    if x == mark {
-        return Some(Letter::End { next: i + 1 });
-    }
-    if x == b'=' {
-        return Some(Letter::Pad { next: i + 1 });
-    }
-    if letter_of(x) >= 64 {
+    for i in at..src.len() {
+        let x = src[i];
+        if letter_of(x) < 64 {
+            return Some(Letter::Char {
+                octet: x,
+                next: i + 1,
+            });
+        }
+        let c = class_of(x);
+        if c == octets::SPACE {
+            continue;
+        }
+        if c == octets::BLANK {
+            continue;
+        }
+        if x == mark {
+            return Some(Letter::End { next: i + 1 });
+        }
+        if x == b'=' {
+            return Some(Letter::Pad { next: i + 1 });
+        }
         return None;
     }
-    Some(Letter::Char {
-        octet: x,
-        next: i + 1,
-    })
+    None
 }
 
 // Two letters at the end.
+#[inline(always)]
 fn last_two(a: u8, b: u8, next: usize) -> Option<Group>
     ensures { result ≡ allowed (leftover (b % 16)) (Rest 1 a b 0 next) }
 {
@@ -77,6 +87,7 @@ fn last_two(a: u8, b: u8, next: usize) -> Option<Group>
 }
 
 // Three letters at the end.
+#[inline(always)]
 fn last_three(a: u8, b: u8, c: u8, next: usize) -> Option<Group>
     ensures { result ≡ allowed (leftover (c % 4)) (Rest 2 a b c next) }
 {
@@ -93,6 +104,7 @@ fn last_three(a: u8, b: u8, c: u8, next: usize) -> Option<Group>
 }
 
 // After three letters.
+#[inline(always)]
 fn group_4(src: &[u8], at: usize, mark: u8, x: u8, y: u8, z: u8) -> Option<Group>
     requires { (at ≤ length src.now) × Closing mark × (letter x < 64) × (letter y < 64) × (letter z < 64) }
     ensures { Groups mark src.now (between mark (unbase rules) (x ∷ y ∷ z ∷ []) (drop at src.now)) 3 at result }
@@ -118,6 +130,7 @@ fn group_4(src: &[u8], at: usize, mark: u8, x: u8, y: u8, z: u8) -> Option<Group
 }
 
 // After two letters and a pad.
+#[inline(always)]
 fn padded(src: &[u8], at: usize, mark: u8, x: u8, y: u8) -> Option<Group>
     requires { (at ≤ length src.now) × Closing mark × (letter x < 64) × (letter y < 64) }
     ensures { Groups mark src.now (between mark (unbase rules) (x ∷ y ∷ 61 ∷ []) (drop at src.now)) 3 at result }
@@ -136,6 +149,7 @@ fn padded(src: &[u8], at: usize, mark: u8, x: u8, y: u8) -> Option<Group>
 }
 
 // After two letters.
+#[inline(always)]
 fn group_3(src: &[u8], at: usize, mark: u8, x: u8, y: u8) -> Option<Group>
     requires { (at ≤ length src.now) × Closing mark × (letter x < 64) × (letter y < 64) }
     ensures { Groups mark src.now (between mark (unbase rules) (x ∷ y ∷ []) (drop at src.now)) 2 at result }
@@ -148,6 +162,7 @@ fn group_3(src: &[u8], at: usize, mark: u8, x: u8, y: u8) -> Option<Group>
 }
 
 // A group, or what comes last.
+#[inline(always)]
 pub fn group_at(src: &[u8], at: usize, mark: u8) -> Option<Group>
     requires { (at ≤ length src.now) × Closing mark }
     ensures { Groups mark src.now (between mark (unbase rules) [] (drop at src.now)) 0 at result }
