@@ -52,11 +52,11 @@
  *   etg_value                 65,968
  *   etg_value_records         67,536
  *   etg_put_value                 48
- *   etg_line                  65,936
- *   etg_line_records          67,584
- *   etg_total                     56
- *   etg_week                  65,920
- *   etg_week_records          67,632
+ *   etg_line                  65,952
+ *   etg_line_records          67,616
+ *   etg_total                     32
+ *   etg_week                  65,936
+ *   etg_week_records          67,568
  *   etg_extract              137,000
  *   etg_extract_own          136,968
  *   etg_extract_records      138,616

@@ -16,7 +16,6 @@ pub enum Pair {
 }
 
 // The next octet, with whitespace on the way, or the end.
-#[inline(always)]
 pub fn pair_at(src: &[u8], at: usize) -> Option<Pair>
     requires { at ≤ length src.now }
     ensures { Pairs src.now at result }

@@ -48,7 +48,8 @@ fn count(x: f64) -> Option<u32>
     count_bits(f64::to_bits(x))
 }
 
-// The quarters of a line.
+// The quarters of a line. Inlined: with a call `etg_total` takes 56 octets of stack, and 32 so.
+#[inline(always)]
 pub fn quarters_of(line: Line) -> Option<u32>
     ensures { result ≡ quarters_of line }
 {

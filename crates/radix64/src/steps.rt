@@ -8,7 +8,8 @@ ghost use Rattle.radix64.specs.declared.steps.Group.TheVariants.{Rest};
 ghost use Rattle.radix64.specs.Steps.{Closing, Letters, Groups, allowed};
 
 use super::bits;
-use octets::{class_of, letter_of};
+use octets::letter_of;
+use scan::skip_at;
 
 // A letter, a pad or the closing mark.
 #[derive(Clone, Copy, Debug, PartialEq, Eq)]
@@ -37,36 +38,36 @@ pub enum Group {
     },
 }
 
-// The next letter, pad or mark, with whitespace on the way.
+// The next letter, pad or mark. Nearly always it is a letter, with no whitespace before it.
 #[inline(always)]
 pub fn letter_at(src: &[u8], at: usize, mark: u8) -> Option<Letter>
     requires { (at ≤ length src.now) × Closing mark }
     ensures { Letters mark src.now at result }
 {
-    for i in at..src.len() {
-        let x = src[i];
-        if letter_of(x) < 64 {
+    if at < src.len() {
+        let here = src[at];
+        if letter_of(here) < 64 {
             return Some(Letter::Char {
-                octet: x,
-                next: i + 1,
+                octet: here,
+                next: at + 1,
             });
         }
-        let c = class_of(x);
-        if c == octets::SPACE {
-            continue;
-        }
-        if c == octets::BLANK {
-            continue;
-        }
-        if x == mark {
-            return Some(Letter::End { next: i + 1 });
-        }
-        if x == b'=' {
-            return Some(Letter::Pad { next: i + 1 });
-        }
+    }
+    let i = skip_at(src, at);
+    let x = *src.get(i)?;
+    if x == mark {
+        return Some(Letter::End { next: i + 1 });
+    }
+    if x == b'=' {
+        return Some(Letter::Pad { next: i + 1 });
+    }
+    if letter_of(x) >= 64 {
         return None;
     }
-    None
+    Some(Letter::Char {
+        octet: x,
+        next: i + 1,
+    })
 }
 
 // Two letters at the end.
