@@ -5,7 +5,7 @@ ghost use Rattle.std.specs.Prelude.{◌≤◌, ◌<◌, length};
 ghost use Rattle.model.specs.Octets.{hexval};
 ghost use Rattle.hexadecimal.specs.Pairs.{Pairs, Digit};
 
-use octets::class_of;
+use octets::hex_of;
 use scan::skip_at;
 
 // An octet, or the closing mark.
@@ -25,16 +25,11 @@ pub fn pair_at(src: &[u8], at: usize) -> Option<Pair>
     if a == b'#' {
         return Some(Pair::Hash { next: i + 1 });
     }
-    if class_of(a) < octets::HEX {
-        return None;
-    }
+    let h = hex_of(a)?;
     let j = skip_at(src, i + 1);
-    let b = *src.get(j)?;
-    if class_of(b) < octets::HEX {
-        return None;
-    }
+    let l = hex_of(*src.get(j)?)?;
     Some(Pair::Two {
-        octet: value(a) * 16 + value(b),
+        octet: h * 16 + l,
         next: j + 1,
     })
 }
